@@ -1,0 +1,156 @@
+-- The laws of the header.
+use mathlib.Core.Path.{_≡_, refl, sym, subst}
+use mathlib.Core.List.{List, [], _∷_, _++_}
+use mathlib.Core.Bool.{Bool, true, false, _&&_}
+use Prim.Native.Nat.{ℕ, _+_, _-_, _≤_, _<_, _^_}
+use native.Mathlib.Omega.{arith}
+use lib.ListN.{length, take}
+use lib.Dec.{leb, ltb, eqb}
+use lib.IntN.{ℤ, pos, negsuc}
+use borrow.Author.Tests.{lt-ltb, le-ltb, eq-eqb}
+use Rattle.octets.specs.Numbers.{Bytes, number, numberAt, u16At, u32At, u64At, little}
+use Rattle.octets.proofs.NumberLaws.{bytes-append, bytes-nil, bytes-cons, bytes-little, number-little, number-below}
+use Rattle.format.specs.declared.Header.{Header}
+use Rattle.format.specs.declared.Fault.the-variants.{Cut as CUT}
+use Rattle.format.specs.Tests.{got, refused, choose, _else_, tests, Test, Outcome}
+use Rattle.format.specs.Header.{classIdentifier, magic, flagsOk, attributesOk, hotkeyOk, headerRules, signed, headerFields, header}
+use Rattle.format.specs.Ranges.{FitsSigned, FitsHeader}
+use Rattle.format.specs.Writing.{bits, headerBytes, writableHeader}
+use Rattle.format.proofs.Bools.{by-order, every-out, every-in}
+use Rattle.format.proofs.Chains.{Ok, Fits, Law, law-same}
+use Rattle.format.proofs.Sized.{SizedBack, Sized, sizedR, sized-law}
+
+-- ---- signed numbers
+
+pub signed-bits : (i : ℤ) → FitsSigned i → signed (bits i) ≡ i
+unfolding signed bits
+signed-bits (pos n) h = rw (lt-ltb n 2147483648 h)
+signed-bits (negsuc n) h =
+    let k : 4294967295 - (4294967295 - n) ≡ n = omega arith in
+    rw (le-ltb (4294967295 - n) 2147483648 (omega arith), k)
+
+pub bits-fit : (i : ℤ) → FitsSigned i → bits i < 2 ^ 32
+unfolding bits
+bits-fit (pos n) h = omega arith
+bits-fit (negsuc n) h = omega arith
+
+pub signed-fits : (x : ℕ) → x < 2 ^ 32 → FitsSigned (signed x)
+unfolding signed
+signed-fits x h =
+    by-order 2147483648 x
+    (λ k. rw (le-ltb x 2147483648 k) (omega arith))
+    (λ k. rw (lt-ltb x 2147483648 k) k)
+
+-- ---- the fields of the canonical header
+
+abbrev pub HeaderV : Header → Type 0
+HeaderV = Ok FitsHeader writableHeader
+
+pub length-header : (h : Header) → length (headerBytes h) ≡ 76
+unfolding headerBytes little
+length-header h = refl
+
+module _ (h : Header) (v : FitsHeader h) where
+  at20 : u32At (headerBytes h) 20 ≡ h .flags
+  unfolding headerBytes numberAt number little
+  at20 = number-little 4 (h .flags) (v .flags)
+
+  at24 : u32At (headerBytes h) 24 ≡ h .attributes
+  unfolding headerBytes numberAt number little
+  at24 = number-little 4 (h .attributes) (v .attributes)
+
+  at28 : u64At (headerBytes h) 28 ≡ h .creation
+  unfolding headerBytes numberAt number little
+  at28 = number-little 8 (h .creation) (v .creation)
+
+  at36 : u64At (headerBytes h) 36 ≡ h .access
+  unfolding headerBytes numberAt number little
+  at36 = number-little 8 (h .access) (v .access)
+
+  at44 : u64At (headerBytes h) 44 ≡ h .write
+  unfolding headerBytes numberAt number little
+  at44 = number-little 8 (h .write) (v .write)
+
+  at52 : u32At (headerBytes h) 52 ≡ h .size
+  unfolding headerBytes numberAt number little
+  at52 = number-little 4 (h .size) (v .size)
+
+  at56 : u32At (headerBytes h) 56 ≡ bits (h .icon)
+  unfolding headerBytes numberAt number little
+  at56 = number-little 4 (bits (h .icon)) (bits-fit (h .icon) (v .icon))
+
+  at60 : u32At (headerBytes h) 60 ≡ h .command
+  unfolding headerBytes numberAt number little
+  at60 = number-little 4 (h .command) (v .command)
+
+  at64 : u16At (headerBytes h) 64 ≡ h .hotkey
+  unfolding headerBytes numberAt number little
+  at64 = number-little 2 (h .hotkey) (v .hotkey)
+
+  magic-is : magic (headerBytes h) ≡ true
+  unfolding headerBytes numberAt number little magic
+  magic-is = refl
+
+  ten-zeros : eqb (numberAt 10 (headerBytes h) 66) 0 ≡ true
+  unfolding headerBytes numberAt number little
+  ten-zeros = refl
+
+identifier-bytes : Bytes classIdentifier
+unfolding little number
+identifier-bytes =
+    let e : little 16 (number classIdentifier) ≡ classIdentifier = refl in
+    subst Bytes e (bytes-little 16 (number classIdentifier))
+
+header-bytes : (h : Header) → Bytes (headerBytes h)
+unfolding headerBytes
+header-bytes h = search (bytes-append, bytes-little, bytes-nil, identifier-bytes) depth 20 fits 2000
+
+-- ---- the law
+
+header-back : (h : Header) → HeaderV h → SizedBack (λ s. 76) (λ n. []) headerRules headerFields (headerBytes h) h
+header-back h v =
+    let t = v .typed in
+    let c = every-out (flagsOk (h .flags) ∷ attributesOk (h .attributes) ∷ hotkeyOk (h .hotkey) ∷ []) (v .can) in
+    record {
+      sized = λ r. sym (length-header h);
+      sizable = tt;
+      judged = (magic-is h t, (rw (at20 h t) (c .0), (rw (at24 h t) (c .1 .0), (rw (at64 h t) (c .1 .1 .0), (ten-zeros h t, tt)))));
+      same =
+          rw (at20 h t, at24 h t, at28 h t, at36 h t, at44 h t, at52 h t, at56 h t, at60 h t, at64 h t, signed-bits (h .icon) (t .icon));
+    }
+
+header-sized : Sized 76 (λ s. 76) (λ n. []) headerRules headerFields headerBytes HeaderV
+header-sized = record {
+  first = λ s t e. refl;
+  low = λ s e. omega arith;
+  bytes = λ h v. header-bytes h;
+  back = λ h v m. header-back h v;
+  fits = λ l bs k g c. record {
+    valid = record {
+      typed = record {
+        flags = number-below 4 l 20 bs;
+        attributes = number-below 4 l 24 bs;
+        creation = number-below 8 l 28 bs;
+        access = number-below 8 l 36 bs;
+        write = number-below 8 l 44 bs;
+        size = number-below 4 l 52 bs;
+        icon = signed-fits (u32At l 56) (number-below 4 l 56 bs);
+        command = number-below 4 l 60 bs;
+        hotkey = number-below 2 l 64 bs;
+      };
+      can = every-in (flagsOk (u32At l 20) ∷ attributesOk (u32At l 24) ∷ hotkeyOk (u16At l 64) ∷ []) (c .1 .0, (c .1 .1 .0, (c .1 .1 .1 .0, tt)));
+    };
+    short = rw length-header (omega arith);
+  };
+}
+
+-- a test asked twice is one test
+header-is : (p : ℕ) (s : List ℕ) → header p s ≡ sizedR 76 (λ s. 76) (λ n. []) headerRules headerFields p s
+header-is p s = go (leb 76 (length s)) (tests p (headerRules (take 76 s)) (got (headerFields (take 76 s)) 76))
+  where
+    go : (b : Bool) (r : Outcome Header) → choose b r (refused CUT p) ≡ choose b (choose b r (refused CUT p)) (refused CUT p)
+    go true r = refl
+    go false r = refl
+
+pub header-law : Law header headerBytes HeaderV
+header-law = law-same header-is (sized-law 76 (λ s. 76) (λ n. []) headerRules headerFields header-sized)

@@ -1,0 +1,349 @@
+-- The laws of LinkInfo.
+use mathlib.Core.Path.{_≡_, refl, sym, ap, _∙_}
+use mathlib.Core.List.{List, [], _∷_, _++_, map}
+use mathlib.Core.Bool.{Bool, true, false, not, _&&_, _||_}
+use Prim.Native.Nat.{ℕ, _+_, _≤_, _<_, _^_}
+use native.Mathlib.Omega.{arith}
+use lib.ListN.{length, take, drop, length-append}
+use lib.Dec.{leb, eqb}
+use borrow.Author.Tests.{leb-true, le-leb, lt-leb, eqb-true}
+use Rattle.octets.specs.Numbers.{Bytes, number, numberAt, u32At, little}
+use Rattle.octets.proofs.NumberLaws.{bytes-append, bytes-nil, bytes-little, length-little, number-back, number-little, number-same}
+use Rattle.format.specs.declared.Fault.the-variants.{Info as INFO}
+use Rattle.format.specs.Tests.{Test, _else_, all, choose, bit}
+use Rattle.format.specs.Pieces.{textEnds, textSize, textPiece, span}
+use Rattle.format.specs.Volume.{volumeRules, volumePiece}
+use Rattle.format.specs.Network.{networkRules, networkPiece}
+use Rattle.format.specs.Info.{infoSize, infoHead, longHead, headOk, infoFlags, hasLocal, hasNetwork, infoPieces, infoRules}
+use Rattle.format.specs.Shortcut.{most}
+use Rattle.format.specs.Contents.{VolumeContents, NetworkContents, InfoContents}
+use Rattle.format.specs.Writing.{textBytes, ifThere, twoFields, offsetField, volumeBytes, networkBytes, infoVolumeBytes, localBytes, infoNetworkBytes, suffixBytes, localUnicodeBytes, suffixUnicodeBytes, volumeStart, localStart, networkStart, suffixStart, localUnicodeStart, suffixUnicodeStart, infoLength, infoBytes, writableIf, writableText, writableVolume, writableNetwork, writableInfo}
+use Rattle.format.proofs.Bools.{and-true, or-true, Every, every-out, every-in, choose-twice}
+use Rattle.format.proofs.Intervals.{total, pack, Ordered, end, ordered-apart}
+use Rattle.format.proofs.Chains.{Pass, Ok, Fits, Law, IfThere, ok-there, there-ok}
+use Rattle.format.proofs.Sized.{SizedBack, Sized, sizedR, sized-law}
+use Rattle.format.proofs.PieceLaws.{TextV, textValue, text-law, slot, SlotFits, SlotBack, slot-fits, slot-back, slot-bytes, spans-ordered, absent-empty, next, structTests}
+use Rattle.format.proofs.FieldLaws.{choose-below, field-is, length-two, bytes-two, first-field, second-field, both-there, zero-absent, zero-either}
+use Rattle.format.proofs.VolumeLaws.{VolumeT, VolumeV, volumeValue, volume-law}
+use Rattle.format.proofs.NetworkLaws.{NetworkT, NetworkV, networkValue, network-law}
+
+-- ---- contents
+
+abbrev pub noVolumeC : VolumeContents
+noVolumeC = record { drive = 0; serial = 0; unicode = false; label = [] }
+
+abbrev pub noNetworkC : NetworkContents
+noNetworkC = record { flags = 0; provider = 0; unicode = false; net = []; device = []; netUnicode = []; deviceUnicode = [] }
+
+abbrev text : Bool → Bool → List ℕ → ℕ → List ℕ
+text u b l o = slot (textEnds u) (textSize u) (textValue u) b [] l o
+
+abbrev volumeWhole : List ℕ → Bool
+volumeWhole s = all (structTests 0x11 volumeRules volumeValue s)
+
+abbrev networkWhole : List ℕ → Bool
+networkWhole s = all (structTests 0x14 networkRules networkValue s)
+
+abbrev structSize : List ℕ → ℕ
+structSize s = u32At s 0
+
+abbrev volumeHere : List ℕ → VolumeContents
+volumeHere s = volumeValue (take (u32At s 0) s)
+
+abbrev networkHere : List ℕ → NetworkContents
+networkHere s = networkValue (take (u32At s 0) s)
+
+-- what LinkInfo's own bytes say
+abbrev pub infoValue : List ℕ → InfoContents
+infoValue l = record {
+  flags = infoFlags l;
+  long = longHead l;
+  volume = slot volumeWhole structSize volumeHere (hasLocal l) noVolumeC l (u32At l 12);
+  local = text false (hasLocal l) l (u32At l 16);
+  network = slot networkWhole structSize networkHere (hasNetwork l) noNetworkC l (u32At l 20);
+  suffix = text false true l (u32At l 24);
+  localUnicode = text true (longHead l && hasLocal l) l (u32At l 28);
+  suffixUnicode = text true (longHead l) l (u32At l 32);
+}
+
+pub record InfoT (i : InfoContents) : Type 0 where
+  pub volume : IfThere (bit 0 (i .flags)) noVolumeC VolumeT (i .volume)
+  pub local : IfThere (bit 0 (i .flags)) [] Bytes (i .local)
+  pub network : IfThere (bit 1 (i .flags)) noNetworkC NetworkT (i .network)
+  pub suffix : Bytes (i .suffix)
+  pub localUnicode : IfThere (i .long && bit 0 (i .flags)) [] Bytes (i .localUnicode)
+  pub suffixUnicode : IfThere (i .long) [] Bytes (i .suffixUnicode)
+
+abbrev pub InfoV : InfoContents → Type 0
+InfoV = Ok InfoT writableInfo
+
+abbrev cans : InfoContents → List Bool
+cans i =
+    leb (i .flags) 3
+    ∷ writableIf (bit 0 (i .flags)) writableVolume (i .volume)
+    ∷ writableIf (bit 0 (i .flags)) (writableText false) (i .local)
+    ∷ writableIf (bit 1 (i .flags)) writableNetwork (i .network)
+    ∷ writableText false (i .suffix)
+    ∷ writableIf (i .long && bit 0 (i .flags)) (writableText true) (i .localUnicode)
+    ∷ writableIf (i .long) (writableText true) (i .suffixUnicode)
+    ∷ []
+
+head-is : (u : Bool) → choose u 0x24 0x1C ≡ 28 + choose u 8 0
+head-is true = refl
+head-is false = refl
+
+pub length-info : (i : InfoContents) → length (infoBytes i) ≡ infoLength i
+unfolding infoBytes
+length-info i = simp (length-append, length-little, length-two) (omega (arith, head-is (i .long)))
+
+-- ---- from bytes
+
+-- the canonical head is no longer than the one that was read, which is inside
+head-fits : (h n : ℕ) → 0x1C ≤ n → (eqb h 0x1C || (leb 0x24 h && leb h n)) ≡ true → (choose (leb 0x24 h) 0x24 0x1C ≤ h) × (h ≤ n)
+head-fits h n k e =
+    or-true (eqb h 0x1C) (leb 0x24 h && leb h n) e
+    (λ t. let q : h ≡ 0x1C = eqb-true _ _ t in rw (lt-leb 0x24 h (omega arith)) (omega arith))
+    (λ t. let q = and-true (leb 0x24 h) (leb h n) t in rw (q .0) (leb-true _ _ (q .0), leb-true _ _ (q .1)))
+
+abbrev TextFits : Bool → Bool → List ℕ → ℕ → Type 0
+TextFits u b l o = SlotFits (textEnds u) (textSize u) (textValue u) b [] (textBytes u) (TextV u) (infoHead l) l o
+
+info-fits : (l : List ℕ) → Bytes l → 0x1C ≤ length l → Pass (infoRules l) → Fits infoBytes InfoV (infoValue l) (length l)
+info-fits l bs k c =
+    let h : ℕ = infoHead l in
+    let q = head-fits h (length l) k (c .0) in
+    let d = c .1 .1 .1 .1 .1 .1 in
+    let s₁ : SlotFits volumeWhole structSize volumeHere (hasLocal l) noVolumeC volumeBytes VolumeV h l (u32At l 12)
+    = slot-fits _ _ _ volume-law (hasLocal l) noVolumeC h l (u32At l 12) bs (d .0) in
+    let s₂ : TextFits false (hasLocal l) l (u32At l 16) = slot-fits _ _ _ (text-law false) (hasLocal l) [] h l (u32At l 16) bs (d .1 .0) in
+    let s₃ : SlotFits networkWhole structSize networkHere (hasNetwork l) noNetworkC networkBytes NetworkV h l (u32At l 20)
+    = slot-fits _ _ _ network-law (hasNetwork l) noNetworkC h l (u32At l 20) bs (d .1 .1 .0) in
+    let s₄ : TextFits false true l (u32At l 24) = slot-fits _ _ _ (text-law false) true [] h l (u32At l 24) bs (d .1 .1 .1 .0) in
+    let s₅ : TextFits true (longHead l && hasLocal l) l (u32At l 28)
+    = slot-fits _ _ _ (text-law true) (longHead l && hasLocal l) [] h l (u32At l 28) bs (d .1 .1 .1 .1 .0) in
+    let s₆ : TextFits true (longHead l) l (u32At l 32) = slot-fits _ _ _ (text-law true) (longHead l) [] h l (u32At l 32) bs (d .1 .1 .1 .1 .1 .0) in
+    let p : h + total (map span (infoPieces l)) ≤ length l
+    = pack h (length l) (map span (infoPieces l)) (q .1) (s₁ .within, (s₂ .within, (s₃ .within, (s₄ .within, (s₅ .within, (s₆ .within, tt))))))
+    (d .1 .1 .1 .1 .1 .1 .0) in
+    let v₁ = there-ok VolumeT writableVolume (hasLocal l) noVolumeC (infoValue l .volume) (s₁ .valid) in
+    let v₂ = there-ok Bytes (writableText false) (hasLocal l) [] (infoValue l .local) (s₂ .valid) in
+    let v₃ = there-ok NetworkT writableNetwork (hasNetwork l) noNetworkC (infoValue l .network) (s₃ .valid) in
+    let v₅ = there-ok Bytes (writableText true) (longHead l && hasLocal l) [] (infoValue l .localUnicode) (s₅ .valid) in
+    let v₆ = there-ok Bytes (writableText true) (longHead l) [] (infoValue l .suffixUnicode) (s₆ .valid) in
+    record {
+      valid = record {
+        typed = record {
+          volume = v₁ .0;
+          local = v₂ .0;
+          network = v₃ .0;
+          suffix = s₄ .valid .typed;
+          localUnicode = v₅ .0;
+          suffixUnicode = v₆ .0;
+        };
+        can = every-in (cans (infoValue l)) (c .1 .0, (v₁ .1, (v₂ .1, (v₃ .1, (s₄ .valid .can, (v₅ .1, (v₆ .1, tt)))))));
+      };
+      short = rw (length-info (infoValue l)) (omega (arith, p, q .0, s₁ .short, s₂ .short, s₃ .short, s₄ .short, s₅ .short, s₆ .short));
+    }
+
+-- ---- to bytes
+
+long-is : (u : Bool) → leb 0x24 (choose u 0x24 0x1C) ≡ u
+long-is true = refl
+long-is false = refl
+
+head-good : (u : Bool) (n : ℕ) → choose u 0x24 0x1C ≤ n → (eqb (choose u 0x24 0x1C) 0x1C || (u && leb (choose u 0x24 0x1C) n)) ≡ true
+head-good true n h = le-leb 0x24 n h
+head-good false n h = refl
+
+drop-head : (u : Bool) (a b c d e f g x y : ℕ) (r : List ℕ)
+    → drop (choose u 0x24 0x1C)
+    (little 4 a ++ (little 4 b ++ (little 4 c ++ (little 4 d ++ (little 4 e ++ (little 4 f ++ (little 4 g ++ (twoFields u x y ++ r)))))))) ≡ r
+unfolding little
+drop-head true a b c d e f g x y r = refl
+drop-head false a b c d e f g x y r = refl
+
+module _ (i : InfoContents) (v : InfoV i) (m : length (infoBytes i) ≤ most) where
+  limit : infoLength i ≤ most
+  limit = rw (length-info i) at m
+
+  can : Every (cans i)
+  can = every-out (cans i) (v .can)
+
+  at0 : (r : List ℕ) → u32At (infoBytes i ++ r) 0 ≡ infoLength i
+  unfolding infoBytes little numberAt
+  at0 r = number-back 4 (infoLength i) [] (omega (arith, limit))
+
+  at4 : u32At (infoBytes i) 4 ≡ volumeStart i
+  unfolding infoBytes little numberAt number
+  at4 = number-little 4 (volumeStart i) (omega (arith, limit))
+
+  at8 : u32At (infoBytes i) 8 ≡ i .flags
+  unfolding infoBytes little numberAt number
+  at8 = number-little 4 (i .flags) (omega (arith, leb-true (i .flags) 3 (can .0)))
+
+  at12 : u32At (infoBytes i) 12 ≡ choose (bit 0 (i .flags)) (volumeStart i) 0
+  unfolding infoBytes little numberAt number
+  at12 = field-is (bit 0 (i .flags)) (volumeStart i) (omega (arith, limit))
+
+  at16 : u32At (infoBytes i) 16 ≡ choose (bit 0 (i .flags)) (localStart i) 0
+  unfolding infoBytes little numberAt number
+  at16 = field-is (bit 0 (i .flags)) (localStart i) (omega (arith, limit))
+
+  at20 : u32At (infoBytes i) 20 ≡ choose (bit 1 (i .flags)) (networkStart i) 0
+  unfolding infoBytes little numberAt number
+  at20 = field-is (bit 1 (i .flags)) (networkStart i) (omega (arith, limit))
+
+  at24 : u32At (infoBytes i) 24 ≡ suffixStart i
+  unfolding infoBytes little numberAt number
+  at24 = number-little 4 (suffixStart i) (omega (arith, limit))
+
+  pieces : List ℕ
+  pieces =
+      infoVolumeBytes i ++ (localBytes i ++ (infoNetworkBytes i ++ (suffixBytes i ++ (localUnicodeBytes i ++ (suffixUnicodeBytes i ++ [])))))
+
+  at28 : choose (i .long) (u32At (infoBytes i) 28) 0 ≡ choose (i .long) (choose (bit 0 (i .flags)) (localUnicodeStart i) 0) 0
+  unfolding infoBytes little numberAt number pieces
+  at28 =
+      first-field (i .long) (choose (bit 0 (i .flags)) (localUnicodeStart i) 0) (suffixUnicodeStart i) pieces
+      (choose-below (bit 0 (i .flags)) (localUnicodeStart i) (omega (arith, limit)))
+
+  at32 : choose (i .long) (u32At (infoBytes i) 32) 0 ≡ choose (i .long) (suffixUnicodeStart i) 0
+  unfolding infoBytes little numberAt number pieces
+  at32 = second-field (i .long) (choose (bit 0 (i .flags)) (localUnicodeStart i) 0) (suffixUnicodeStart i) pieces (omega (arith, limit))
+
+  is-long : longHead (infoBytes i) ≡ i .long
+  is-long = rw at4 (long-is (i .long))
+
+  d₁ : drop (volumeStart i) (infoBytes i)
+      ≡ infoVolumeBytes i ++ (localBytes i ++ (infoNetworkBytes i ++ (suffixBytes i ++ (localUnicodeBytes i ++ (suffixUnicodeBytes i ++ [])))))
+  unfolding infoBytes
+  d₁ = drop-head (i .long) (infoLength i) (volumeStart i) (i .flags) _ _ _ (suffixStart i) _ _ _
+
+  d₂ : drop (localStart i) (infoBytes i) ≡ localBytes i ++ (infoNetworkBytes i ++ (suffixBytes i ++ (localUnicodeBytes i ++ (suffixUnicodeBytes i ++ []))))
+  d₂ = next (infoBytes i) (infoVolumeBytes i) _ (volumeStart i) d₁
+
+  d₃ : drop (networkStart i) (infoBytes i) ≡ infoNetworkBytes i ++ (suffixBytes i ++ (localUnicodeBytes i ++ (suffixUnicodeBytes i ++ [])))
+  d₃ = next (infoBytes i) (localBytes i) _ (localStart i) d₂
+
+  d₄ : drop (suffixStart i) (infoBytes i) ≡ suffixBytes i ++ (localUnicodeBytes i ++ (suffixUnicodeBytes i ++ []))
+  d₄ = next (infoBytes i) (infoNetworkBytes i) _ (networkStart i) d₃
+
+  d₅ : drop (localUnicodeStart i) (infoBytes i) ≡ localUnicodeBytes i ++ (suffixUnicodeBytes i ++ [])
+  d₅ = next (infoBytes i) (suffixBytes i) _ (suffixStart i) d₄
+
+  d₆ : drop (suffixUnicodeStart i) (infoBytes i) ≡ suffixUnicodeBytes i ++ []
+  d₆ = next (infoBytes i) (localUnicodeBytes i) _ (localUnicodeStart i) d₅
+
+  abbrev TextBack : Bool → Bool → ℕ → ℕ → List ℕ → Type 0
+  TextBack u b o a x = SlotBack (textEnds u) (textSize u) (textValue u) b [] (textBytes u) (volumeStart i) (infoBytes i) o a x
+
+  b₁ : SlotBack volumeWhole structSize volumeHere (bit 0 (i .flags)) noVolumeC volumeBytes (volumeStart i) (infoBytes i)
+      (choose (bit 0 (i .flags)) (volumeStart i) 0) (volumeStart i) (i .volume)
+  b₁ =
+      slot-back _ _ _ volume-law _ noVolumeC _ (infoBytes i) _ _ (volumeStart i) (i .volume)
+      (ok-there VolumeT writableVolume (bit 0 (i .flags)) noVolumeC (i .volume) (v .typed .volume) (can .1 .0))
+      (omega (arith, limit)) (omega arith) (choose-twice (bit 0 (i .flags)) (volumeStart i) 0) d₁
+
+  b₂ : TextBack false (bit 0 (i .flags)) (choose (bit 0 (i .flags)) (localStart i) 0) (localStart i) (i .local)
+  b₂ =
+      slot-back _ _ _ (text-law false) _ [] _ (infoBytes i) _ _ (localStart i) (i .local)
+      (ok-there Bytes (writableText false) (bit 0 (i .flags)) [] (i .local) (v .typed .local) (can .1 .1 .0))
+      (omega (arith, limit)) (omega arith) (choose-twice (bit 0 (i .flags)) (localStart i) 0) d₂
+
+  b₃ : SlotBack networkWhole structSize networkHere (bit 1 (i .flags)) noNetworkC networkBytes (volumeStart i) (infoBytes i)
+      (choose (bit 1 (i .flags)) (networkStart i) 0) (networkStart i) (i .network)
+  b₃ =
+      slot-back _ _ _ network-law _ noNetworkC _ (infoBytes i) _ _ (networkStart i) (i .network)
+      (ok-there NetworkT writableNetwork (bit 1 (i .flags)) noNetworkC (i .network) (v .typed .network) (can .1 .1 .1 .0))
+      (omega (arith, limit)) (omega arith) (choose-twice (bit 1 (i .flags)) (networkStart i) 0) d₃
+
+  b₄ : TextBack false true (suffixStart i) (suffixStart i) (i .suffix)
+  b₄ =
+      slot-back _ _ _ (text-law false) true [] _ (infoBytes i) _ (suffixStart i) (suffixStart i) (i .suffix)
+      (record { typed = v .typed .suffix; can = can .1 .1 .1 .1 .0 }) (omega (arith, limit)) (omega arith) refl d₄
+
+  b₅ : TextBack true (i .long && bit 0 (i .flags)) (u32At (infoBytes i) 28) (localUnicodeStart i) (i .localUnicode)
+  b₅ =
+      slot-back _ _ _ (text-law true) _ [] _ (infoBytes i) _ _ (localUnicodeStart i) (i .localUnicode)
+      (ok-there Bytes (writableText true) (i .long && bit 0 (i .flags)) [] (i .localUnicode) (v .typed .localUnicode) (can .1 .1 .1 .1 .1 .0))
+      (omega (arith, limit)) (omega arith) (both-there (i .long) (bit 0 (i .flags)) (u32At (infoBytes i) 28) (localUnicodeStart i) at28) d₅
+
+  b₆ : TextBack true (i .long) (u32At (infoBytes i) 32) (suffixUnicodeStart i) (i .suffixUnicode)
+  b₆ =
+      slot-back _ _ _ (text-law true) _ [] _ (infoBytes i) _ _ (suffixUnicodeStart i) (i .suffixUnicode)
+      (ok-there Bytes (writableText true) (i .long) [] (i .suffixUnicode) (v .typed .suffixUnicode) (can .1 .1 .1 .1 .1 .1 .0))
+      (omega (arith, limit)) (omega arith) at32 d₆
+
+  in-order : Ordered (volumeStart i)
+      (span (volumePiece (bit 0 (i .flags)) (infoBytes i) (choose (bit 0 (i .flags)) (volumeStart i) 0))
+      ∷ span (textPiece (bit 0 (i .flags)) false (infoBytes i) (choose (bit 0 (i .flags)) (localStart i) 0))
+      ∷ span (networkPiece (bit 1 (i .flags)) (infoBytes i) (choose (bit 1 (i .flags)) (networkStart i) 0))
+      ∷ span (textPiece true false (infoBytes i) (suffixStart i))
+      ∷ span (textPiece (i .long && bit 0 (i .flags)) true (infoBytes i) (u32At (infoBytes i) 28))
+      ∷ span (textPiece (i .long) true (infoBytes i) (u32At (infoBytes i) 32))
+      ∷ [])
+  in-order =
+      spans-ordered (bit 0 (i .flags)) _ _ _ _ (b₁ .spans) (absent-empty (bit 0 (i .flags)) volumeBytes (i .volume))
+      (spans-ordered (bit 0 (i .flags)) _ _ _ _ (b₂ .spans) (absent-empty (bit 0 (i .flags)) (textBytes false) (i .local))
+      (spans-ordered (bit 1 (i .flags)) _ _ _ _ (b₃ .spans) (absent-empty (bit 1 (i .flags)) networkBytes (i .network))
+      (spans-ordered true _ _ _ _ (b₄ .spans) (absent-empty true (textBytes false) (i .suffix))
+      (spans-ordered (i .long && bit 0 (i .flags)) _ _ _ _ (b₅ .spans) (absent-empty (i .long && bit 0 (i .flags)) (textBytes true) (i .localUnicode))
+      (spans-ordered (i .long) _ _ _ _ (b₆ .spans) (absent-empty (i .long) (textBytes true) (i .suffixUnicode)) end)))))
+
+  info-judged : Pass (infoRules (infoBytes i))
+  info-judged =
+      rw (is-long, at4, at8, at12, at16, at20, at24) (
+        head-good (i .long) (length (infoBytes i)) (omega (arith, length-info i)),
+        (
+          can .0,
+          (
+            zero-absent (bit 0 (i .flags)) (volumeStart i),
+            (
+              zero-absent (bit 0 (i .flags)) (localStart i),
+              (
+                zero-absent (bit 1 (i .flags)) (networkStart i),
+                (
+                  zero-either (i .long) (bit 0 (i .flags)) (u32At (infoBytes i) 28) (localUnicodeStart i) at28,
+                  (b₁ .good, (b₂ .good, (b₃ .good, (b₄ .good, (b₅ .good, (b₆ .good, (ordered-apart in-order, tt))))))),
+                ),
+              ),
+            ),
+          ),
+        ),
+      )
+
+  info-back : SizedBack infoSize (λ n. leb 0x1C n else INFO ∷ []) infoRules infoValue (infoBytes i) i
+  info-back = record {
+    sized = λ r. at0 r ∙ sym (length-info i);
+    sizable = (le-leb 0x1C (length (infoBytes i)) (omega (arith, length-info i, head-is (i .long))), tt);
+    judged = info-judged;
+    same = rw (is-long, at8, at12, at16, at20, at24, b₁ .same, b₂ .same, b₃ .same, b₄ .same, b₅ .same, b₆ .same);
+  }
+
+info-bytes : (i : InfoContents) → InfoV i → Bytes (infoBytes i)
+unfolding infoBytes
+info-bytes i v =
+    let can = every-out (cans i) (v .can) in
+    let t = v .typed in
+    let s₁ = slot-bytes _ _ _ volume-law (bit 0 (i .flags)) noVolumeC (i .volume) (ok-there VolumeT writableVolume (bit 0 (i .flags)) noVolumeC (i .volume) (t .volume) (can .1 .0)) in
+    let s₂ = slot-bytes _ _ _ (text-law false) (bit 0 (i .flags)) [] (i .local) (ok-there Bytes (writableText false) (bit 0 (i .flags)) [] (i .local) (t .local) (can .1 .1 .0)) in
+    let s₃ = slot-bytes _ _ _ network-law (bit 1 (i .flags)) noNetworkC (i .network)
+    (ok-there NetworkT writableNetwork (bit 1 (i .flags)) noNetworkC (i .network) (t .network) (can .1 .1 .1 .0)) in
+    let s₄ = text-law false .bytes (i .suffix) (record { typed = t .suffix; can = can .1 .1 .1 .1 .0 }) in
+    let s₅ = slot-bytes _ _ _ (text-law true) (i .long && bit 0 (i .flags)) [] (i .localUnicode)
+    (ok-there Bytes (writableText true) (i .long && bit 0 (i .flags)) [] (i .localUnicode) (t .localUnicode) (can .1 .1 .1 .1 .1 .0)) in
+    let s₆ = slot-bytes _ _ _ (text-law true) (i .long) [] (i .suffixUnicode)
+    (ok-there Bytes (writableText true) (i .long) [] (i .suffixUnicode) (t .suffixUnicode) (can .1 .1 .1 .1 .1 .1 .0)) in
+    search (bytes-append, bytes-little, bytes-nil, bytes-two) depth 20
+
+info-sized : Sized 4 infoSize (λ n. leb 0x1C n else INFO ∷ []) infoRules infoValue infoBytes InfoV
+info-sized = record {
+  first = λ s t e. number-same 4 4 s t 0 e (omega arith);
+  low = λ s e. omega (arith, leb-true 0x1C (infoSize s) (e .0));
+  bytes = info-bytes;
+  back = info-back;
+  fits = λ l bs k g c. info-fits l bs (leb-true _ _ (g .0)) c;
+}
+
+pub info-law : Law (sizedR 4 infoSize (λ n. leb 0x1C n else INFO ∷ []) infoRules infoValue) infoBytes InfoV
+info-law = sized-law 4 infoSize (λ n. leb 0x1C n else INFO ∷ []) infoRules infoValue info-sized

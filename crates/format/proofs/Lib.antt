@@ -1,0 +1,13 @@
+pub mod Bools
+pub mod Intervals
+pub mod Chains
+pub mod Sized
+pub mod HeaderLaws
+pub mod ItemsLaws
+pub mod StringLaws
+pub mod PieceLaws
+pub mod FieldLaws
+pub mod VolumeLaws
+pub mod NetworkLaws
+pub mod InfoLaws
+pub mod ProbeLaws

@@ -1,0 +1,266 @@
+-- The laws of the network link.
+use mathlib.Core.Path.{_≡_, refl, sym, ap, _∙_}
+use mathlib.Core.List.{List, [], _∷_, _++_, map}
+use mathlib.Core.Bool.{Bool, true, false, not, _&&_, _||_}
+use Prim.Native.Nat.{ℕ, _+_, _≤_, _<_, _^_}
+use native.Mathlib.Omega.{arith}
+use lib.ListN.{length, take, drop, length-append}
+use lib.Dec.{leb, ltb, eqb}
+use borrow.Author.Tests.{leb-true, le-leb}
+use Rattle.octets.specs.Numbers.{Bytes, number, numberAt, u32At, little}
+use Rattle.octets.proofs.NumberLaws.{bytes-append, bytes-nil, bytes-little, length-little, number-back, number-little, number-below}
+use Rattle.format.specs.Tests.{all, choose, bit}
+use Rattle.format.specs.Pieces.{textEnds, textSize, textPiece, absentZero, span, allApart}
+use Rattle.format.specs.Network.{networkFlags, hasDevice, networkUnicode, networkHead, networkPieces, networkRules}
+use Rattle.format.specs.Shortcut.{most}
+use Rattle.format.specs.Contents.{NetworkContents}
+use Rattle.format.specs.Writing.{textBytes, ifThere, twoFields, offsetField, netBytes, deviceBytes, netUnicodeBytes, deviceUnicodeBytes, netStart, deviceStart, netUnicodeStart, deviceUnicodeStart, networkLength, networkBytes, writableIf, writableText, writableNetwork}
+use Rattle.format.proofs.Bools.{Every, every-out, every-in, choose-twice}
+use Rattle.format.proofs.Intervals.{Within, total, pack, Ordered, end, ordered-apart}
+use Rattle.format.proofs.Chains.{Pass, Ok, Fits, IfThere, ok-there, there-ok}
+use Rattle.format.proofs.PieceLaws.{PieceLaw, TextV, textValue, text-law, slot, SlotFits, SlotBack, slot-fits, slot-back, slot-bytes, spans-ordered, absent-empty, next, Struct, structTests, struct-law}
+use Rattle.format.proofs.FieldLaws.{choose-below, field-is, length-two, bytes-two, first-field, second-field, both-there, zero-absent, zero-either}
+
+-- a text of the link that is there or not
+abbrev text : Bool → Bool → List ℕ → ℕ → List ℕ
+text u b l o = slot (textEnds u) (textSize u) (textValue u) b [] l o
+
+-- what the link's own bytes say
+abbrev pub networkValue : List ℕ → NetworkContents
+networkValue l = record {
+  flags = networkFlags l;
+  provider = choose (bit 1 (networkFlags l)) (u32At l 16) 0;
+  unicode = networkUnicode l;
+  net = text false true l (u32At l 8);
+  device = text false (hasDevice l) l (u32At l 12);
+  netUnicode = text true (networkUnicode l) l (u32At l 20);
+  deviceUnicode = text true (networkUnicode l && hasDevice l) l (u32At l 24);
+}
+
+pub record NetworkT (n : NetworkContents) : Type 0 where
+  pub provider : n .provider < 2 ^ 32
+  pub kept : choose (bit 1 (n .flags)) (n .provider) 0 ≡ n .provider
+  pub net : Bytes (n .net)
+  pub device : IfThere (bit 0 (n .flags)) [] Bytes (n .device)
+  pub netUnicode : IfThere (n .unicode) [] Bytes (n .netUnicode)
+  pub deviceUnicode : IfThere (n .unicode && bit 0 (n .flags)) [] Bytes (n .deviceUnicode)
+
+abbrev pub NetworkV : NetworkContents → Type 0
+NetworkV = Ok NetworkT writableNetwork
+
+head-is : (u : Bool) → networkHead u ≡ 20 + choose u 8 0
+head-is true = refl
+head-is false = refl
+
+pub length-network : (n : NetworkContents) → length (networkBytes n) ≡ networkLength n
+unfolding networkBytes
+length-network n = simp (length-append, length-little, length-two) (omega (arith, head-is (n .unicode)))
+
+-- ---- from bytes
+
+kept-below : (b : Bool) (x : ℕ) → x < 2 ^ 32 → choose b x 0 < 2 ^ 32
+kept-below true x h = h
+kept-below false x h = omega arith
+
+kept-twice : (b : Bool) (x : ℕ) → choose b (choose b x 0) 0 ≡ choose b x 0
+kept-twice true x = refl
+kept-twice false x = refl
+
+abbrev cans : NetworkContents → List Bool
+cans n =
+    leb (n .flags) 3
+    ∷ writableText false (n .net)
+    ∷ writableIf (bit 0 (n .flags)) (writableText false) (n .device)
+    ∷ writableIf (n .unicode) (writableText true) (n .netUnicode)
+    ∷ writableIf (n .unicode && bit 0 (n .flags)) (writableText true) (n .deviceUnicode)
+    ∷ []
+
+abbrev TextFits : Bool → Bool → List ℕ → ℕ → Type 0
+TextFits u b l o = SlotFits (textEnds u) (textSize u) (textValue u) b [] (textBytes u) (TextV u) (networkHead (networkUnicode l)) l o
+
+network-fits : (l : List ℕ) → Bytes l → Pass (networkRules l) → Fits networkBytes NetworkV (networkValue l) (length l)
+network-fits l bs c =
+    let h : ℕ = networkHead (networkUnicode l) in
+    let k : h ≤ length l = leb-true _ _ (c .1 .1 .0) in
+    let d = c .1 .1 .1 .1 .1 in
+    let s₁ : TextFits false true l (u32At l 8) = slot-fits _ _ _ (text-law false) true [] h l (u32At l 8) bs (d .0) in
+    let s₂ : TextFits false (hasDevice l) l (u32At l 12) = slot-fits _ _ _ (text-law false) (hasDevice l) [] h l (u32At l 12) bs (d .1 .0) in
+    let s₃ : TextFits true (networkUnicode l) l (u32At l 20) = slot-fits _ _ _ (text-law true) (networkUnicode l) [] h l (u32At l 20) bs (d .1 .1 .0) in
+    let s₄ : TextFits true (networkUnicode l && hasDevice l) l (u32At l 24)
+    = slot-fits _ _ _ (text-law true) (networkUnicode l && hasDevice l) [] h l (u32At l 24) bs (d .1 .1 .1 .0) in
+    let p : h + total (map span (networkPieces l)) ≤ length l
+    = pack h (length l) (map span (networkPieces l)) k (s₁ .within, (s₂ .within, (s₃ .within, (s₄ .within, tt)))) (d .1 .1 .1 .1 .0) in
+    let v₂ = there-ok Bytes (writableText false) (hasDevice l) [] (text false (hasDevice l) l (u32At l 12)) (s₂ .valid) in
+    let v₃ = there-ok Bytes (writableText true) (networkUnicode l) [] (text true (networkUnicode l) l (u32At l 20)) (s₃ .valid) in
+    let v₄ = there-ok Bytes (writableText true) (networkUnicode l && hasDevice l) [] (text true (networkUnicode l && hasDevice l) l (u32At l 24)) (s₄ .valid) in
+    record {
+      valid = record {
+        typed = record {
+          provider = kept-below (bit 1 (networkFlags l)) (u32At l 16) (number-below 4 l 16 bs);
+          kept = kept-twice (bit 1 (networkFlags l)) (u32At l 16);
+          net = s₁ .valid .typed;
+          device = v₂ .0;
+          netUnicode = v₃ .0;
+          deviceUnicode = v₄ .0;
+        };
+        can = every-in (cans (networkValue l)) (c .0, (s₁ .valid .can, (v₂ .1, (v₃ .1, (v₄ .1, tt)))));
+      };
+      short = rw (length-network (networkValue l)) (omega (arith, p, s₁ .short, s₂ .short, s₃ .short, s₄ .short));
+    }
+
+-- ---- to bytes
+
+module _ (n : NetworkContents) (v : NetworkV n) (m : length (networkBytes n) ≤ most) where
+  limit : networkLength n ≤ most
+  limit = rw (length-network n) at m
+
+  flags-few : n .flags ≤ 3
+  flags-few = leb-true _ _ (every-out (cans n) (v .can) .0)
+
+  at0 : (r : List ℕ) → u32At (networkBytes n ++ r) 0 ≡ networkLength n
+  unfolding networkBytes little numberAt
+  at0 r = number-back 4 (networkLength n) [] (omega (arith, limit))
+
+  at4 : u32At (networkBytes n) 4 ≡ n .flags
+  unfolding networkBytes little numberAt number
+  at4 = number-little 4 (n .flags) (omega (arith, flags-few))
+
+  at8 : u32At (networkBytes n) 8 ≡ netStart n
+  unfolding networkBytes little numberAt number
+  at8 = number-little 4 (netStart n) (omega (arith, limit))
+
+  at12 : u32At (networkBytes n) 12 ≡ choose (bit 0 (n .flags)) (deviceStart n) 0
+  unfolding networkBytes little numberAt number
+  at12 = field-is (bit 0 (n .flags)) (deviceStart n) (omega (arith, limit))
+
+  at16 : u32At (networkBytes n) 16 ≡ n .provider
+  unfolding networkBytes little numberAt number
+  at16 = number-little 4 (n .provider) (v .typed .provider)
+
+  texts : List ℕ
+  texts = netBytes n ++ (deviceBytes n ++ (netUnicodeBytes n ++ (deviceUnicodeBytes n ++ [])))
+
+  at20 : choose (n .unicode) (u32At (networkBytes n) 20) 0 ≡ choose (n .unicode) (netUnicodeStart n) 0
+  unfolding networkBytes little numberAt number texts
+  at20 = first-field (n .unicode) (netUnicodeStart n) (choose (bit 0 (n .flags)) (deviceUnicodeStart n) 0) texts (omega (arith, limit))
+
+  at24 : choose (n .unicode) (u32At (networkBytes n) 24) 0 ≡ choose (n .unicode) (choose (bit 0 (n .flags)) (deviceUnicodeStart n) 0) 0
+  unfolding networkBytes little numberAt number texts
+  at24 =
+      second-field (n .unicode) (netUnicodeStart n) (choose (bit 0 (n .flags)) (deviceUnicodeStart n) 0) texts
+      (choose-below (bit 0 (n .flags)) (deviceUnicodeStart n) (omega (arith, limit)))
+
+  unicode-is : networkUnicode (networkBytes n) ≡ n .unicode
+  unicode-is = rw at8 (head-tells (n .unicode))
+    where
+      head-tells : (u : Bool) → ltb 0x14 (networkHead u) ≡ u
+      head-tells true = refl
+      head-tells false = refl
+
+  drop-head : (u : Bool) (a b c d e x y : ℕ) (r : List ℕ)
+      → drop (networkHead u) (little 4 a ++ (little 4 b ++ (little 4 c ++ (little 4 d ++ (little 4 e ++ (twoFields u x y ++ r)))))) ≡ r
+  unfolding little
+  drop-head true a b c d e x y r = refl
+  drop-head false a b c d e x y r = refl
+
+  d₁ : drop (netStart n) (networkBytes n) ≡ netBytes n ++ (deviceBytes n ++ (netUnicodeBytes n ++ (deviceUnicodeBytes n ++ [])))
+  unfolding networkBytes
+  d₁ = drop-head (n .unicode) (networkLength n) (n .flags) (netStart n) _ (n .provider) _ _ _
+
+  d₂ : drop (deviceStart n) (networkBytes n) ≡ deviceBytes n ++ (netUnicodeBytes n ++ (deviceUnicodeBytes n ++ []))
+  d₂ = next (networkBytes n) (netBytes n) _ (netStart n) d₁
+
+  d₃ : drop (netUnicodeStart n) (networkBytes n) ≡ netUnicodeBytes n ++ (deviceUnicodeBytes n ++ [])
+  d₃ = next (networkBytes n) (deviceBytes n) _ (deviceStart n) d₂
+
+  d₄ : drop (deviceUnicodeStart n) (networkBytes n) ≡ deviceUnicodeBytes n ++ []
+  d₄ = next (networkBytes n) (netUnicodeBytes n) _ (netUnicodeStart n) d₃
+
+  abbrev TextBack : Bool → Bool → ℕ → ℕ → List ℕ → Type 0
+  TextBack u b o a x = SlotBack (textEnds u) (textSize u) (textValue u) b [] (textBytes u) (networkHead (n .unicode)) (networkBytes n) o a x
+
+  can : Every (cans n)
+  can = every-out (cans n) (v .can)
+
+  b₁ : TextBack false true (netStart n) (netStart n) (n .net)
+  b₁ =
+      slot-back _ _ _ (text-law false) true [] _ (networkBytes n) _ (netStart n) (netStart n) (n .net)
+      (record { typed = v .typed .net; can = can .1 .0 }) (omega (arith, limit)) (omega arith) refl d₁
+
+  b₂ : TextBack false (bit 0 (n .flags)) (choose (bit 0 (n .flags)) (deviceStart n) 0) (deviceStart n) (n .device)
+  b₂ =
+      slot-back _ _ _ (text-law false) _ [] _ (networkBytes n) _ _ (deviceStart n) (n .device)
+      (ok-there Bytes (writableText false) (bit 0 (n .flags)) [] (n .device) (v .typed .device) (can .1 .1 .0))
+      (omega (arith, limit)) (omega arith) (choose-twice (bit 0 (n .flags)) (deviceStart n) 0) d₂
+
+  b₃ : TextBack true (n .unicode) (u32At (networkBytes n) 20) (netUnicodeStart n) (n .netUnicode)
+  b₃ =
+      slot-back _ _ _ (text-law true) _ [] _ (networkBytes n) _ _ (netUnicodeStart n) (n .netUnicode)
+      (ok-there Bytes (writableText true) (n .unicode) [] (n .netUnicode) (v .typed .netUnicode) (can .1 .1 .1 .0))
+      (omega (arith, limit)) (omega arith) at20 d₃
+
+  b₄ : TextBack true (n .unicode && bit 0 (n .flags)) (u32At (networkBytes n) 24) (deviceUnicodeStart n) (n .deviceUnicode)
+  b₄ =
+      slot-back _ _ _ (text-law true) _ [] _ (networkBytes n) _ _ (deviceUnicodeStart n) (n .deviceUnicode)
+      (ok-there Bytes (writableText true) (n .unicode && bit 0 (n .flags)) [] (n .deviceUnicode) (v .typed .deviceUnicode) (can .1 .1 .1 .1 .0))
+      (omega (arith, limit)) (omega arith) (both-there (n .unicode) (bit 0 (n .flags)) (u32At (networkBytes n) 24) (deviceUnicodeStart n) at24) d₄
+
+  in-order : Ordered (netStart n)
+      (span (textPiece true false (networkBytes n) (netStart n))
+      ∷ span (textPiece (bit 0 (n .flags)) false (networkBytes n) (choose (bit 0 (n .flags)) (deviceStart n) 0))
+      ∷ span (textPiece (n .unicode) true (networkBytes n) (u32At (networkBytes n) 20))
+      ∷ span (textPiece (n .unicode && bit 0 (n .flags)) true (networkBytes n) (u32At (networkBytes n) 24))
+      ∷ [])
+  in-order =
+      spans-ordered true _ _ _ _ (b₁ .spans) (absent-empty true (textBytes false) (n .net))
+      (spans-ordered (bit 0 (n .flags)) _ _ _ _ (b₂ .spans) (absent-empty (bit 0 (n .flags)) (textBytes false) (n .device))
+      (spans-ordered (n .unicode) _ _ _ _ (b₃ .spans) (absent-empty (n .unicode) (textBytes true) (n .netUnicode))
+      (spans-ordered (n .unicode && bit 0 (n .flags)) _ _ _ _ (b₄ .spans) (absent-empty (n .unicode && bit 0 (n .flags)) (textBytes true) (n .deviceUnicode)) end)))
+
+  network-judged : Pass (networkRules (networkBytes n))
+  network-judged =
+      rw (unicode-is, at4, at8, at12) (
+        can .0,
+        (
+          le-leb 0x14 (netStart n) (omega (arith, head-is (n .unicode))),
+          (
+            le-leb (networkHead (n .unicode)) (length (networkBytes n)) (omega (arith, length-network n)),
+            (
+              zero-absent (bit 0 (n .flags)) (deviceStart n),
+              (
+                zero-either (n .unicode) (bit 0 (n .flags)) (u32At (networkBytes n) 24) (deviceUnicodeStart n) at24,
+                (b₁ .good, (b₂ .good, (b₃ .good, (b₄ .good, (ordered-apart in-order, tt))))),
+              ),
+            ),
+          ),
+        ),
+      )
+
+  network-same : networkValue (networkBytes n) ≡ n
+  network-same = rw (unicode-is, at4, at8, at12, at16, b₁ .same, b₂ .same, b₃ .same, b₄ .same, v .typed .kept)
+
+network-bytes : (n : NetworkContents) → NetworkV n → Bytes (networkBytes n)
+unfolding networkBytes
+network-bytes n v =
+    let can = every-out (cans n) (v .can) in
+    let t = v .typed in
+    let s₁ = text-law false .bytes (n .net) (record { typed = t .net; can = can .1 .0 }) in
+    let s₂ = slot-bytes _ _ _ (text-law false) (bit 0 (n .flags)) [] (n .device) (ok-there Bytes (writableText false) (bit 0 (n .flags)) [] (n .device) (t .device) (can .1 .1 .0)) in
+    let s₃ = slot-bytes _ _ _ (text-law true) (n .unicode) [] (n .netUnicode) (ok-there Bytes (writableText true) (n .unicode) [] (n .netUnicode) (t .netUnicode) (can .1 .1 .1 .0)) in
+    let s₄ = slot-bytes _ _ _ (text-law true) (n .unicode && bit 0 (n .flags)) [] (n .deviceUnicode)
+    (ok-there Bytes (writableText true) (n .unicode && bit 0 (n .flags)) [] (n .deviceUnicode) (t .deviceUnicode) (can .1 .1 .1 .1 .0)) in
+    search (bytes-append, bytes-little, bytes-nil, bytes-two) depth 16
+
+network-struct : Struct 0x14 networkRules networkValue networkBytes NetworkV
+network-struct = record {
+  low-four = omega arith;
+  bytes = network-bytes;
+  sized = λ n v m r. at0 n v m r ∙ sym (length-network n);
+  long = λ n v. omega (arith, length-network n, head-is (n .unicode));
+  judged = network-judged;
+  same = network-same;
+  fits = λ l bs k c. network-fits l bs c;
+}
+
+pub network-law : PieceLaw (λ s. all (structTests 0x14 networkRules networkValue s)) (λ s. u32At s 0) (λ s. networkValue (take (u32At s 0) s)) networkBytes NetworkV
+network-law = struct-law 0x14 networkRules networkValue network-struct

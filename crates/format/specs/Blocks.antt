@@ -1,0 +1,58 @@
+-- Blocks.
+use Prim.Native.Nat.{ℕ, zero, suc, _+_, _-_}
+use mathlib.Core.List.{List, [], _∷_}
+use mathlib.Core.Bool.{Bool, true, false, _&&_, _||_}
+use lib.ListN.{length, take, drop}
+use lib.Dec.{leb, ltb, eqb}
+use Rattle.octets.specs.Numbers.{u32At}
+use Rattle.format.specs.declared.Fault.the-variants.{Cut as CUT, Block as BLOCK}
+use Rattle.format.specs.Tests.{Test, _else_, tests, Outcome, got, refused, Reader, andThen, choose}
+use Rattle.format.specs.Items.{itemList}
+use Rattle.format.specs.Pieces.{textEnds}
+
+-- The three of 0x314 hold a zero byte among the 260 from byte 8 and a zero unit among the 260 units from byte 268
+abbrev pub pathTexts : List ℕ → Bool
+pathTexts b = textEnds false (take 260 (drop 8 b)) && textEnds true (take 520 (drop 268 b))
+
+-- b is one block: Signature | Size. Other signatures pass
+unfoldable pub blockOk : List ℕ → Bool
+blockOk b =
+    let n = length b in
+    let signature = u32At b 4 in
+    choose (eqb signature 0xA0000001 || eqb signature 0xA0000006 || eqb signature 0xA0000007) (eqb n 0x314 && pathTexts b)
+    (choose (eqb signature 0xA0000002) (eqb n 0xCC)
+    (choose (eqb signature 0xA0000003) (eqb n 0x60)
+    (choose (eqb signature 0xA0000004) (eqb n 0x0C)
+    (choose (eqb signature 0xA0000005) (eqb n 0x10)
+    (choose (eqb signature 0xA0000008) (leb 0x88 n)
+    (choose (eqb signature 0xA0000009) (leb 0x0C n)
+    (choose (eqb signature 0xA000000B) (eqb n 0x1C)
+    (choose (eqb signature 0xA000000C) (leb 0x0A n && itemList (drop 8 b))
+    true))))))))
+
+abbrev pub blockSize : List ℕ → ℕ
+blockSize s = u32At s 0
+
+-- Size 4 to 7: BLOCK. Beyond the file: CUT. Then by signature
+abbrev pub blockTests : List ℕ → List Test
+blockTests s =
+    leb 8 (blockSize s) else BLOCK
+    ∷ leb (blockSize s) (length s) else CUT
+    ∷ blockOk (take (blockSize s) s) else BLOCK
+    ∷ []
+
+-- the lengths of the blocks before the terminal. p is where the next block starts; k bytes of the one before it are still to come.
+-- A block: four bytes of size (else CUT). A size below 4 is the terminal block, of four bytes
+unfoldable pub blocksFrom : ℕ → ℕ → List ℕ → Outcome (List ℕ)
+blocksFrom p zero [] = refused CUT p
+blocksFrom p zero (a ∷ l) =
+    let s = a ∷ l in
+    let n = blockSize s in
+    let rest = blocksFrom (p + n) (n - 1) l in
+    let more = tests p (blockTests s) (andThen rest (λ lengths m. got (n ∷ lengths) (n + m))) in
+    tests p (leb 4 (length s) else CUT ∷ []) (choose (ltb n 4) (got [] 4) more)
+blocksFrom p (suc k) [] = refused CUT p
+blocksFrom p (suc k) (a ∷ l) = blocksFrom p k l
+
+abbrev pub blocks : Reader (List ℕ)
+blocks p s = blocksFrom p 0 s

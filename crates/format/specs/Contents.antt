@@ -1,0 +1,191 @@
+-- The record with its bodies' bytes in their places' stead; which parts are present; sameness.
+use Prim.Native.Nat.{ℕ, _+_}
+use mathlib.Core.Path.{_≡_}
+use mathlib.Core.List.{List, [], _∷_}
+use mathlib.Core.Bool.{Bool, true, false, _&&_}
+use lib.ListN.{take, drop}
+use lib.Dec.{leb}
+use Rattle.format.specs.declared.Place.{Place}
+use Rattle.format.specs.declared.Label.{Label}
+use Rattle.format.specs.declared.Label.the-variants.{Byte, Unicode}
+use Rattle.format.specs.declared.Header.{Header}
+use Rattle.format.specs.declared.Volume.{Volume}
+use Rattle.format.specs.declared.Network.{Network}
+use Rattle.format.specs.declared.Info.{Info}
+use Rattle.format.specs.declared.Record.{Record}
+use Rattle.format.specs.Tests.{choose, bit, noPlace}
+use Rattle.format.specs.Volume.{noVolume}
+use Rattle.format.specs.Network.{noNetwork}
+use Rattle.format.specs.Info.{noInfo}
+
+-- ---- which parts are present: what is held for an absent section or part does not count, and is put to zero here
+
+abbrev pub presentNetwork : Network → Network
+presentNetwork n = record {
+  flags = n .flags;
+  provider = choose (bit 1 (n .flags)) (n .provider) 0;
+  unicode = n .unicode;
+  net = n .net;
+  device = choose (bit 0 (n .flags)) (n .device) noPlace;
+  «net_unicode» = choose (n .unicode) (n .«net_unicode») noPlace;
+  «device_unicode» = choose (n .unicode && bit 0 (n .flags)) (n .«device_unicode») noPlace;
+}
+
+abbrev pub presentInfo : Info → Info
+presentInfo i = record {
+  flags = i .flags;
+  long = i .long;
+  volume = choose (bit 0 (i .flags)) (i .volume) noVolume;
+  local = choose (bit 0 (i .flags)) (i .local) noPlace;
+  network = choose (bit 1 (i .flags)) (presentNetwork (i .network)) noNetwork;
+  suffix = i .suffix;
+  «local_unicode» = choose (i .long && bit 0 (i .flags)) (i .«local_unicode») noPlace;
+  «suffix_unicode» = choose (i .long) (i .«suffix_unicode») noPlace;
+}
+
+unfoldable pub present : Record → Record
+present r = record {
+  header = r .header;
+  items = choose (bit 0 (r .header .flags)) (r .items) noPlace;
+  info = choose (bit 1 (r .header .flags)) (presentInfo (r .info)) noInfo;
+  name = choose (bit 2 (r .header .flags)) (r .name) noPlace;
+  relative = choose (bit 3 (r .header .flags)) (r .relative) noPlace;
+  workdir = choose (bit 4 (r .header .flags)) (r .workdir) noPlace;
+  arguments = choose (bit 5 (r .header .flags)) (r .arguments) noPlace;
+  icon = choose (bit 6 (r .header .flags)) (r .icon) noPlace;
+  blocks = r .blocks;
+}
+
+-- ---- the bodies
+
+abbrev pub labelPlace : Label → Place
+labelPlace (Byte b) = b
+labelPlace (Unicode b) = b
+
+abbrev pub labelKind : Label → Bool
+labelKind (Byte b) = false
+labelKind (Unicode b) = true
+
+abbrev pub bodies : Record → List Place
+bodies r =
+    r .items
+    ∷ labelPlace (r .info .volume .label)
+    ∷ r .info .local
+    ∷ r .info .network .net
+    ∷ r .info .network .device
+    ∷ r .info .network .«net_unicode»
+    ∷ r .info .network .«device_unicode»
+    ∷ r .info .suffix
+    ∷ r .info .«local_unicode»
+    ∷ r .info .«suffix_unicode»
+    ∷ r .name
+    ∷ r .relative
+    ∷ r .workdir
+    ∷ r .arguments
+    ∷ r .icon
+    ∷ r .blocks
+    ∷ []
+
+abbrev pub allInside : ℕ → List Place → Bool
+allInside n [] = true
+allInside n (b ∷ bs) = leb (b .at + b .len) n && allInside n bs
+
+-- no present body's place plus its length exceeds n, the body buffer's length
+unfoldable pub placed : ℕ → Record → Bool
+unfolding present
+placed n r = allInside n (bodies (present r))
+
+-- ---- the contents: the record's fields, and each body as its bytes
+
+abbrev pub bytesAt : List ℕ → Place → List ℕ
+bytesAt d b = take (b .len) (drop (b .at) d)
+
+pub record VolumeContents : Type 0 where
+  pub drive : ℕ
+  pub serial : ℕ
+  pub unicode : Bool
+  pub label : List ℕ
+
+pub record NetworkContents : Type 0 where
+  pub flags : ℕ
+  pub provider : ℕ
+  pub unicode : Bool
+  pub net : List ℕ
+  pub device : List ℕ
+  pub netUnicode : List ℕ
+  pub deviceUnicode : List ℕ
+
+pub record InfoContents : Type 0 where
+  pub flags : ℕ
+  pub long : Bool
+  pub volume : VolumeContents
+  pub local : List ℕ
+  pub network : NetworkContents
+  pub suffix : List ℕ
+  pub localUnicode : List ℕ
+  pub suffixUnicode : List ℕ
+
+pub record Contents : Type 0 where
+  pub header : Header
+  pub items : List ℕ
+  pub info : InfoContents
+  pub name : List ℕ
+  pub relative : List ℕ
+  pub workdir : List ℕ
+  pub arguments : List ℕ
+  pub icon : List ℕ
+  pub blocks : List ℕ
+
+abbrev pub volumeContents : List ℕ → Volume → VolumeContents
+volumeContents d v = record {
+  drive = v .drive;
+  serial = v .serial;
+  unicode = labelKind (v .label);
+  label = bytesAt d (labelPlace (v .label));
+}
+
+abbrev pub networkContents : List ℕ → Network → NetworkContents
+networkContents d n = record {
+  flags = n .flags;
+  provider = n .provider;
+  unicode = n .unicode;
+  net = bytesAt d (n .net);
+  device = bytesAt d (n .device);
+  netUnicode = bytesAt d (n .«net_unicode»);
+  deviceUnicode = bytesAt d (n .«device_unicode»);
+}
+
+abbrev pub infoContents : List ℕ → Info → InfoContents
+infoContents d i = record {
+  flags = i .flags;
+  long = i .long;
+  volume = volumeContents d (i .volume);
+  local = bytesAt d (i .local);
+  network = networkContents d (i .network);
+  suffix = bytesAt d (i .suffix);
+  localUnicode = bytesAt d (i .«local_unicode»);
+  suffixUnicode = bytesAt d (i .«suffix_unicode»);
+}
+
+abbrev pub bodiesOf : List ℕ → Record → Contents
+bodiesOf d r = record {
+  header = r .header;
+  items = bytesAt d (r .items);
+  info = infoContents d (r .info);
+  name = bytesAt d (r .name);
+  relative = bytesAt d (r .relative);
+  workdir = bytesAt d (r .workdir);
+  arguments = bytesAt d (r .arguments);
+  icon = bytesAt d (r .icon);
+  blocks = bytesAt d (r .blocks);
+}
+
+-- d is the body buffer
+unfoldable pub contents : List ℕ → Record → Contents
+unfolding present
+contents d r = bodiesOf d (present r)
+
+-- Two records are the same when their fields are equal and each body has the same bytes, wherever it stands
+unfoldable pub Same : List ℕ → Record → List ℕ → Record → Type 0
+unfolding contents
+Same d r e q = contents d r ≡ contents e q

@@ -1,0 +1,76 @@
+-- Header, 76 bytes.
+use Prim.Native.Nat.{ℕ, _-_, _/_, _%_, _^_}
+use mathlib.Core.List.{List, [], _∷_}
+use mathlib.Core.Bool.{Bool, not, _&&_, _||_}
+use lib.ListN.{length, take}
+use lib.Dec.{leb, ltb, eqb}
+use lib.IntN.{ℤ, pos, negsuc}
+use Rattle.octets.specs.Numbers.{number, numberAt, u16At, u32At, u64At}
+use Rattle.format.specs.declared.Header.{Header}
+use Rattle.format.specs.declared.Fault.the-variants.{Cut as CUT, Magic as MAGIC, Head as HEAD}
+use Rattle.format.specs.Tests.{Test, _else_, tests, got, Reader, choose, bit}
+
+-- 01 14 02 00, 00 00 00 00, C0 00 00 00, 00 00 00 46
+abbrev pub classIdentifier : List ℕ
+classIdentifier =
+    0x01 ∷ 0x14 ∷ 0x02 ∷ 0x00
+    ∷ 0x00 ∷ 0x00 ∷ 0x00 ∷ 0x00
+    ∷ 0xC0 ∷ 0x00 ∷ 0x00 ∷ 0x00
+    ∷ 0x00 ∷ 0x00 ∷ 0x00 ∷ 0x46
+    ∷ []
+
+-- HeaderSize 0x4C, then the class identifier
+unfoldable pub magic : List ℕ → Bool
+unfolding number
+magic l = eqb (u32At l 0) 0x4C && eqb (numberAt 16 l 4) (number classIdentifier)
+
+-- LinkFlags has bits 27 to 31 zero
+abbrev pub flagsOk : ℕ → Bool
+flagsOk f = eqb (f / 2 ^ 27) 0
+
+-- FileAttributes has bits 3, 6 and 15 to 31 zero
+abbrev pub attributesOk : ℕ → Bool
+attributesOk a = not (bit 3 a) && not (bit 6 a) && eqb (a / 2 ^ 15) 0
+
+abbrev pub among : ℕ → ℕ → ℕ → Bool
+among a b x = leb a x && leb x b
+
+-- HotKey is 0, or its low byte is in 30-39, 41-5A, 70-87 or 90-91 hex and its high byte is 0 to 7
+abbrev pub hotkeyOk : ℕ → Bool
+hotkeyOk h =
+    eqb h 0
+    || ((among 0x30 0x39 (h % 256) || among 0x41 0x5A (h % 256) || among 0x70 0x87 (h % 256) || among 0x90 0x91 (h % 256)) && leb (h / 256) 7)
+
+-- l is the 76 bytes
+abbrev pub headerRules : List ℕ → List Test
+headerRules l =
+    magic l else MAGIC
+    ∷ flagsOk (u32At l 20) else HEAD
+    ∷ attributesOk (u32At l 24) else HEAD
+    ∷ hotkeyOk (u16At l 64) else HEAD
+    ∷ eqb (numberAt 10 l 66) 0 else HEAD
+    ∷ []
+
+-- 32 bits as a signed number
+unfoldable pub signed : ℕ → ℤ
+signed x = choose (ltb x 2147483648) (pos x) (negsuc (4294967295 - x))
+
+abbrev pub headerFields : List ℕ → Header
+headerFields l = record {
+  flags = u32At l 20;
+  attributes = u32At l 24;
+  creation = u64At l 28;
+  access = u64At l 36;
+  write = u64At l 44;
+  size = u32At l 52;
+  icon = signed (u32At l 56);
+  command = u32At l 60;
+  hotkey = u16At l 64;
+}
+
+abbrev pub header : Reader Header
+header p s = tests p (leb 76 (length s) else CUT ∷ headerRules (take 76 s)) (got (headerFields (take 76 s)) 76)
+
+-- The window shown is 3 or 7 where ShowCommand is that, and 1 otherwise
+abbrev pub windowShown : ℕ → ℕ
+windowShown c = choose (eqb c 3) 3 (choose (eqb c 7) 7 1)

@@ -1,0 +1,91 @@
+-- LinkInfo.
+use Prim.Native.Nat.{ℕ, _+_}
+use mathlib.Core.List.{List, [], _∷_, _++_}
+use mathlib.Core.Bool.{Bool, true, false, not, _&&_, _||_}
+use lib.ListN.{length, take, drop}
+use lib.Dec.{leb, eqb}
+use Rattle.octets.specs.Numbers.{u32At}
+use Rattle.format.specs.declared.Info.{Info}
+use Rattle.format.specs.declared.Fault.the-variants.{Cut as CUT, Info as INFO}
+use Rattle.format.specs.Tests.{Test, _else_, tests, got, Reader, bit, noPlace}
+use Rattle.format.specs.Pieces.{Piece, textPiece, textPlace, absentZero, pieceTests}
+use Rattle.format.specs.Volume.{volumePiece, volumeAt, noVolume}
+use Rattle.format.specs.Network.{networkPiece, networkAt, noNetwork}
+
+abbrev pub infoSize : List ℕ → ℕ
+infoSize s = u32At s 0
+
+-- In what follows l is LinkInfo's own bytes, from its start to its declared end.
+abbrev pub infoHead : List ℕ → ℕ
+infoHead l = u32At l 4
+
+abbrev pub longHead : List ℕ → Bool
+longHead l = leb 0x24 (infoHead l)
+
+-- LinkInfoHeaderSize is 0x1C, or at least 0x24 and at most LinkInfoSize
+abbrev pub headOk : List ℕ → Bool
+headOk l = eqb (infoHead l) 0x1C || (longHead l && leb (infoHead l) (length l))
+
+abbrev pub infoFlags : List ℕ → ℕ
+infoFlags l = u32At l 8
+
+-- VolumeID and LocalBasePath are present by bit 0, the network link by bit 1
+abbrev pub hasLocal : List ℕ → Bool
+hasLocal l = bit 0 (infoFlags l)
+
+abbrev pub hasNetwork : List ℕ → Bool
+hasNetwork l = bit 1 (infoFlags l)
+
+-- Offset fields: VolumeID at 12, LocalBasePath 16, network link 20, CommonPathSuffix 24; with a long head LocalBasePathUnicode 28, CommonPathSuffixUnicode 32
+abbrev pub infoPieces : List ℕ → List Piece
+infoPieces l =
+    volumePiece (hasLocal l) l (u32At l 12)
+    ∷ textPiece (hasLocal l) false l (u32At l 16)
+    ∷ networkPiece (hasNetwork l) l (u32At l 20)
+    ∷ textPiece true false l (u32At l 24)
+    ∷ textPiece (longHead l && hasLocal l) true l (u32At l 28)
+    ∷ textPiece (longHead l) true l (u32At l 32)
+    ∷ []
+
+-- then INFO unless the head is right; flags at 8 use bits 0 and 1 only; offset fields of absent parts are 0
+abbrev pub infoRules : List ℕ → List Test
+infoRules l =
+    headOk l else INFO
+    ∷ leb (infoFlags l) 3 else INFO
+    ∷ absentZero (hasLocal l) (u32At l 12) else INFO
+    ∷ absentZero (hasLocal l) (u32At l 16) else INFO
+    ∷ absentZero (hasNetwork l) (u32At l 20) else INFO
+    ∷ (not (longHead l) || absentZero (hasLocal l) (u32At l 28)) else INFO
+    ∷ pieceTests (infoHead l) (infoPieces l)
+
+abbrev pub noInfo : Info
+noInfo = record {
+  flags = 0;
+  long = false;
+  volume = noVolume;
+  local = noPlace;
+  network = noNetwork;
+  suffix = noPlace;
+  «local_unicode» = noPlace;
+  «suffix_unicode» = noPlace;
+}
+
+-- l starts at p in the file
+abbrev pub infoFields : ℕ → List ℕ → Info
+infoFields p l = record {
+  flags = infoFlags l;
+  long = longHead l;
+  volume = volumeAt (hasLocal l) p l (u32At l 12);
+  local = textPlace (hasLocal l) false p l (u32At l 16);
+  network = networkAt (hasNetwork l) p l (u32At l 20);
+  suffix = textPlace true false p l (u32At l 24);
+  «local_unicode» = textPlace (longHead l && hasLocal l) true p l (u32At l 28);
+  «suffix_unicode» = textPlace (longHead l) true p l (u32At l 32);
+}
+
+-- Tests in order: four bytes present (CUT); LinkInfoSize at least 0x1C (INFO); size within the file (CUT); then the rules
+abbrev pub info : Reader Info
+info p s =
+    tests p
+    (leb 4 (length s) else CUT ∷ leb 0x1C (infoSize s) else INFO ∷ leb (infoSize s) (length s) else CUT ∷ infoRules (take (infoSize s) s))
+    (got (infoFields p (take (infoSize s) s)) (infoSize s))

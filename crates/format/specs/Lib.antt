@@ -1,0 +1,17 @@
+pub mod Numbers
+pub mod Tests
+pub mod Header
+pub mod Items
+pub mod Pieces
+pub mod Volume
+pub mod Network
+pub mod Info
+pub mod Strings
+pub mod Blocks
+pub mod Shortcut
+pub mod Contents
+pub mod Ranges
+pub mod Writing
+pub mod Target
+pub mod Listing
+pub mod Probes

@@ -1,0 +1,60 @@
+-- The listing's sections, and a section asked for by name.
+use Prim.Native.Nat.{ℕ, zero, suc, _+_}
+use mathlib.Core.List.{List, [], _∷_, _++_}
+use mathlib.Core.Bool.{Bool, true, false}
+use lib.ListN.{length, take, drop}
+use lib.Dec.{eqb}
+use Rattle.format.specs.Tests.{Outcome, got, refused, choose}
+use Rattle.format.specs.Shortcut.{Section, Sections, shortcut, sum}
+
+-- name, start, length
+pub record Row : Type 0 where
+  pub name : ℕ
+  pub start : ℕ
+  pub size : ℕ
+
+-- Names are header, items, info, name, relative, workdir, arguments, icon, block, end: 0 to 9 in this order
+abbrev pub row : {A : Type 0} → ℕ → Section A → List Row
+row k c = choose (c .there) (record { name = k; start = c .start; size = c .size } ∷ []) []
+
+-- the blocks one after another, then the terminal block, of four bytes
+abbrev pub blockRows : ℕ → List ℕ → List Row
+blockRows p [] = record { name = 9; start = p; size = 4 } ∷ []
+blockRows p (n ∷ ns) = record { name = 8; start = p; size = n } ∷ blockRows (p + n) ns
+
+-- a line per section
+abbrev pub rowsOf : Sections → List Row
+rowsOf c =
+    row 0 (c .0)
+    ++ (row 1 (c .1 .0)
+    ++ (row 2 (c .1 .1 .0)
+    ++ (row 3 (c .1 .1 .1 .0 .0)
+    ++ (row 4 (c .1 .1 .1 .0 .1 .0)
+    ++ (row 5 (c .1 .1 .1 .0 .1 .1 .0)
+    ++ (row 6 (c .1 .1 .1 .0 .1 .1 .1 .0)
+    ++ (row 7 (c .1 .1 .1 .0 .1 .1 .1 .1)
+    ++ blockRows (c .1 .1 .1 .1 .start) (c .1 .1 .1 .1 .read))))))))
+
+abbrev pub rowsBy : Outcome Sections → List Row
+rowsBy (got c n) = rowsOf c
+rowsBy (refused f p) = []
+
+unfoldable pub listing : List ℕ → List Row
+unfolding shortcut
+listing s = rowsBy (shortcut s)
+
+-- ---- a section asked for by name, a number 0 to 9; a block also by its number, from 0
+
+abbrev pub named : ℕ → List Row → List Row
+named k [] = []
+named k (x ∷ xs) = choose (eqb (x .name) k) (x ∷ named k xs) (named k xs)
+
+-- all of it, as listed; what is absent or stands in a refused shortcut is shown empty
+abbrev pub rowBytes : List ℕ → ℕ → List Row → List ℕ
+rowBytes s j [] = []
+rowBytes s zero (x ∷ xs) = take (x .size) (drop (x .start) s)
+rowBytes s (suc j) (x ∷ xs) = rowBytes s j xs
+
+unfoldable pub shown : List ℕ → ℕ → ℕ → List ℕ
+unfolding listing
+shown s name block = rowBytes s (choose (eqb name 8) block 0) (named name (listing s))

@@ -1,0 +1,87 @@
+-- Network link.
+use Prim.Native.Nat.{ℕ, _+_}
+use mathlib.Core.List.{List, [], _∷_, _++_}
+use mathlib.Core.Bool.{Bool, true, false, not, _&&_, _||_}
+use lib.ListN.{length, take, drop}
+use lib.Dec.{leb, ltb}
+use Rattle.octets.specs.Numbers.{u32At}
+use Rattle.format.specs.declared.Network.{Network}
+use Rattle.format.specs.declared.Fault.the-variants.{Piece as PIECE}
+use Rattle.format.specs.Tests.{Test, _else_, all, choose, bit, noPlace}
+use Rattle.format.specs.Pieces.{Piece, textPiece, textPlace, absentZero, pieceTests}
+
+-- In what follows v is the network link's own bytes.
+abbrev pub networkFlags : List ℕ → ℕ
+networkFlags v = u32At v 4
+
+-- Device names are present by bit 0
+abbrev pub hasDevice : List ℕ → Bool
+hasDevice v = bit 0 (networkFlags v)
+
+-- NetNameOffset above 0x14 means that Unicode offsets for net name and device name stand at 20 and 24
+abbrev pub networkUnicode : List ℕ → Bool
+networkUnicode v = ltb 0x14 (u32At v 8)
+
+-- and the head is 0x1C long; otherwise it is 0x14 long
+abbrev pub networkHead : Bool → ℕ
+networkHead unicode = choose unicode 0x1C 0x14
+
+abbrev pub networkSize : List ℕ → ℕ
+networkSize s = u32At s 0
+
+abbrev pub networkPieces : List ℕ → List Piece
+networkPieces v =
+    textPiece true false v (u32At v 8)
+    ∷ textPiece (hasDevice v) false v (u32At v 12)
+    ∷ textPiece (networkUnicode v) true v (u32At v 20)
+    ∷ textPiece (networkUnicode v && hasDevice v) true v (u32At v 24)
+    ∷ []
+
+-- flags at 4, bits 0 and 1 only; NetNameOffset at least 0x14; the head inside the declared size; absent, their offsets are 0;
+-- the strings lie after the head, inside the declared size, and share no byte
+abbrev pub networkRules : List ℕ → List Test
+networkRules v =
+    leb (networkFlags v) 3 else PIECE
+    ∷ leb 0x14 (u32At v 8) else PIECE
+    ∷ leb (networkHead (networkUnicode v)) (length v) else PIECE
+    ∷ absentZero (hasDevice v) (u32At v 12) else PIECE
+    ∷ (not (networkUnicode v) || absentZero (hasDevice v) (u32At v 24)) else PIECE
+    ∷ pieceTests (networkHead (networkUnicode v)) (networkPieces v)
+
+-- s is LinkInfo's bytes from the network link on; size at least 0x14
+abbrev pub networkTests : List ℕ → List Test
+networkTests s =
+    leb 4 (length s) else PIECE
+    ∷ leb (networkSize s) (length s) else PIECE
+    ∷ leb 0x14 (networkSize s) else PIECE
+    ∷ networkRules (take (networkSize s) s)
+
+abbrev pub networkPiece : Bool → List ℕ → ℕ → Piece
+networkPiece present l o = record { present = present; offset = o; whole = all (networkTests (drop o l)); size = networkSize (drop o l) }
+
+abbrev pub noNetwork : Network
+noNetwork = record {
+  flags = 0;
+  provider = 0;
+  unicode = false;
+  net = noPlace;
+  device = noPlace;
+  «net_unicode» = noPlace;
+  «device_unicode» = noPlace;
+}
+
+-- v starts at p in the file; provider type at 16, kept where bit 1 is set, else ignored, as an absent part
+abbrev pub networkFields : ℕ → List ℕ → Network
+networkFields p v = record {
+  flags = networkFlags v;
+  provider = choose (bit 1 (networkFlags v)) (u32At v 16) 0;
+  unicode = networkUnicode v;
+  net = textPlace true false p v (u32At v 8);
+  device = textPlace (hasDevice v) false p v (u32At v 12);
+  «net_unicode» = textPlace (networkUnicode v) true p v (u32At v 20);
+  «device_unicode» = textPlace (networkUnicode v && hasDevice v) true p v (u32At v 24);
+}
+
+-- l starts at p in the file
+abbrev pub networkAt : Bool → ℕ → List ℕ → ℕ → Network
+networkAt present p l o = choose present (networkFields (p + o) (take (networkSize (drop o l)) (drop o l))) noNetwork

@@ -1,0 +1,33 @@
+-- Numbers returned: what this paper's table calls each fault, and the number and the value of every answer.
+use Prim.Native.Nat.{ℕ}
+use Rattle.format.specs.declared.Fault.{Fault}
+use Rattle.format.specs.declared.Fault.the-variants.{Long, Cut, Magic, Head, Items, Info, Piece, Block, Trail, Place, Unwritable, Room, NoTarget}
+use Rattle.format.specs.declared.Verdict.{Verdict}
+use Rattle.format.specs.declared.Verdict.the-variants.{Accepted, Refused}
+
+-- No | Name
+unfoldable pub numberOf : Fault → ℕ
+numberOf Long = 1
+numberOf Cut = 2
+numberOf Magic = 3
+numberOf Head = 4
+numberOf Items = 5
+numberOf Info = 6
+numberOf Piece = 7
+numberOf Block = 8
+numberOf Trail = 9
+numberOf Place = 10
+numberOf Unwritable = 11
+numberOf Room = 12
+numberOf NoTarget = 13
+
+-- an accepted answer is 0 OK
+unfoldable pub answerNumber : Verdict → ℕ
+unfolding numberOf
+answerNumber (Accepted n) = 0
+answerNumber (Refused f p) = numberOf f
+
+-- the length of a success, the position of a refusal
+unfoldable pub answerValue : Verdict → ℕ
+answerValue (Accepted n) = n
+answerValue (Refused f p) = p

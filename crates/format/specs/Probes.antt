@@ -1,0 +1,155 @@
+-- Probe shortcuts: P1 to P12 as rows of a single table.
+use Prim.Native.Nat.{ℕ, zero, suc, _+_}
+use mathlib.Core.List.{List, [], _∷_, _++_}
+use mathlib.Core.Bool.{Bool, true, false, _&&_}
+use lib.ListN.{length, replicate}
+use lib.Dec.{eqb}
+use Rattle.octets.specs.Numbers.{little}
+use Rattle.format.specs.declared.Label.the-variants.{Byte}
+use Rattle.format.specs.declared.Header.{Header}
+use Rattle.format.specs.declared.Info.{Info}
+use Rattle.format.specs.declared.Record.{Record}
+use Rattle.format.specs.declared.Verdict.{Verdict}
+use Rattle.format.specs.Numbers.{answerNumber, answerValue}
+use Rattle.format.specs.Tests.{Outcome, place, noPlace}
+use Rattle.format.specs.Volume.{noVolume}
+use Rattle.format.specs.Network.{noNetwork}
+use Rattle.format.specs.Shortcut.{reading, verdictOf, noHeader, noRecord}
+use Rattle.format.specs.Writing.{writing, outputOf}
+use Rattle.format.specs.Listing.{Row, listing}
+
+-- ---- the bytes
+
+abbrev pub zeros : ℕ → List ℕ
+zeros n = replicate n 0
+
+-- a header with these LinkFlags and this HotKey, and all else zero
+abbrev pub headerOf : ℕ → ℕ → List ℕ
+headerOf flags hotkey =
+    (0x4C ∷ 0 ∷ 0 ∷ 0 ∷ 0x01 ∷ 0x14 ∷ 0x02 ∷ 0 ∷ 0 ∷ 0 ∷ 0 ∷ 0 ∷ 0xC0 ∷ 0 ∷ 0 ∷ 0 ∷ 0 ∷ 0 ∷ 0 ∷ 0x46 ∷ [])
+    ++ little 4 flags
+    ++ zeros 40
+    ++ little 2 hotkey
+    ++ zeros 10
+
+-- Z with flags and a section added to it
+abbrev pub withSection : ℕ → List ℕ → List ℕ
+withSection flags x = headerOf flags 0 ++ x ++ zeros 4
+
+abbrev pub Z : List ℕ
+Z = withSection 0 []
+
+-- P9's section: count 3, then 2D 00 67 00 31 00
+abbrev pub dashG1 : List ℕ
+dashG1 = 0x03 ∷ 0x00 ∷ 0x2D ∷ 0x00 ∷ 0x67 ∷ 0x00 ∷ 0x31 ∷ 0x00 ∷ []
+
+-- P10's LinkInfo of size 0x1D, flags 0
+abbrev pub smallInfo : ℕ → ℕ → List ℕ
+smallInfo head suffix = little 4 0x1D ++ little 4 head ++ zeros 16 ++ little 4 suffix ++ zeros 1
+
+-- P12's record: LinkFlags 2, LinkInfo flags 1, a local path of one zero byte, label and suffix empty
+abbrev pub zeroPath : Record
+zeroPath = record {
+  header = record {
+    flags = 2;
+    attributes = 0;
+    creation = 0;
+    access = 0;
+    write = 0;
+    size = 0;
+    icon = noHeader .icon;
+    command = 0;
+    hotkey = 0;
+  };
+  items = noPlace;
+  info = record {
+    flags = 1;
+    long = false;
+    volume = noVolume;
+    local = place 0 1;
+    network = noNetwork;
+    suffix = noPlace;
+    «local_unicode» = noPlace;
+    «suffix_unicode» = noPlace;
+  };
+  name = noPlace;
+  relative = noPlace;
+  workdir = noPlace;
+  arguments = noPlace;
+  icon = noPlace;
+  blocks = noPlace;
+}
+
+-- ---- rows
+
+-- reading a file answers a number and a value; the file's listing has these rows; writing a record over a body buffer into a lent buffer answers a number
+-- and a value and leaves these bytes in it
+pub data Probe : Type 0 where
+  reads : List ℕ → ℕ → ℕ → Probe
+  lists : List ℕ → List Row → Probe
+  writes : Record → List ℕ → List ℕ → ℕ → ℕ → List ℕ → Probe
+
+abbrev pub sameNumbers : List ℕ → List ℕ → Bool
+sameNumbers [] [] = true
+sameNumbers [] (y ∷ ys) = false
+sameNumbers (x ∷ xs) [] = false
+sameNumbers (x ∷ xs) (y ∷ ys) = eqb x y && sameNumbers xs ys
+
+abbrev pub rowNumbers : List Row → List ℕ
+rowNumbers [] = []
+rowNumbers (x ∷ xs) = x .name ∷ x .start ∷ x .size ∷ rowNumbers xs
+
+abbrev pub answers : Verdict → ℕ → ℕ → Bool
+answers v number value = eqb (answerNumber v) number && eqb (answerValue v) value
+
+unfoldable pub holds : Probe → Bool
+unfolding reading listing writing outputOf answerNumber answerValue
+holds (reads s number value) = answers (reading s .verdict) number value
+holds (lists s rows) = sameNumbers (rowNumbers (listing s)) (rowNumbers rows)
+holds (writes r d out number value after) =
+    answers (verdictOf (writing r d (length out))) number value && sameNumbers (outputOf (writing r d (length out)) out) after
+
+unfoldable pub allHold : List Probe → Bool
+unfolding holds
+allHold [] = true
+allHold (x ∷ xs) = holds x && allHold xs
+
+abbrev pub rowAt : ℕ → ℕ → ℕ → Row
+rowAt k p n = record { name = k; start = p; size = n }
+
+-- a lent buffer whose bytes are none of the shortcut's
+abbrev pub lent : ℕ → List ℕ
+lent n = replicate n 0xEE
+
+unfoldable pub table : List Probe
+unfolding reading little
+table =
+    -- P1 to P4
+    reads [] 2 0
+    ∷ reads Z 0 80
+    ∷ lists Z (rowAt 0 0 76 ∷ rowAt 9 76 4 ∷ [])
+    ∷ reads (headerOf 0 0 ++ zeros 3) 2 76
+    ∷ reads (Z ++ zeros 1) 9 80
+    -- P5
+    ∷ reads (headerOf 0 0 ++ little 4 3) 0 80
+    ∷ reads (headerOf 0 0 ++ little 4 4) 8 76
+    -- P6
+    ∷ reads (withSection 0x08000000 []) 4 0
+    ∷ reads (headerOf 0 0x0646 ++ zeros 4) 0 80
+    ∷ reads (headerOf 0 0x0600 ++ zeros 4) 4 0
+    -- P7, P8
+    ∷ reads (withSection 1 (0x02 ∷ 0x00 ∷ 0x00 ∷ 0x00 ∷ [])) 0 84
+    ∷ reads (withSection 1 (0x03 ∷ 0x00 ∷ 0x01 ∷ 0x00 ∷ 0x00 ∷ [])) 5 76
+    -- P9
+    ∷ reads (withSection 0xA0 dashG1) 0 88
+    ∷ lists (withSection 0xA0 dashG1) (rowAt 0 0 76 ∷ rowAt 6 76 8 ∷ rowAt 9 84 4 ∷ [])
+    ∷ reads (withSection 0x20 dashG1) 2 81
+    -- P10
+    ∷ reads (withSection 2 (smallInfo 0x1C 0x1C)) 0 109
+    ∷ reads (withSection 2 (smallInfo 0x1C 0x1B)) 7 76
+    ∷ reads (withSection 2 (smallInfo 0x20 0x1C)) 6 76
+    -- P11, P12
+    ∷ writes (reading Z .held) Z (lent 79) 12 0 (lent 79)
+    ∷ writes (reading Z .held) Z (lent 80) 0 80 Z
+    ∷ writes zeroPath (0x00 ∷ []) (lent 200) 11 0 (lent 200)
+    ∷ []

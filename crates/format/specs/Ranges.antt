@@ -1,0 +1,28 @@
+-- What the types of a record's fields give: each number fits its field.
+use Prim.Native.Nat.{ℕ, _<_, _^_}
+use lib.IntN.{ℤ, pos, negsuc}
+use Rattle.format.specs.declared.Header.{Header}
+use Rattle.format.specs.declared.Record.{Record}
+
+abbrev pub FitsSigned : ℤ → Type 0
+FitsSigned (pos n) = n < 2 ^ 31
+FitsSigned (negsuc n) = n < 2 ^ 31
+
+pub record FitsHeader (h : Header) : Type 0 where
+  pub flags : h .flags < 2 ^ 32
+  pub attributes : h .attributes < 2 ^ 32
+  pub creation : h .creation < 2 ^ 64
+  pub access : h .access < 2 ^ 64
+  pub write : h .write < 2 ^ 64
+  pub size : h .size < 2 ^ 32
+  pub icon : FitsSigned (h .icon)
+  pub command : h .command < 2 ^ 32
+  pub hotkey : h .hotkey < 2 ^ 16
+
+pub record FitsRecord (r : Record) : Type 0 where
+  pub header : FitsHeader (r .header)
+  pub flags : r .info .flags < 2 ^ 32
+  pub drive : r .info .volume .drive < 2 ^ 32
+  pub serial : r .info .volume .serial < 2 ^ 32
+  pub networkFlags : r .info .network .flags < 2 ^ 32
+  pub provider : r .info .network .provider < 2 ^ 32

@@ -1,0 +1,133 @@
+-- The whole shortcut: LONG first, then the sections in file order, TRAIL last.
+use Prim.Native.Nat.{ℕ, _+_}
+use mathlib.Core.List.{List, [], _∷_}
+use mathlib.Core.Bool.{Bool, true, false}
+use lib.ListN.{length}
+use lib.Dec.{leb, eqb}
+use lib.IntN.{pos}
+use Rattle.format.specs.declared.Fault.the-variants.{Long as LONG, Trail as TRAIL}
+use Rattle.format.specs.declared.Verdict.{Verdict}
+use Rattle.format.specs.declared.Verdict.the-variants.{Accepted, Refused}
+use Rattle.format.specs.declared.Place.{Place}
+use Rattle.format.specs.declared.Header.{Header}
+use Rattle.format.specs.declared.Info.{Info}
+use Rattle.format.specs.declared.Record.{Record}
+use Rattle.format.specs.declared.Reading.{Reading}
+use Rattle.format.specs.Tests.{Test, _else_, tests, Outcome, got, refused, Reader, andThen, chain, _then_, optional, choose, bit, place, noPlace}
+use Rattle.format.specs.Header.{header}
+use Rattle.format.specs.Items.{items}
+use Rattle.format.specs.Info.{info, noInfo}
+use Rattle.format.specs.Strings.{string}
+use Rattle.format.specs.Blocks.{blocks}
+
+-- A shortcut has at most 65,536 bytes
+abbrev pub most : ℕ
+most = 65536
+
+-- a section as it was found: whether it is there, its first byte, its length, and what was read
+pub record Section (A : Type 0) : Type 0 where
+  pub there : Bool
+  pub start : ℕ
+  pub size : ℕ
+  pub read : A
+
+abbrev pub absent : {A : Type 0} → A → Section A
+absent d = record { there = false; start = 0; size = 0; read = d }
+
+abbrev pub found : {A : Type 0} → Reader A → Reader (Section A)
+found P p s = andThen (P p s) (λ a n. got (record { there = true; start = p; size = n; read = a }) n)
+
+abbrev pub section : {A : Type 0} → Bool → A → Reader A → Reader (Section A)
+section there d P = optional there (absent d) (found P)
+
+-- Flag bits 2 to 6 in order; two bytes each where bit 7 is set
+abbrev pub stringSection : ℕ → ℕ → Reader (Section Place)
+stringSection flags k = section (bit k flags) noPlace (string (bit 7 flags))
+
+abbrev pub Strings : Type 0
+Strings = Section Place × (Section Place × (Section Place × (Section Place × Section Place)))
+
+-- name, relative path, working directory, arguments, icon
+abbrev pub strings : ℕ → Reader Strings
+strings flags =
+    stringSection flags 2 then stringSection flags 3 then stringSection flags 4 then stringSection flags 5 then stringSection flags 6
+
+abbrev pub Tail : Type 0
+Tail = Section Place × (Section Info × (Strings × Section (List ℕ)))
+
+-- the sections after the header, by its LinkFlags
+abbrev pub tail : ℕ → Reader Tail
+tail flags =
+    section (bit 0 flags) noPlace items then section (bit 1 flags) noInfo info then strings flags then found blocks
+
+abbrev pub Sections : Type 0
+Sections = Section Header × Tail
+
+unfoldable pub sections : Reader Sections
+sections = chain (found header) (λ h. tail (h .read .flags))
+
+-- over 65,536 bytes: LONG; bytes after the terminal block: TRAIL, at the first of them
+unfoldable pub shortcut : List ℕ → Outcome Sections
+unfolding sections
+shortcut s =
+    tests most (leb (length s) most else LONG ∷ [])
+    (andThen (sections 0 s) (λ c n. tests n (eqb n (length s) else TRAIL ∷ []) (got c n)))
+
+-- ---- the record that reading gives
+
+abbrev pub sum : List ℕ → ℕ
+sum [] = 0
+sum (n ∷ ns) = n + sum ns
+
+-- The record holds all blocks before the terminal as one body
+abbrev pub recordOf : Sections → Record
+recordOf c = record {
+  header = c .0 .read;
+  items = c .1 .0 .read;
+  info = c .1 .1 .0 .read;
+  name = c .1 .1 .1 .0 .0 .read;
+  relative = c .1 .1 .1 .0 .1 .0 .read;
+  workdir = c .1 .1 .1 .0 .1 .1 .0 .read;
+  arguments = c .1 .1 .1 .0 .1 .1 .1 .0 .read;
+  icon = c .1 .1 .1 .0 .1 .1 .1 .1 .read;
+  blocks = place (c .1 .1 .1 .1 .start) (sum (c .1 .1 .1 .1 .read));
+}
+
+abbrev pub noHeader : Header
+noHeader = record {
+  flags = 0;
+  attributes = 0;
+  creation = 0;
+  access = 0;
+  write = 0;
+  size = 0;
+  icon = pos 0;
+  command = 0;
+  hotkey = 0;
+}
+
+abbrev pub noRecord : Record
+noRecord = record {
+  header = noHeader;
+  items = noPlace;
+  info = noInfo;
+  name = noPlace;
+  relative = noPlace;
+  workdir = noPlace;
+  arguments = noPlace;
+  icon = noPlace;
+  blocks = noPlace;
+}
+
+-- an accepted answer carries the length, a refusal its fault and position
+abbrev pub verdictOf : {A : Type 0} → Outcome A → Verdict
+verdictOf (got a n) = Accepted n
+verdictOf (refused f p) = Refused f p
+
+abbrev pub heldBy : Outcome Sections → Record
+heldBy (got c n) = recordOf c
+heldBy (refused f p) = noRecord
+
+unfoldable pub reading : List ℕ → Reading
+unfolding shortcut
+reading s = record { verdict = verdictOf (shortcut s); held = heldBy (shortcut s) }

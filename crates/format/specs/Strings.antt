@@ -1,0 +1,21 @@
+-- Strings.
+use Prim.Native.Nat.{ℕ, _+_}
+use mathlib.Core.List.{List, [], _∷_}
+use mathlib.Core.Bool.{Bool}
+use lib.ListN.{length}
+use lib.Dec.{leb}
+use Rattle.octets.specs.Numbers.{u16At}
+use Rattle.octets.specs.Characters.{bytesOf}
+use Rattle.format.specs.declared.Place.{Place}
+use Rattle.format.specs.declared.Fault.the-variants.{Cut as CUT}
+use Rattle.format.specs.Tests.{Test, _else_, tests, got, Reader, place}
+
+-- Each is a 2-byte count of characters and the characters, two bytes each in Unicode, else one
+abbrev pub stringSize : Bool → List ℕ → ℕ
+stringSize unicode s = 2 + bytesOf unicode (u16At s 0)
+
+-- Too few bytes: CUT
+abbrev pub string : Bool → Reader Place
+string unicode p s =
+    tests p (leb 2 (length s) else CUT ∷ leb (stringSize unicode s) (length s) else CUT ∷ [])
+    (got (place (p + 2) (bytesOf unicode (u16At s 0))) (stringSize unicode s))

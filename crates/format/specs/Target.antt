@@ -1,0 +1,29 @@
+-- Target text.
+use Prim.Native.Nat.{ℕ}
+use mathlib.Core.List.{List, [], _∷_, _++_}
+use mathlib.Core.Bool.{Bool, not, _&&_, _||_}
+use lib.ListN.{length}
+use lib.Dec.{leb}
+use Rattle.format.specs.declared.Record.{Record}
+use Rattle.format.specs.declared.Fault.the-variants.{Room as ROOM, NoTarget as NOTARGET}
+use Rattle.format.specs.Tests.{Outcome, got, _else_, tests, andThen, choose, bit}
+use Rattle.format.specs.Shortcut.{shortcut, recordOf}
+use Rattle.format.specs.Contents.{bytesAt}
+
+-- NOTARGET if flag bit 8 is set or LinkInfo is absent; with neither of LinkInfo's bits 0 and 1 too
+abbrev pub hasTarget : Record → Bool
+hasTarget r =
+    not (bit 8 (r .header .flags)) && bit 1 (r .header .flags) && (bit 0 (r .info .flags) || bit 1 (r .info .flags))
+
+-- With LinkInfo bit 0: local path, then suffix, as bytes. Otherwise with bit 1: net name, then suffix
+abbrev pub targetText : List ℕ → Record → List ℕ
+targetText s r =
+    choose (bit 0 (r .info .flags)) (bytesAt s (r .info .local)) (bytesAt s (r .info .network .net)) ++ bytesAt s (r .info .suffix)
+
+-- The target call tests as reading does, then 13, then 12
+unfoldable pub target : List ℕ → ℕ → Outcome (List ℕ)
+unfolding shortcut
+target s room =
+    andThen (shortcut s) (λ c n.
+    let w = targetText s (recordOf c) in
+    tests 0 (hasTarget (recordOf c) else NOTARGET ∷ leb (length w) room else ROOM ∷ []) (got w (length w)))

@@ -1,0 +1,68 @@
+-- VolumeID.
+use Prim.Native.Nat.{ℕ, _+_}
+use mathlib.Core.List.{List, [], _∷_}
+use mathlib.Core.Bool.{Bool}
+use lib.ListN.{length, take, drop}
+use lib.Dec.{leb, eqb}
+use Rattle.octets.specs.Numbers.{u32At}
+use Rattle.format.specs.declared.Place.{Place}
+use Rattle.format.specs.declared.Label.{Label}
+use Rattle.format.specs.declared.Label.the-variants.{Byte, Unicode}
+use Rattle.format.specs.declared.Volume.{Volume}
+use Rattle.format.specs.declared.Fault.the-variants.{Piece as PIECE}
+use Rattle.format.specs.Tests.{Test, _else_, all, choose, place, noPlace}
+use Rattle.format.specs.Pieces.{Piece, textEnds, textLength}
+
+-- In what follows v is VolumeID's own bytes.
+-- label offset at 12; if that is 0x14, the label is Unicode, at the offset held at 16; otherwise it is a byte string at that offset
+abbrev pub labelUnicode : List ℕ → Bool
+labelUnicode v = eqb (u32At v 12) 0x14
+
+abbrev pub labelOffset : List ℕ → ℕ
+labelOffset v = choose (labelUnicode v) (u32At v 16) (u32At v 12)
+
+-- which is at least 0x14; at least 0x10: the offset fields end there
+abbrev pub labelLeast : Bool → ℕ
+labelLeast unicode = choose unicode 0x14 0x10
+
+abbrev pub volumeSize : List ℕ → ℕ
+volumeSize s = u32At s 0
+
+-- drive type at 4, 0 to 6; the label and its terminator lie inside the declared size
+abbrev pub volumeRules : List ℕ → List Test
+volumeRules v =
+    leb (u32At v 4) 6 else PIECE
+    ∷ leb (labelLeast (labelUnicode v)) (length v) else PIECE
+    ∷ leb (labelLeast (labelUnicode v)) (labelOffset v) else PIECE
+    ∷ textEnds (labelUnicode v) (drop (labelOffset v) v) else PIECE
+    ∷ []
+
+-- s is LinkInfo's bytes from VolumeID on; size at least 0x11
+abbrev pub volumeTests : List ℕ → List Test
+volumeTests s =
+    leb 4 (length s) else PIECE
+    ∷ leb (volumeSize s) (length s) else PIECE
+    ∷ leb 0x11 (volumeSize s) else PIECE
+    ∷ volumeRules (take (volumeSize s) s)
+
+-- a structure counts with its declared size
+abbrev pub volumePiece : Bool → List ℕ → ℕ → Piece
+volumePiece present l o = record { present = present; offset = o; whole = all (volumeTests (drop o l)); size = volumeSize (drop o l) }
+
+abbrev pub labelOf : Bool → Place → Label
+labelOf unicode b = choose unicode (Unicode b) (Byte b)
+
+abbrev pub noVolume : Volume
+noVolume = record { drive = 0; serial = 0; label = Byte noPlace }
+
+-- v starts at p in the file
+abbrev pub volumeFields : ℕ → List ℕ → Volume
+volumeFields p v = record {
+  drive = u32At v 4;
+  serial = u32At v 8;
+  label = labelOf (labelUnicode v) (place (p + labelOffset v) (textLength (labelUnicode v) (drop (labelOffset v) v)));
+}
+
+-- l starts at p in the file
+abbrev pub volumeAt : Bool → ℕ → List ℕ → ℕ → Volume
+volumeAt present p l o = choose present (volumeFields (p + o) (take (volumeSize (drop o l)) (drop o l))) noVolume

@@ -1,0 +1,320 @@
+-- What the writer makes, and when it gives up.
+use Prim.Native.Nat.{ℕ, _+_, _-_}
+use mathlib.Core.List.{List, [], _∷_, _++_}
+use mathlib.Core.Bool.{Bool, true, false, _&&_}
+use lib.ListN.{length, drop, replicate}
+use lib.Dec.{leb, ltb, eqb}
+use lib.IntN.{ℤ, pos, negsuc}
+use Rattle.octets.specs.Numbers.{little}
+use Rattle.octets.specs.Characters.{bytesOf, characters}
+use Rattle.octets.specs.Parts.{put}
+use Rattle.format.specs.declared.Header.{Header}
+use Rattle.format.specs.declared.Record.{Record}
+use Rattle.format.specs.declared.Fault.the-variants.{Place as PLACE, Unwritable as UNWRITABLE, Room as ROOM}
+use Rattle.format.specs.Tests.{Outcome, got, refused, _else_, tests, choose, bit}
+use Rattle.format.specs.Header.{classIdentifier, flagsOk, attributesOk, hotkeyOk}
+use Rattle.format.specs.Items.{itemList}
+use Rattle.format.specs.Pieces.{textLength}
+use Rattle.format.specs.Volume.{labelLeast}
+use Rattle.format.specs.Network.{networkHead}
+use Rattle.format.specs.Blocks.{blocks}
+use Rattle.format.specs.Shortcut.{most}
+use Rattle.format.specs.Contents.{VolumeContents, NetworkContents, InfoContents, Contents, contents, placed}
+
+abbrev pub endToEnd : List (List ℕ) → List ℕ
+endToEnd [] = []
+endToEnd (x ∷ xs) = x ++ endToEnd xs
+
+-- what is absent has no bytes
+abbrev pub ifThere : {A : Type 0} → Bool → (A → List ℕ) → A → List ℕ
+ifThere true f = f
+ifThere false f = λ a. []
+
+-- ---- the header
+
+-- a signed number's 32 bits
+unfoldable pub bits : ℤ → ℕ
+bits (pos n) = n
+bits (negsuc n) = 4294967295 - n
+
+unfoldable pub headerBytes : Header → List ℕ
+unfolding bits
+headerBytes h =
+    endToEnd
+    (little 4 0x4C
+    ∷ classIdentifier
+    ∷ little 4 (h .flags)
+    ∷ little 4 (h .attributes)
+    ∷ little 8 (h .creation)
+    ∷ little 8 (h .access)
+    ∷ little 8 (h .write)
+    ∷ little 4 (h .size)
+    ∷ little 4 (bits (h .icon))
+    ∷ little 4 (h .command)
+    ∷ little 2 (h .hotkey)
+    ∷ little 10 0
+    ∷ [])
+
+-- ---- the item list
+
+unfoldable pub itemsBytes : List ℕ → List ℕ
+itemsBytes x = little 2 (length x + 2) ++ (x ++ 0 ∷ 0 ∷ [])
+
+-- ---- LinkInfo
+
+-- a string with its terminator
+abbrev pub textBytes : Bool → List ℕ → List ℕ
+textBytes unicode x = x ++ replicate (bytesOf unicode 1) 0
+
+-- two offset fields that are there or not
+abbrev pub twoFields : Bool → ℕ → ℕ → List ℕ
+twoFields true x y = little 4 x ++ little 4 y
+twoFields false x y = []
+
+-- Unused fields are zero
+abbrev pub offsetField : Bool → ℕ → List ℕ
+offsetField there o = little 4 (choose there o 0)
+
+-- VolumeID: the label follows its offset fields
+abbrev pub volumeLength : VolumeContents → ℕ
+volumeLength v = labelLeast (v .unicode) + length (textBytes (v .unicode) (v .label))
+
+abbrev pub labelFields : Bool → List ℕ
+labelFields true = little 4 0x14 ++ little 4 0x14
+labelFields false = little 4 0x10
+
+unfoldable pub volumeBytes : VolumeContents → List ℕ
+volumeBytes v =
+    endToEnd
+    (little 4 (volumeLength v)
+    ∷ little 4 (v .drive)
+    ∷ little 4 (v .serial)
+    ∷ labelFields (v .unicode)
+    ∷ textBytes (v .unicode) (v .label)
+    ∷ [])
+
+-- the network link: net name, device name, then the Unicode ones
+module _ (n : NetworkContents) where
+  abbrev pub netBytes : List ℕ
+  netBytes = textBytes false (n .net)
+
+  abbrev pub deviceBytes : List ℕ
+  deviceBytes = ifThere (bit 0 (n .flags)) (textBytes false) (n .device)
+
+  abbrev pub netUnicodeBytes : List ℕ
+  netUnicodeBytes = ifThere (n .unicode) (textBytes true) (n .netUnicode)
+
+  abbrev pub deviceUnicodeBytes : List ℕ
+  deviceUnicodeBytes = ifThere (n .unicode && bit 0 (n .flags)) (textBytes true) (n .deviceUnicode)
+
+  -- where each starts, and where the last ends
+  abbrev pub netStart : ℕ
+  netStart = networkHead (n .unicode)
+
+  abbrev pub deviceStart : ℕ
+  deviceStart = netStart + length netBytes
+
+  abbrev pub netUnicodeStart : ℕ
+  netUnicodeStart = deviceStart + length deviceBytes
+
+  abbrev pub deviceUnicodeStart : ℕ
+  deviceUnicodeStart = netUnicodeStart + length netUnicodeBytes
+
+  abbrev pub networkLength : ℕ
+  networkLength = deviceUnicodeStart + length deviceUnicodeBytes
+
+  unfoldable pub networkBytes : List ℕ
+  networkBytes =
+      endToEnd
+      (little 4 networkLength
+      ∷ little 4 (n .flags)
+      ∷ little 4 netStart
+      ∷ offsetField (bit 0 (n .flags)) deviceStart
+      ∷ little 4 (n .provider)
+      ∷ twoFields (n .unicode) netUnicodeStart (choose (bit 0 (n .flags)) deviceUnicodeStart 0)
+      ∷ netBytes
+      ∷ deviceBytes
+      ∷ netUnicodeBytes
+      ∷ deviceUnicodeBytes
+      ∷ [])
+
+-- LinkInfo has head 0x1C, or 0x24 with Unicode, then VolumeID, local path, network link, suffix, Unicode local path, Unicode suffix, no gaps
+module _ (i : InfoContents) where
+  abbrev pub infoVolumeBytes : List ℕ
+  infoVolumeBytes = ifThere (bit 0 (i .flags)) volumeBytes (i .volume)
+
+  abbrev pub localBytes : List ℕ
+  localBytes = ifThere (bit 0 (i .flags)) (textBytes false) (i .local)
+
+  abbrev pub infoNetworkBytes : List ℕ
+  infoNetworkBytes = ifThere (bit 1 (i .flags)) networkBytes (i .network)
+
+  abbrev pub suffixBytes : List ℕ
+  suffixBytes = textBytes false (i .suffix)
+
+  abbrev pub localUnicodeBytes : List ℕ
+  localUnicodeBytes = ifThere (i .long && bit 0 (i .flags)) (textBytes true) (i .localUnicode)
+
+  abbrev pub suffixUnicodeBytes : List ℕ
+  suffixUnicodeBytes = ifThere (i .long) (textBytes true) (i .suffixUnicode)
+
+  abbrev pub volumeStart : ℕ
+  volumeStart = choose (i .long) 0x24 0x1C
+
+  abbrev pub localStart : ℕ
+  localStart = volumeStart + length infoVolumeBytes
+
+  abbrev pub networkStart : ℕ
+  networkStart = localStart + length localBytes
+
+  abbrev pub suffixStart : ℕ
+  suffixStart = networkStart + length infoNetworkBytes
+
+  abbrev pub localUnicodeStart : ℕ
+  localUnicodeStart = suffixStart + length suffixBytes
+
+  abbrev pub suffixUnicodeStart : ℕ
+  suffixUnicodeStart = localUnicodeStart + length localUnicodeBytes
+
+  abbrev pub infoLength : ℕ
+  infoLength = suffixUnicodeStart + length suffixUnicodeBytes
+
+  unfoldable pub infoBytes : List ℕ
+  unfolding volumeBytes networkBytes
+  infoBytes =
+      endToEnd
+      (little 4 infoLength
+      ∷ little 4 volumeStart
+      ∷ little 4 (i .flags)
+      ∷ offsetField (bit 0 (i .flags)) volumeStart
+      ∷ offsetField (bit 0 (i .flags)) localStart
+      ∷ offsetField (bit 1 (i .flags)) networkStart
+      ∷ little 4 suffixStart
+      ∷ twoFields (i .long) (choose (bit 0 (i .flags)) localUnicodeStart 0) suffixUnicodeStart
+      ∷ infoVolumeBytes
+      ∷ localBytes
+      ∷ infoNetworkBytes
+      ∷ suffixBytes
+      ∷ localUnicodeBytes
+      ∷ suffixUnicodeBytes
+      ∷ [])
+
+-- ---- strings, blocks and the whole
+
+unfoldable pub stringBytes : Bool → List ℕ → List ℕ
+stringBytes unicode x = little 2 (length (characters unicode x)) ++ x
+
+-- with a zero terminal block
+abbrev pub blocksBytes : List ℕ → List ℕ
+blocksBytes x = x ++ little 4 0
+
+abbrev pub stringThere : Contents → ℕ → List ℕ → List ℕ
+stringThere c k x = ifThere (bit k (c .header .flags)) (stringBytes (bit 7 (c .header .flags))) x
+
+-- The sections in file order
+unfoldable pub canonical : Contents → List ℕ
+unfolding headerBytes itemsBytes infoBytes stringBytes
+canonical c =
+    endToEnd
+    (headerBytes (c .header)
+    ∷ ifThere (bit 0 (c .header .flags)) itemsBytes (c .items)
+    ∷ ifThere (bit 1 (c .header .flags)) infoBytes (c .info)
+    ∷ stringThere c 2 (c .name)
+    ∷ stringThere c 3 (c .relative)
+    ∷ stringThere c 4 (c .workdir)
+    ∷ stringThere c 5 (c .arguments)
+    ∷ stringThere c 6 (c .icon)
+    ∷ blocksBytes (c .blocks)
+    ∷ [])
+
+-- ---- which contents can be written
+
+abbrev pub every : List Bool → Bool
+every [] = true
+every (b ∷ bs) = b && every bs
+
+abbrev pub writableIf : {A : Type 0} → Bool → (A → Bool) → A → Bool
+writableIf true f = f
+writableIf false f = λ a. true
+
+abbrev pub writableHeader : Header → Bool
+writableHeader h = every (flagsOk (h .flags) ∷ attributesOk (h .attributes) ∷ hotkeyOk (h .hotkey) ∷ [])
+
+abbrev pub writableItems : List ℕ → Bool
+writableItems x = ltb (length x + 2) 65536 && itemList (x ++ 0 ∷ 0 ∷ [])
+
+-- whole characters, none of them zero
+abbrev pub writableText : Bool → List ℕ → Bool
+writableText unicode x = eqb (textLength unicode x) (length x)
+
+abbrev pub writableVolume : VolumeContents → Bool
+writableVolume v = leb (v .drive) 6 && writableText (v .unicode) (v .label)
+
+abbrev pub writableNetwork : NetworkContents → Bool
+writableNetwork n =
+    every
+    (leb (n .flags) 3
+    ∷ writableText false (n .net)
+    ∷ writableIf (bit 0 (n .flags)) (writableText false) (n .device)
+    ∷ writableIf (n .unicode) (writableText true) (n .netUnicode)
+    ∷ writableIf (n .unicode && bit 0 (n .flags)) (writableText true) (n .deviceUnicode)
+    ∷ [])
+
+abbrev pub writableInfo : InfoContents → Bool
+writableInfo i =
+    every
+    (leb (i .flags) 3
+    ∷ writableIf (bit 0 (i .flags)) writableVolume (i .volume)
+    ∷ writableIf (bit 0 (i .flags)) (writableText false) (i .local)
+    ∷ writableIf (bit 1 (i .flags)) writableNetwork (i .network)
+    ∷ writableText false (i .suffix)
+    ∷ writableIf (i .long && bit 0 (i .flags)) (writableText true) (i .localUnicode)
+    ∷ writableIf (i .long) (writableText true) (i .suffixUnicode)
+    ∷ [])
+
+-- whole characters, as many as a count can hold
+abbrev pub writableString : Bool → List ℕ → Bool
+writableString unicode x =
+    eqb (bytesOf unicode (length (characters unicode x))) (length x) && ltb (length (characters unicode x)) 65536
+
+-- read with a terminal block after them, they take exactly their own bytes and it
+abbrev pub takes : {A : Type 0} → ℕ → Outcome A → Bool
+takes n (got a m) = eqb m n
+takes n (refused f p) = false
+
+abbrev pub writableBlocks : List ℕ → Bool
+writableBlocks x = takes (length x + 4) (blocks 0 (x ++ little 4 0))
+
+abbrev pub writableStringOf : Contents → ℕ → List ℕ → Bool
+writableStringOf c k x = writableIf (bit k (c .header .flags)) (writableString (bit 7 (c .header .flags))) x
+
+unfoldable pub writable : Contents → Bool
+unfolding canonical
+writable c =
+    every
+    (writableHeader (c .header)
+    ∷ writableIf (bit 0 (c .header .flags)) writableItems (c .items)
+    ∷ writableIf (bit 1 (c .header .flags)) writableInfo (c .info)
+    ∷ writableStringOf c 2 (c .name)
+    ∷ writableStringOf c 3 (c .relative)
+    ∷ writableStringOf c 4 (c .workdir)
+    ∷ writableStringOf c 5 (c .arguments)
+    ∷ writableStringOf c 6 (c .icon)
+    ∷ writableBlocks (c .blocks)
+    ∷ leb (length (canonical c)) most
+    ∷ [])
+
+-- ---- the call: d is the body buffer. Writing tests 10, 11, 12; the position is 0
+
+unfoldable pub writing : Record → List ℕ → ℕ → Outcome (List ℕ)
+unfolding placed contents canonical writable
+writing r d room =
+    let w = canonical (contents d r) in
+    tests 0 (placed (length d) r else PLACE ∷ writable (contents d r) else UNWRITABLE ∷ leb (length w) room else ROOM ∷ [])
+    (got w (length w))
+
+-- Success changes only the first n bytes, n being the length returned; every refusal changes no byte of the output buffer
+unfoldable pub outputOf : Outcome (List ℕ) → List ℕ → List ℕ
+unfolding put
+outputOf (got w n) out = put out 0 w
+outputOf (refused f p) out = out

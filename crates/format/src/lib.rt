@@ -1,0 +1,94 @@
+// The record of a shortcut, and the answers that calls give.
+
+// Where a body stands in the body buffer, and how many bytes it has.
+pub struct Place {
+    pub at: usize,
+    pub len: usize,
+}
+
+// The nine header fields that vary.
+pub struct Header {
+    pub flags: u32,
+    pub attributes: u32,
+    pub creation: u64,
+    pub access: u64,
+    pub write: u64,
+    pub size: u32,
+    pub icon: i32,
+    pub command: u32,
+    pub hotkey: u16,
+}
+
+// A volume label is one of two kinds.
+pub enum Label {
+    Byte(Place),
+    Unicode(Place),
+}
+
+pub struct Volume {
+    pub drive: u32,
+    pub serial: u32,
+    pub label: Label,
+}
+
+pub struct Network {
+    pub flags: u32,
+    pub provider: u32,
+    pub unicode: bool,
+    pub net: Place,
+    pub device: Place,
+    pub net_unicode: Place,
+    pub device_unicode: Place,
+}
+
+pub struct Info {
+    pub flags: u32,
+    pub long: bool,
+    pub volume: Volume,
+    pub local: Place,
+    pub network: Network,
+    pub suffix: Place,
+    pub local_unicode: Place,
+    pub suffix_unicode: Place,
+}
+
+pub struct Record {
+    pub header: Header,
+    pub items: Place,
+    pub info: Info,
+    pub name: Place,
+    pub relative: Place,
+    pub workdir: Place,
+    pub arguments: Place,
+    pub icon: Place,
+    pub blocks: Place,
+}
+
+// Why a call refuses: the names of the table of numbers.
+pub enum Fault {
+    Long,
+    Cut,
+    Magic,
+    Head,
+    Items,
+    Info,
+    Piece,
+    Block,
+    Trail,
+    Place,
+    Unwritable,
+    Room,
+    NoTarget,
+}
+
+// Accepted with the length, or refused with the fault and its position.
+pub enum Verdict {
+    Accepted(usize),
+    Refused(Fault, usize),
+}
+
+// What reading answers: the record stands beside the verdict, all zeros where that is a refusal.
+pub struct Reading {
+    pub verdict: Verdict,
+    pub held: Record,
+}

@@ -1,0 +1,7 @@
+pub mod NumberLaws
+pub mod CharacterLaws
+pub mod ChoiceLaws
+pub mod ReadLaws
+pub mod CursorLaws
+pub mod ZeroLaws
+pub mod PartLaws

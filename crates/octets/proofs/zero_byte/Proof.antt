@@ -1,0 +1,62 @@
+use native.Mathlib.Omega.{arith}
+use Prim.Native.Nat.{_≤_, _+_, _-_}
+use mathlib.Core.Path.{_≡_}
+use mathlib.Core.Bool.{false}
+use lib.ListN.{length}
+use Rattle.octets.specs.Characters.{zeroFrom}
+use Rattle.octets.proofs.ZeroLaws.{scanAt, scan-start, scan-end, scan-zero, scan-other}
+use Rattle.octets.proofs.ReadLaws.{number-byte}
+use Rattle.octets.proofs.zero_byte.Statement.{statement}
+use Rattle.octets.proofs.zero_byte.Tie as tie
+
+-- what was passed is counted by the place itself
+abbrev Inv-loop : tie.InvT-loop
+Inv-loop s from i₀ i = (from ≤ i) × (scanAt false s i (i - from) ≡ zeroFrom false s from)
+
+abbrev μ-loop : tie.MeasureT-loop
+μ-loop s from i₀ i = length s - i
+
+loop-holds : tie.Need-loop-holds Inv-loop μ-loop
+loop-holds c =
+    let e : c .args .from - c .args .from ≡ 0 = omega arith in
+    (omega arith, rw e (scan-start _ _ _))
+
+shared-slice-read-if1 : tie.Need-shared-slice-read-if1 Inv-loop μ-loop
+shared-slice-read-if1 c = omega arith
+
+sub-t8 : tie.Need-sub-t8 Inv-loop μ-loop
+sub-t8 c = omega arith
+
+returns : tie.Need-returns Inv-loop μ-loop
+returns c = scan-zero _ _ _ _ (c .before .before .before .loop .inv .1) (omega arith) (number-byte _ _) (c .if1 .taken)
+
+add-i : tie.Need-add-i Inv-loop μ-loop
+add-i c = omega arith
+
+loop-less : tie.Need-loop-less Inv-loop μ-loop
+loop-less c = omega arith
+
+loop-again : tie.Need-loop-again Inv-loop μ-loop
+loop-again c =
+    let i = c .before .before .before .loop .i in
+    let f = c .before .before .before .before .args .from in
+    let e : i + 1 - f ≡ i - f + 1 = omega arith in
+    (omega arith, rw e (scan-other _ _ _ _ (c .before .before .before .loop .inv .1) (omega arith) (number-byte _ _) (c .if1 .left)))
+
+returns-2 : tie.Need-returns-2 Inv-loop μ-loop
+returns-2 c = scan-end _ _ _ _ (c .before .loop .inv .1) (omega arith)
+
+pub zero-byte-spec : {M : Type 1} → statement M
+zero-byte-spec =
+    tie.close
+    (tie.spec
+    Inv-loop
+    μ-loop
+    loop-holds
+    shared-slice-read-if1
+    sub-t8
+    returns
+    add-i
+    loop-less
+    loop-again
+    returns-2)

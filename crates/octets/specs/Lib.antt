@@ -1,0 +1,4 @@
+pub mod Numbers
+pub mod Characters
+pub mod Cursors
+pub mod Parts

@@ -1,0 +1,14 @@
+-- A part of a list of bytes, and a lent buffer after bytes were put into it.
+use Prim.Native.Nat.{ℕ, _+_}
+use mathlib.Core.List.{List, [], _++_}
+use mathlib.Core.Bool.{Bool, cond}
+use lib.ListN.{length, take, drop}
+use Rattle.octets.specs.Cursors.{inside}
+
+-- n bytes from the place i on; none where they do not stand there
+unfoldable pub part : List ℕ → ℕ → ℕ → List ℕ
+part s i n = cond (inside s i n) (take n (drop i s)) []
+
+-- the buffer d with the bytes w from the place i on, and all else as it was
+unfoldable pub put : List ℕ → ℕ → List ℕ → List ℕ
+put d i w = take i d ++ (w ++ drop (i + length w) d)
