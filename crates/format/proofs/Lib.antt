@@ -10,4 +10,9 @@ pub mod FieldLaws
 pub mod VolumeLaws
 pub mod NetworkLaws
 pub mod InfoLaws
+pub mod BlockLaws
+pub mod WholeLaws
+pub mod PlaceLaws
+pub mod ReadingLaws
+pub mod FoundLaws
 pub mod ProbeLaws

@@ -1,5 +1,6 @@
 -- The listing's sections, and a section asked for by name.
 use Prim.Native.Nat.{ℕ, zero, suc, _+_}
+use mathlib.Core.Path.{_≡_}
 use mathlib.Core.List.{List, [], _∷_, _++_}
 use mathlib.Core.Bool.{Bool, true, false}
 use lib.ListN.{length, take, drop}
@@ -28,12 +29,12 @@ rowsOf c =
     row 0 (c .0)
     ++ (row 1 (c .1 .0)
     ++ (row 2 (c .1 .1 .0)
-    ++ (row 3 (c .1 .1 .1 .0 .0)
-    ++ (row 4 (c .1 .1 .1 .0 .1 .0)
-    ++ (row 5 (c .1 .1 .1 .0 .1 .1 .0)
-    ++ (row 6 (c .1 .1 .1 .0 .1 .1 .1 .0)
-    ++ (row 7 (c .1 .1 .1 .0 .1 .1 .1 .1)
-    ++ blockRows (c .1 .1 .1 .1 .start) (c .1 .1 .1 .1 .read))))))))
+    ++ (row 3 (c .1 .1 .1 .0)
+    ++ (row 4 (c .1 .1 .1 .1 .0)
+    ++ (row 5 (c .1 .1 .1 .1 .1 .0)
+    ++ (row 6 (c .1 .1 .1 .1 .1 .1 .0)
+    ++ (row 7 (c .1 .1 .1 .1 .1 .1 .1 .0)
+    ++ blockRows (c .1 .1 .1 .1 .1 .1 .1 .1 .start) (c .1 .1 .1 .1 .1 .1 .1 .1 .read))))))))
 
 abbrev pub rowsBy : Outcome Sections → List Row
 rowsBy (got c n) = rowsOf c
@@ -42,6 +43,11 @@ rowsBy (refused f p) = []
 unfoldable pub listing : List ℕ → List Row
 unfolding shortcut
 listing s = rowsBy (shortcut s)
+
+-- from p to q the sections lie end to end, and their lengths add up
+abbrev pub EndToEnd : ℕ → List Row → ℕ → Type 0
+EndToEnd p [] q = p ≡ q
+EndToEnd p (x ∷ xs) q = (x .start ≡ p) × EndToEnd (p + x .size) xs q
 
 -- ---- a section asked for by name, a number 0 to 9; a block also by its number, from 0
 

@@ -44,21 +44,22 @@ section there d P = optional there (absent d) (found P)
 abbrev pub stringSection : ℕ → ℕ → Reader (Section Place)
 stringSection flags k = section (bit k flags) noPlace (string (bit 7 flags))
 
-abbrev pub Strings : Type 0
-Strings = Section Place × (Section Place × (Section Place × (Section Place × Section Place)))
-
--- name, relative path, working directory, arguments, icon
-abbrev pub strings : ℕ → Reader Strings
-strings flags =
-    stringSection flags 2 then stringSection flags 3 then stringSection flags 4 then stringSection flags 5 then stringSection flags 6
-
 abbrev pub Tail : Type 0
-Tail = Section Place × (Section Info × (Strings × Section (List ℕ)))
+Tail =
+    Section Place
+    × (Section Info × (Section Place × (Section Place × (Section Place × (Section Place × (Section Place × Section (List ℕ)))))))
 
--- the sections after the header, by its LinkFlags
+-- the sections after the header, by its LinkFlags: items, LinkInfo, name, relative path, working directory, arguments, icon, blocks
 abbrev pub tail : ℕ → Reader Tail
 tail flags =
-    section (bit 0 flags) noPlace items then section (bit 1 flags) noInfo info then strings flags then found blocks
+    section (bit 0 flags) noPlace items
+    then section (bit 1 flags) noInfo info
+    then stringSection flags 2
+    then stringSection flags 3
+    then stringSection flags 4
+    then stringSection flags 5
+    then stringSection flags 6
+    then found blocks
 
 abbrev pub Sections : Type 0
 Sections = Section Header × Tail
@@ -85,12 +86,12 @@ recordOf c = record {
   header = c .0 .read;
   items = c .1 .0 .read;
   info = c .1 .1 .0 .read;
-  name = c .1 .1 .1 .0 .0 .read;
-  relative = c .1 .1 .1 .0 .1 .0 .read;
-  workdir = c .1 .1 .1 .0 .1 .1 .0 .read;
-  arguments = c .1 .1 .1 .0 .1 .1 .1 .0 .read;
-  icon = c .1 .1 .1 .0 .1 .1 .1 .1 .read;
-  blocks = place (c .1 .1 .1 .1 .start) (sum (c .1 .1 .1 .1 .read));
+  name = c .1 .1 .1 .0 .read;
+  relative = c .1 .1 .1 .1 .0 .read;
+  workdir = c .1 .1 .1 .1 .1 .0 .read;
+  arguments = c .1 .1 .1 .1 .1 .1 .0 .read;
+  icon = c .1 .1 .1 .1 .1 .1 .1 .0 .read;
+  blocks = place (c .1 .1 .1 .1 .1 .1 .1 .1 .start) (sum (c .1 .1 .1 .1 .1 .1 .1 .1 .read));
 }
 
 abbrev pub noHeader : Header

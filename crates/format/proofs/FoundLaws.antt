@@ -1,0 +1,305 @@
+-- What reading gives: zeros for what is absent, bodies inside the file, and sections end to end.
+use mathlib.Core.Path.{_≡_, refl, sym, ap, _∙_}
+use mathlib.Core.List.{List, [], _∷_, _++_}
+use mathlib.Core.Bool.{Bool, true, false, _&&_}
+use Prim.Native.Nat.{ℕ, _+_, _-_, _≤_, _<_}
+use native.Mathlib.Omega.{arith}
+use native.Mathlib.Nat.{add-assoc}
+use lib.ListN.{length, take, drop, length-take, length-drop}
+use lib.Seq.{length-take-le}
+use lib.Dec.{leb, eqb}
+use borrow.Author.Tests.{leb-true, le-leb, ltb-true, eqb-true}
+use Rattle.octets.specs.Numbers.{u16At, u32At}
+use Rattle.octets.specs.Characters.{bytesOf, characters, beforeZero}
+use Rattle.octets.proofs.CharacterLaws.{characters-fit, bytes-of-le, bytes-of-add}
+use Rattle.format.specs.declared.Place.{Place}
+use Rattle.format.specs.declared.Info.{Info}
+use Rattle.format.specs.declared.Header.{Header}
+use Rattle.format.specs.declared.Network.{Network}
+use Rattle.format.specs.declared.Fault.the-variants.{Info as INFO}
+use Rattle.format.specs.Tests.{Outcome, got, refused, choose, bit, place, noPlace, _else_, tests, all, chain}
+use Rattle.format.specs.Header.{header}
+use Rattle.format.specs.Items.{itemsSize, itemsRules, items}
+use Rattle.format.specs.Pieces.{textEnds, textLength, textPiece, textPlace, pieceOk}
+use Rattle.format.specs.Volume.{labelUnicode, labelOffset, labelOf, noVolume, volumeAt, volumeFields, volumeTests, volumePiece}
+use Rattle.format.specs.Network.{networkFlags, hasDevice, networkUnicode, networkHead, networkAt, networkFields, noNetwork, networkTests, networkPiece}
+use Rattle.format.specs.Info.{infoSize, infoHead, infoFlags, longHead, hasLocal, hasNetwork, infoRules, infoFields, info, noInfo}
+use Rattle.format.specs.Strings.{stringSize, string}
+use Rattle.format.specs.Blocks.{blocks}
+use Rattle.format.specs.Shortcut.{Section, Tail, Sections, found, section, stringSection, tail, sections, sum, recordOf}
+use Rattle.format.specs.Contents.{presentNetwork, presentInfo, present, labelPlace, bodies, allInside}
+use Rattle.format.specs.Listing.{Row, row, blockRows, rowsOf, EndToEnd}
+use Rattle.format.proofs.Bools.{and-true, and-both, choose-twice}
+use Rattle.format.proofs.Chains.{Pass, all-pass, tests-elim}
+use Rattle.format.proofs.Sized.{sizedTests}
+use Rattle.format.proofs.ItemsLaws.{itemsValue}
+use Rattle.format.proofs.InfoLaws.{infoValue}
+use Rattle.format.proofs.BlockLaws.{blocks-walked, step-elim, none-left}
+use Rattle.format.proofs.PlaceLaws.{found-elim, Always, chain-always, then-always, section-always, Lies, chain-lies, then-lies, found-lies, section-lies, inside-more}
+
+-- ---- zeros for what is absent
+
+network-present : (p : ℕ) (v : List ℕ) → presentNetwork (networkFields p v) ≡ networkFields p v
+network-present p v =
+    rw (
+      choose-twice (bit 1 (networkFlags v)) (u32At v 16) 0,
+      choose-twice (hasDevice v) (place (p + u32At v 12) (textLength false (drop (u32At v 12) v))) noPlace,
+      choose-twice (networkUnicode v) (place (p + u32At v 20) (textLength true (drop (u32At v 20) v))) noPlace,
+      choose-twice (networkUnicode v && hasDevice v) (place (p + u32At v 24) (textLength true (drop (u32At v 24) v))) noPlace,
+    )
+
+network-there : (b : Bool) (p : ℕ) (v : List ℕ) → choose b (presentNetwork (choose b (networkFields p v) noNetwork)) noNetwork ≡ choose b (networkFields p v) noNetwork
+network-there true p v = network-present p v
+network-there false p v = refl
+
+info-present : (p : ℕ) (l : List ℕ) → presentInfo (infoFields p l) ≡ infoFields p l
+info-present p l =
+    rw (
+      choose-twice (hasLocal l) (volumeFields (p + u32At l 12) (take (u32At (drop (u32At l 12) l) 0) (drop (u32At l 12) l))) noVolume,
+      choose-twice (hasLocal l) (place (p + u32At l 16) (textLength false (drop (u32At l 16) l))) noPlace,
+      network-there (hasNetwork l) (p + u32At l 20) (take (u32At (drop (u32At l 20) l) 0) (drop (u32At l 20) l)),
+      choose-twice (longHead l && hasLocal l) (place (p + u32At l 28) (textLength true (drop (u32At l 28) l))) noPlace,
+      choose-twice (longHead l) (place (p + u32At l 32) (textLength true (drop (u32At l 32) l))) noPlace,
+    )
+
+module _ (f : List ℕ) where
+  abbrev string-always : (flags k : ℕ) → Always f (stringSection flags k) (λ c. choose (bit k flags) (c .read) noPlace ≡ c .read)
+  string-always flags k = section-always f (string (bit 7 flags)) (bit k flags) noPlace (λ b. b) (λ p a n e. refl)
+
+  blocks-always : Always f (found blocks) (λ c. Unit {0})
+  blocks-always = record { always = λ p a n e. tt }
+
+  abbrev Zeroed : ℕ → Tail → Type 0
+  Zeroed flags c =
+      (choose (bit 0 flags) (c .0 .read) noPlace ≡ c .0 .read)
+      × ((choose (bit 1 flags) (presentInfo (c .1 .0 .read)) noInfo ≡ c .1 .0 .read)
+      × ((choose (bit 2 flags) (c .1 .1 .0 .read) noPlace ≡ c .1 .1 .0 .read)
+      × ((choose (bit 3 flags) (c .1 .1 .1 .0 .read) noPlace ≡ c .1 .1 .1 .0 .read)
+      × ((choose (bit 4 flags) (c .1 .1 .1 .1 .0 .read) noPlace ≡ c .1 .1 .1 .1 .0 .read)
+      × ((choose (bit 5 flags) (c .1 .1 .1 .1 .1 .0 .read) noPlace ≡ c .1 .1 .1 .1 .1 .0 .read)
+      × ((choose (bit 6 flags) (c .1 .1 .1 .1 .1 .1 .0 .read) noPlace ≡ c .1 .1 .1 .1 .1 .1 .0 .read)
+      × Unit {0}))))))
+
+  tail-always : (flags : ℕ) → Always f (tail flags) (Zeroed flags)
+  tail-always flags =
+      then-always f (section-always f items (bit 0 flags) noPlace (λ b. b) (λ p a n e. refl))
+      (then-always f (section-always f info (bit 1 flags) noInfo presentInfo (λ p a n e.
+      let s : List ℕ = drop p f in
+      tests-elim (λ a n. presentInfo a ≡ a) p (sizedTests 4 infoSize (λ n. leb 0x1C n else INFO ∷ []) infoRules infoValue s)
+      (infoFields p (take (infoSize s) s)) (infoSize s) (λ c. info-present p (take (infoSize s) s)) a n e))
+      (then-always f (string-always flags 2)
+      (then-always f (string-always flags 3)
+      (then-always f (string-always flags 4)
+      (then-always f (string-always flags 5)
+      (then-always f (string-always flags 6) blocks-always))))))
+
+  header-always : Always f (found header) (λ c. Unit {0})
+  header-always = record { always = λ p a n e. tt }
+
+  zeroed-always : Always f (chain (found header) (λ h. tail (h .read .flags))) (λ c. Unit {0} × Zeroed (c .0 .read .flags) (c .1))
+  zeroed-always =
+      chain-always f (λ (h : Section Header). tail (h .read .flags)) (λ (h : Section Header). Zeroed (h .read .flags)) header-always (λ h. tail-always (h .read .flags))
+
+  -- reading puts zeros there: what it gives is what is present
+  pub read-present : (c : Sections) (n : ℕ) → sections 0 f ≡ got c n → present (recordOf c) ≡ recordOf c
+  unfolding sections present
+  read-present c n e =
+      let x = (zeroed-always .always 0 c n e) .1 in
+      rw (x .0, x .1 .0, x .1 .1 .0, x .1 .1 .1 .0, x .1 .1 .1 .1 .0, x .1 .1 .1 .1 .1 .0, x .1 .1 .1 .1 .1 .1 .0)
+
+-- ---- bodies inside
+
+-- a text that ends within l
+text-within : (u : Bool) (l : List ℕ) (o : ℕ) → textEnds u (drop o l) ≡ true → o + textLength u (drop o l) ≤ length l
+text-within u l o e =
+    let c : List ℕ = characters u (drop o l) in
+    let h : beforeZero c < length c = ltb-true _ _ e in
+    let a = characters-fit u (drop o l) in
+    let g : bytesOf u (beforeZero c + 1) ≤ bytesOf u (length c) = bytes-of-le u (omega arith) in
+    let d = bytes-of-add u (beforeZero c) 1 in
+    let o1 : 0 < bytesOf u 1 = some u in
+    omega (arith, length-drop o l)
+  where
+    some : (u : Bool) → 0 < bytesOf u 1
+    some true = omega arith
+    some false = omega arith
+
+abbrev Inside : ℕ → Place → Type 0
+Inside n b = leb (b .at + b .len) n ≡ true
+
+text-inside : (h p : ℕ) (l : List ℕ) (b u : Bool) (o n : ℕ) → p + length l ≤ n → pieceOk h (textPiece b u l o) ≡ true → Inside n (textPlace b u p l o)
+text-inside h p l true u o n k e =
+    let i = and-true (leb h o) (textEnds u (drop o l)) e in
+    le-leb (p + o + textLength u (drop o l)) n (omega (arith, text-within u l o (i .1)))
+text-inside h p l false u o n k e = le-leb (0 + 0) n (omega arith)
+
+place-of : (u : Bool) (b : Place) → labelPlace (labelOf u b) ≡ b
+place-of true b = refl
+place-of false b = refl
+
+volume-inside : (h p : ℕ) (l : List ℕ) (b : Bool) (o n : ℕ) → p + length l ≤ n → pieceOk h (volumePiece b l o) ≡ true → Inside n (labelPlace (volumeAt b p l o .label))
+volume-inside h p l true o n k e =
+    let i = and-true (leb h o) (all (volumeTests (drop o l))) e in
+    let c = all-pass (volumeTests (drop o l)) (i .1) in
+    let m : ℕ = u32At (drop o l) 0 in
+    let v : List ℕ = take m (drop o l) in
+    let q : m ≤ length (drop o l) = leb-true m (length (drop o l)) (c .1 .0) in
+    let r : length v ≡ m = length-take-le m (drop o l) q in
+    let f : 4 ≤ length (drop o l) = leb-true 4 (length (drop o l)) (c .0) in
+    let t = text-within (labelUnicode v) v (labelOffset v) (c .1 .1 .1 .1 .1 .1 .0) in
+    rw (place-of (labelUnicode v))
+    (le-leb (p + o + labelOffset v + textLength (labelUnicode v) (drop (labelOffset v) v)) n (omega (arith, length-drop o l)))
+volume-inside h p l false o n k e = le-leb (0 + 0) n (omega arith)
+
+abbrev networkBodies : Network → List Place
+networkBodies n = n .net ∷ n .device ∷ n .«net_unicode» ∷ n .«device_unicode» ∷ []
+
+abbrev infoBodies : Info → List Place
+infoBodies i =
+    labelPlace (i .volume .label) ∷ i .local ∷ i .network .net ∷ i .network .device ∷ i .network .«net_unicode» ∷ i .network .«device_unicode»
+    ∷ i .suffix ∷ i .«local_unicode» ∷ i .«suffix_unicode» ∷ []
+
+record NetworkInside (n : ℕ) (k : Network) : Type 0 where
+  net : Inside n (k .net)
+  device : Inside n (k .device)
+  netUnicode : Inside n (k .«net_unicode»)
+  deviceUnicode : Inside n (k .«device_unicode»)
+
+network-inside : (h p : ℕ) (l : List ℕ) (b : Bool) (o n : ℕ) → p + length l ≤ n → pieceOk h (networkPiece b l o) ≡ true → NetworkInside n (networkAt b p l o)
+network-inside h p l true o n k e =
+    let i = and-true (leb h o) (all (networkTests (drop o l))) e in
+    let c = all-pass (networkTests (drop o l)) (i .1) in
+    let m : ℕ = u32At (drop o l) 0 in
+    let v : List ℕ = take m (drop o l) in
+    let q : m ≤ length (drop o l) = leb-true m (length (drop o l)) (c .1 .0) in
+    let r : length v ≡ m = length-take-le m (drop o l) q in
+    let f : 4 ≤ length (drop o l) = leb-true 4 (length (drop o l)) (c .0) in
+    let j : p + o + length v ≤ n = omega (arith, length-drop o l) in
+    let g : ℕ = networkHead (networkUnicode v) in
+    let d = c .1 .1 .1 .1 .1 .1 .1 .1 in
+    record {
+      net = text-inside g (p + o) v true false (u32At v 8) n j (d .0);
+      device = text-inside g (p + o) v (hasDevice v) false (u32At v 12) n j (d .1 .0);
+      netUnicode = text-inside g (p + o) v (networkUnicode v) true (u32At v 20) n j (d .1 .1 .0);
+      deviceUnicode = text-inside g (p + o) v (networkUnicode v && hasDevice v) true (u32At v 24) n j (d .1 .1 .1 .0);
+    }
+network-inside h p l false o n k e =
+    let z : Inside n noPlace = le-leb (0 + 0) n (omega arith) in
+    record { net = z; device = z; netUnicode = z; deviceUnicode = z }
+
+-- nine places, each inside
+nine : (n : ℕ) (i : Info) → Inside n (labelPlace (i .volume .label)) → Inside n (i .local) → NetworkInside n (i .network) → Inside n (i .suffix)
+    → Inside n (i .«local_unicode») → Inside n (i .«suffix_unicode») → allInside n (infoBodies i) ≡ true
+nine n i a b c d e g = rw (a, b, c .net, c .device, c .netUnicode, c .deviceUnicode, d, e, g)
+
+info-inside : (f : List ℕ) (p : ℕ) (i : Info) (n : ℕ) → info p (drop p f) ≡ got i n → allInside (p + n) (infoBodies i) ≡ true
+info-inside f p i n =
+    let s : List ℕ = drop p f in
+    let m : ℕ = infoSize s in
+    let l : List ℕ = take m s in
+    tests-elim (λ i n. allInside (p + n) (infoBodies i) ≡ true) p (sizedTests 4 infoSize (λ n. leb 0x1C n else INFO ∷ []) infoRules infoValue s) (infoFields p l) m
+    (λ c.
+    let k : p + length l ≤ p + m = omega (arith, length-take m s) in
+    let d = c .1 .1 .1 .1 .1 .1 .1 .1 .1 in
+    let h : ℕ = infoHead l in
+    nine (p + m) (infoFields p l)
+    (volume-inside h p l (hasLocal l) (u32At l 12) (p + m) k (d .0))
+    (text-inside h p l (hasLocal l) false (u32At l 16) (p + m) k (d .1 .0))
+    (network-inside h p l (hasNetwork l) (u32At l 20) (p + m) k (d .1 .1 .0))
+    (text-inside h p l true false (u32At l 24) (p + m) k (d .1 .1 .1 .0))
+    (text-inside h p l (longHead l && hasLocal l) true (u32At l 28) (p + m) k (d .1 .1 .1 .1 .0))
+    (text-inside h p l (longHead l) true (u32At l 32) (p + m) k (d .1 .1 .1 .1 .1 .0)))
+    i n
+
+one : (n : ℕ) (b : Place) → Inside n b → allInside n (b ∷ []) ≡ true
+one n b e = rw e
+
+items-inside : (f : List ℕ) (p : ℕ) (b : Place) (n : ℕ) → items p (drop p f) ≡ got b n → allInside (p + n) (b ∷ []) ≡ true
+items-inside f p b n =
+    let s : List ℕ = drop p f in
+    let m : ℕ = itemsSize s in
+    tests-elim (λ b n. allInside (p + n) (b ∷ []) ≡ true) p (sizedTests 2 itemsSize (λ n. []) itemsRules itemsValue s) (place (p + 2) (m - 4)) m
+    (λ c. one (p + m) (place (p + 2) (m - 4)) (le-leb (p + 2 + (m - 4)) (p + m) (omega arith)))
+    b n
+
+string-inside : (f : List ℕ) (u : Bool) (p : ℕ) (b : Place) (n : ℕ) → string u p (drop p f) ≡ got b n → allInside (p + n) (b ∷ []) ≡ true
+string-inside f u p b n =
+    let s : List ℕ = drop p f in
+    let m : ℕ = bytesOf u (u16At s 0) in
+    tests-elim (λ b n. allInside (p + n) (b ∷ []) ≡ true) p (sizedTests 2 (stringSize u) (λ n. []) (λ l. []) (λ l. drop 2 l) s) (place (p + 2) m) (2 + m)
+    (λ c. one (p + (2 + m)) (place (p + 2) m) (le-leb (p + 2 + m) (p + (2 + m)) (omega arith)))
+    b n
+
+-- ---- the whole
+
+block-rows : (p q : ℕ) (lengths : List ℕ) → p + sum lengths + 4 ≡ q → EndToEnd p (blockRows p lengths) q
+block-rows p q [] e = (refl, omega arith)
+block-rows p q (n ∷ ns) e = (refl, block-rows (p + n) q ns (omega arith))
+
+module _ (f : List ℕ) where
+  blocks-lies : Lies f (found blocks) (λ c. blockRows (c .start) (c .read)) (λ c. place (c .start) (sum (c .read)) ∷ [])
+  blocks-lies = record {
+    listed = λ p c n e.
+        found-elim blocks p (drop p f) (λ c n. EndToEnd p (blockRows (c .start) (c .read)) (p + n))
+        (λ ls n i. block-rows p (p + n) ls (omega (arith, (blocks-walked p (drop p f) ls n i) .adds)))
+        c n e;
+    inside = λ p c n e.
+        found-elim blocks p (drop p f) (λ c n. allInside (p + n) (place (c .start) (sum (c .read)) ∷ []) ≡ true)
+        (λ ls n i. one (p + n) (place p (sum ls)) (le-leb (p + sum ls) (p + n) (omega (arith, (blocks-walked p (drop p f) ls n i) .adds))))
+        c n e;
+  }
+
+  none-inside : (n : ℕ) → allInside n (noPlace ∷ []) ≡ true
+  none-inside n = one n noPlace (le-leb (0 + 0) n (omega arith))
+
+  no-info-inside : (n : ℕ) → allInside n (infoBodies noInfo) ≡ true
+  no-info-inside n =
+      let z : Inside n noPlace = le-leb (0 + 0) n (omega arith) in
+      nine n noInfo z z (record { net = z; device = z; netUnicode = z; deviceUnicode = z }) z z z
+
+  string-lies : (flags k j : ℕ) → Lies f (stringSection flags k) (row j) (λ c. c .read ∷ [])
+  string-lies flags k j = section-lies f (string (bit 7 flags)) j (λ b. b ∷ []) (bit k flags) noPlace none-inside (string-inside f (bit 7 flags))
+
+  abbrev tailRows : Tail → List Row
+  tailRows c =
+      row 1 (c .0)
+      ++ (row 2 (c .1 .0)
+      ++ (row 3 (c .1 .1 .0)
+      ++ (row 4 (c .1 .1 .1 .0)
+      ++ (row 5 (c .1 .1 .1 .1 .0)
+      ++ (row 6 (c .1 .1 .1 .1 .1 .0)
+      ++ (row 7 (c .1 .1 .1 .1 .1 .1 .0) ++ blockRows (c .1 .1 .1 .1 .1 .1 .1 .start) (c .1 .1 .1 .1 .1 .1 .1 .read)))))))
+
+  abbrev tailBodies : Tail → List Place
+  tailBodies c =
+      (c .0 .read ∷ [])
+      ++ (infoBodies (c .1 .0 .read)
+      ++ ((c .1 .1 .0 .read ∷ [])
+      ++ ((c .1 .1 .1 .0 .read ∷ [])
+      ++ ((c .1 .1 .1 .1 .0 .read ∷ [])
+      ++ ((c .1 .1 .1 .1 .1 .0 .read ∷ [])
+      ++ ((c .1 .1 .1 .1 .1 .1 .0 .read ∷ []) ++ (place (c .1 .1 .1 .1 .1 .1 .1 .start) (sum (c .1 .1 .1 .1 .1 .1 .1 .read)) ∷ [])))))))
+
+  tail-lies : (flags : ℕ) → Lies f (tail flags) tailRows tailBodies
+  tail-lies flags =
+      then-lies f (section-lies f items 1 (λ b. b ∷ []) (bit 0 flags) noPlace none-inside (items-inside f))
+      (then-lies f (section-lies f info 2 infoBodies (bit 1 flags) noInfo no-info-inside (info-inside f))
+      (then-lies f (string-lies flags 2 3)
+      (then-lies f (string-lies flags 3 4)
+      (then-lies f (string-lies flags 4 5)
+      (then-lies f (string-lies flags 5 6)
+      (then-lies f (string-lies flags 6 7) blocks-lies))))))
+
+  sections-lie : Lies f sections rowsOf (λ c. bodies (recordOf c))
+  unfolding sections
+  sections-lie = chain-lies f (λ h. tail (h .read .flags)) (found-lies f header 0 (λ h. []) (λ p a n e. refl)) (λ h. tail-lies (h .read .flags))
+
+  -- the sections lie end to end
+  pub read-end-to-end : (c : Sections) (n : ℕ) → sections 0 f ≡ got c n → EndToEnd 0 (rowsOf c) n
+  read-end-to-end c n e =
+      let z : 0 + n ≡ n = omega arith in
+      rw z at (sections-lie .listed 0 c n e)
+
+  -- the bodies lie inside
+  pub read-inside : (c : Sections) (n : ℕ) → sections 0 f ≡ got c n → n ≤ length f → allInside (length f) (bodies (recordOf c)) ≡ true
+  read-inside c n e h = inside-more (0 + n) (length f) (bodies (recordOf c)) (omega arith) (sections-lie .inside 0 c n e)

@@ -1,0 +1,178 @@
+-- The record that reading gives, beside the contents: each section's places hold its contents, and so do those of the whole.
+use mathlib.Core.Path.{_≡_, refl, sym, ap, _∙_}
+use mathlib.Core.List.{List, [], _∷_, _++_}
+use mathlib.Core.Bool.{Bool, true, false, _&&_}
+use Prim.Native.Nat.{ℕ, _+_, _-_, _≤_, _<_}
+use native.Mathlib.Omega.{arith}
+use lib.ListN.{length, take, drop, length-take, length-drop}
+use lib.Seq.{drop-drop, length-take-le}
+use lib.Dec.{leb, eqb}
+use borrow.Author.Tests.{leb-true, le-leb}
+use Rattle.octets.specs.Numbers.{u16At, u32At}
+use Rattle.octets.specs.Characters.{bytesOf}
+use Rattle.octets.proofs.NumberLaws.{part-inside}
+use Rattle.format.specs.declared.Place.{Place}
+use Rattle.format.specs.declared.Label.{Label}
+use Rattle.format.specs.declared.Info.{Info}
+use Rattle.format.specs.declared.Header.{Header}
+use Rattle.format.specs.declared.Fault.the-variants.{Long as LONG, Trail as TRAIL, Info as INFO}
+use Rattle.format.specs.Tests.{Outcome, got, refused, choose, bit, place, noPlace, _else_, tests, andThen, optional}
+use Rattle.format.specs.Header.{header}
+use Rattle.format.specs.Items.{itemsSize, itemsRules, items}
+use Rattle.format.specs.Volume.{labelUnicode, labelOffset, labelOf, noVolume, volumeAt}
+use Rattle.format.specs.Network.{hasDevice, networkUnicode, networkAt}
+use Rattle.format.specs.Info.{infoSize, infoFlags, longHead, hasLocal, hasNetwork, infoRules, infoFields, info, noInfo}
+use Rattle.format.specs.Strings.{stringSize, string}
+use Rattle.format.specs.Blocks.{blocks}
+use Rattle.format.specs.Shortcut.{Section, Tail, Sections, found, section, stringSection, tail, sections, shortcut, most, sum, recordOf}
+use Rattle.format.specs.Contents.{labelPlace, labelKind, bytesAt, volumeContents, networkContents, infoContents, bodiesOf}
+use Rattle.format.proofs.Chains.{drop-take}
+use Rattle.format.proofs.Sized.{sizedTests}
+use Rattle.format.proofs.ItemsLaws.{itemsValue}
+use Rattle.format.proofs.VolumeLaws.{volumeValue}
+use Rattle.format.proofs.NetworkLaws.{networkValue}
+use Rattle.format.proofs.InfoLaws.{noVolumeC, noNetworkC, infoValue}
+use Rattle.format.proofs.BlockLaws.{blocksR}
+use Rattle.format.proofs.WholeLaws.{noInfoC, itemsR, infoR, stringR, TailC, tail-s, fileR, decode, toContents}
+use Rattle.format.proofs.PlaceLaws.{PartOf, part-of, part-within, text-placed, Placed, tests-placed, found-placed, section-placed, chain-placed, then-placed, mapped, both, found-elim}
+
+module _ (f : List ℕ) where
+  header-placed : Placed f header (λ h. h) header
+  header-placed = record { placed = λ p. same (header p (drop p f)) }
+    where
+      same : (r : Outcome Header) → mapped (λ h. h) r ≡ r
+      same (got h n) = refl
+      same (refused x y) = refl
+
+  items-placed : Placed f items (bytesAt f) itemsR
+  items-placed = record {
+    placed = λ p.
+        let s : List ℕ = drop p f in
+        let n : ℕ = itemsSize s in
+        tests-placed f (bytesAt f) p (sizedTests 2 itemsSize (λ n. []) itemsRules itemsValue s) (place (p + 2) (n - 4)) (itemsValue (take n s)) n
+        (λ c.
+        let l : length (take n s) ≡ n = length-take-le n s (leb-true n (length s) (c .1 .0)) in
+        sym (ap (λ (k : ℕ). take (k - 4) (drop 2 (take n s))) l ∙ part-inside 2 (n - 4) n s (omega arith) ∙ ap (take (n - 4)) (drop-drop 2 p f)));
+  }
+
+  string-placed : (u : Bool) → Placed f (string u) (bytesAt f) (stringR u)
+  string-placed u = record {
+    placed = λ p.
+        let s : List ℕ = drop p f in
+        let n : ℕ = bytesOf u (u16At s 0) in
+        tests-placed f (bytesAt f) p (sizedTests 2 (stringSize u) (λ n. []) (λ l. []) (λ l. drop 2 l) s) (place (p + 2) n) (drop 2 (take (2 + n) s)) (2 + n)
+        (λ c. sym (drop-take 2 n s ∙ ap (take n) (drop-drop 2 p f)));
+  }
+
+  -- ---- LinkInfo
+
+  kind-of : (u : Bool) (b : Place) → labelKind (labelOf u b) ≡ u
+  kind-of true b = refl
+  kind-of false b = refl
+
+  place-of : (u : Bool) (b : Place) → labelPlace (labelOf u b) ≡ b
+  place-of true b = refl
+  place-of false b = refl
+
+  module _ (p : ℕ) (l : List ℕ) (F : PartOf f p l) (o : ℕ) where
+    volume-placed : (b : Bool) → volumeContents f (volumeAt b p l o) ≡ choose b (volumeValue (take (u32At (drop o l) 0) (drop o l))) noVolumeC
+    volume-placed true =
+        let v : List ℕ = take (u32At (drop o l) 0) (drop o l) in
+        let G : PartOf f (p + o) v = part-within f p l o (u32At (drop o l) 0) F in
+        rw (kind-of (labelUnicode v), place-of (labelUnicode v), text-placed f (p + o) v true (labelUnicode v) (labelOffset v) G)
+    volume-placed false = refl
+
+    network-placed : (b : Bool) → networkContents f (networkAt b p l o) ≡ choose b (networkValue (take (u32At (drop o l) 0) (drop o l))) noNetworkC
+    network-placed true =
+        let v : List ℕ = take (u32At (drop o l) 0) (drop o l) in
+        let G : PartOf f (p + o) v = part-within f p l o (u32At (drop o l) 0) F in
+        rw (
+          text-placed f (p + o) v true false (u32At v 8) G,
+          text-placed f (p + o) v (hasDevice v) false (u32At v 12) G,
+          text-placed f (p + o) v (networkUnicode v) true (u32At v 20) G,
+          text-placed f (p + o) v (networkUnicode v && hasDevice v) true (u32At v 24) G,
+        )
+    network-placed false = refl
+
+  info-value : (p : ℕ) (l : List ℕ) → PartOf f p l → infoContents f (infoFields p l) ≡ infoValue l
+  info-value p l F =
+      rw (
+        volume-placed p l F (u32At l 12) (hasLocal l),
+        text-placed f p l (hasLocal l) false (u32At l 16) F,
+        network-placed p l F (u32At l 20) (hasNetwork l),
+        text-placed f p l true false (u32At l 24) F,
+        text-placed f p l (longHead l && hasLocal l) true (u32At l 28) F,
+        text-placed f p l (longHead l) true (u32At l 32) F,
+      )
+
+  info-placed : Placed f info (infoContents f) infoR
+  info-placed = record {
+    placed = λ p.
+        let s : List ℕ = drop p f in
+        let n : ℕ = infoSize s in
+        tests-placed f (infoContents f) p (sizedTests 4 infoSize (λ n. leb 0x1C n else INFO ∷ []) infoRules infoValue s) (infoFields p (take n s)) (infoValue (take n s)) n
+        (λ c. info-value p (take n s) (part-of f p n));
+  }
+
+  -- ---- blocks: all of them as one body
+
+  abbrev blocksPlace : Section (List ℕ) → Place
+  blocksPlace c = place (c .start) (sum (c .read))
+
+  blocks-placed : Placed f (found blocks) (λ c. bytesAt f (blocksPlace c)) blocksR
+  blocks-placed = record { placed = λ p. go p (blocks p (drop p f)) refl }
+    where
+      go : (p : ℕ) (r : Outcome (List ℕ)) → blocks p (drop p f) ≡ r
+          → mapped (λ c. bytesAt f (blocksPlace c)) (andThen r (λ a n. got (record { there = true; start = p; size = n; read = a }) n)) ≡ blocksR p (drop p f)
+      go p (got ls n) i = rw i
+      go p (refused x y) i = rw i
+
+  -- ---- the whole
+
+  abbrev string-section-placed : (flags k : ℕ) → Placed f (stringSection flags k) (λ c. bytesAt f (c .read)) (optional (bit k flags) [] (stringR (bit 7 flags)))
+  string-section-placed flags k = section-placed f (bit k flags) noPlace [] refl (string-placed (bit 7 flags))
+
+  abbrev viewTail : Tail → TailC
+  viewTail =
+      both (λ c. bytesAt f (c .read)) (both (λ c. infoContents f (c .read)) (both (λ c. bytesAt f (c .read)) (both (λ c. bytesAt f (c .read))
+      (both (λ c. bytesAt f (c .read)) (both (λ c. bytesAt f (c .read)) (both (λ c. bytesAt f (c .read)) (λ c. bytesAt f (blocksPlace c))))))))
+
+  tail-placed : (flags : ℕ) → Placed f (tail flags) viewTail (tail-s flags .reader)
+  tail-placed flags =
+      then-placed f (section-placed f (bit 0 flags) noPlace [] refl items-placed)
+      (then-placed f (section-placed f (bit 1 flags) noInfo noInfoC refl info-placed)
+      (then-placed f (string-section-placed flags 2)
+      (then-placed f (string-section-placed flags 3)
+      (then-placed f (string-section-placed flags 4)
+      (then-placed f (string-section-placed flags 5)
+      (then-placed f (string-section-placed flags 6) blocks-placed))))))
+
+  sections-placed : Placed f sections (both (λ c. c .read) viewTail) fileR
+  unfolding sections fileR
+  sections-placed = chain-placed f (λ (h : Header). tail-s (h .flags) .reader) (found-placed f header-placed) (λ a. tail-placed (a .read .flags))
+
+-- reading for places and reading for contents answer alike
+pub decode-is : (f : List ℕ) → decode f ≡ mapped (λ c. bodiesOf f (recordOf c)) (shortcut f)
+unfolding decode shortcut
+decode-is f = go (leb (length f) most) (sections 0 f) refl
+  where
+    go₂ : (r : Outcome Sections) → sections 0 f ≡ r
+        → andThen (fileR 0 f) (λ c n. tests n (eqb n (length f) else TRAIL ∷ []) (got (toContents c) n))
+        ≡ mapped (λ c. bodiesOf f (recordOf c)) (andThen r (λ c n. tests n (eqb n (length f) else TRAIL ∷ []) (got c n)))
+    go₂ (got c n) i =
+        let e : fileR 0 f ≡ got (both (λ c. c .read) (viewTail f) c) n = sym (sections-placed f .placed 0) ∙ ap (mapped (both (λ c. c .read) (viewTail f))) i in
+        rw e (go₃ (eqb n (length f)))
+      where
+        go₃ : (b : Bool) → choose b (got (toContents (both (λ c. c .read) (viewTail f) c)) n) (refused TRAIL n)
+            ≡ mapped (λ c. bodiesOf f (recordOf c)) (choose b (got c n) (refused TRAIL n))
+        go₃ true = refl
+        go₃ false = refl
+    go₂ (refused x y) i =
+        let e : fileR 0 f ≡ refused x y = sym (sections-placed f .placed 0) ∙ ap (mapped (both (λ c. c .read) (viewTail f))) i in
+        rw e
+
+    go : (b : Bool) (r : Outcome Sections) → sections 0 f ≡ r
+        → choose b (andThen (fileR 0 f) (λ c n. tests n (eqb n (length f) else TRAIL ∷ []) (got (toContents c) n))) (refused LONG most)
+        ≡ mapped (λ c. bodiesOf f (recordOf c)) (choose b (andThen r (λ c n. tests n (eqb n (length f) else TRAIL ∷ []) (got c n))) (refused LONG most))
+    go true r i = go₂ r i
+    go false r i = refl
