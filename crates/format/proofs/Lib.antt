@@ -15,4 +15,7 @@ pub mod WholeLaws
 pub mod PlaceLaws
 pub mod ReadingLaws
 pub mod FoundLaws
+pub mod TypedLaws
+pub mod AcceptedLaws
+pub mod Demands
 pub mod ProbeLaws

@@ -174,6 +174,10 @@ read-back c v h =
     = ap (fileR 0) (q ∙ sym (append-nil (file-s .writer (fromContents c)))) ∙ file-s .law .back (fromContents c) v (rw q at h) 0 [] ∙ ap (λ (x : List ℕ). got (fromContents c) (length x)) (sym q) in
     rw (le-leb _ _ h, e, eq-eqb (length l) (length l) refl)
 
+pub canonical-bytes : (c : Contents) → Valid c → Bytes (canonical c)
+unfolding Valid
+canonical-bytes c v = rw (canonical-is c) (file-s .law .bytes (fromContents c) v)
+
 pub record Shortest (s : List ℕ) (c : Contents) (n : ℕ) : Type 0 where
   pub valid : Valid c
   pub short : length (canonical c) ≤ length s

@@ -14,4 +14,5 @@ pub mod Ranges
 pub mod Writing
 pub mod Target
 pub mod Listing
+pub mod Demands
 pub mod Probes

@@ -1,0 +1,128 @@
+-- An accepted shortcut: from its reading to its contents and back.
+use mathlib.Core.Path.{_≡_, refl, sym, ap, _∙_}
+use mathlib.Core.List.{List, [], _∷_}
+use mathlib.Core.Bool.{Bool, true, false}
+use Prim.Native.Nat.{ℕ, _+_, _≤_}
+use native.Mathlib.Omega.{arith}
+use lib.ListN.{length}
+use lib.Dec.{leb, eqb}
+use borrow.Author.Tests.{leb-true, eqb-true}
+use Rattle.format.specs.declared.Record.{Record}
+use Rattle.format.specs.declared.Reading.{Reading}
+use Rattle.format.specs.declared.Fault.{Fault}
+use Rattle.format.specs.declared.Fault.the-variants.{Long as LONG, Trail as TRAIL}
+use Rattle.format.specs.declared.Verdict.{Verdict}
+use Rattle.format.specs.declared.Verdict.the-variants.{Accepted, Refused}
+use Rattle.format.specs.Tests.{Outcome, got, refused, _else_, tests, andThen}
+use Rattle.format.specs.Shortcut.{Sections, most, sections, shortcut, recordOf, noRecord, verdictOf, heldBy, reading}
+use Rattle.format.specs.Contents.{Contents, present, placed, bodies, allInside, bodiesOf, contents}
+use Rattle.format.specs.Demands.{Accepts, Refuses}
+use Rattle.format.proofs.Chains.{passed, got-elim, no-value}
+use Rattle.format.proofs.WholeLaws.{decode}
+use Rattle.format.proofs.PlaceLaws.{mapped}
+use Rattle.format.proofs.ReadingLaws.{decode-is}
+use Rattle.format.proofs.FoundLaws.{read-present, read-inside}
+
+pub record Whole (s : List ℕ) (c : Sections) (n : ℕ) : Type 0 where
+  pub limit : length s ≤ most
+  pub read : sections 0 s ≡ got c n
+  pub all : n ≡ length s
+
+pub shortcut-whole : (s : List ℕ) (c : Sections) (n : ℕ) → shortcut s ≡ got c n → Whole s c n
+unfolding shortcut
+shortcut-whole s c n e =
+    let i = passed most (leb (length s) most else LONG ∷ []) _ e in
+    go (leb-true _ _ (i .0 .0)) (sections 0 s) refl (i .1)
+  where
+    go : length s ≤ most → (r : Outcome Sections) → sections 0 s ≡ r → andThen r (λ c n. tests n (eqb n (length s) else TRAIL ∷ []) (got c n)) ≡ got c n → Whole s c n
+    go l (got a k) i h =
+        let j = passed k (eqb k (length s) else TRAIL ∷ []) (got a k) h in
+        got-elim (λ c n. Whole s c n) (j .1) (record { limit = l; read = i; all = eqb-true k (length s) (j .0 .0) })
+    go l (refused x y) i h = no-value h
+
+-- an accepted reading: the sections, and all that is known of them
+pub record Read (s : List ℕ) (r : Record) (n : ℕ) : Type 0 where
+  pub sections : Sections
+  pub is : shortcut s ≡ got sections n
+  pub held : recordOf sections ≡ r
+
+pub accepted-read : (s : List ℕ) (r : Record) (n : ℕ) → reading s ≡ record { verdict = Accepted n; held = r } → Read s r n
+unfolding reading
+accepted-read s r n e = go (shortcut s) refl (ap (λ (x : Reading). x .verdict) e) (ap (λ (x : Reading). x .held) e)
+  where
+    go : (o : Outcome Sections) → shortcut s ≡ o → verdictOf o ≡ Accepted n → heldBy o ≡ r → Read s r n
+    go (got c m) i v h =
+        let q : m ≡ n = cc in
+        record { sections = c; is = i ∙ ap (got c) q; held = h }
+    go (refused f p) i v h = absurd (let z : _≡_ {A = ℕ} 0 1 = cc in omega arith)
+
+-- ---- what holds of it
+
+module _ (s : List ℕ) (r : Record) (n : ℕ) (e : reading s ≡ record { verdict = Accepted n; held = r }) where
+  reads : Read s r n
+  reads = accepted-read s r n e
+
+  pub accepted-length : n ≡ length s
+  accepted-length = (shortcut-whole s (reads .sections) n (reads .is)) .all
+
+  pub accepted-limit : length s ≤ most
+  accepted-limit = (shortcut-whole s (reads .sections) n (reads .is)) .limit
+
+  -- it holds zeros for what is absent
+  pub accepted-present : present r ≡ r
+  accepted-present =
+      let x = reads in
+      ap present (sym (x .held)) ∙ read-present s (x .sections) n ((shortcut-whole s (x .sections) n (x .is)) .read) ∙ x .held
+
+  -- its bodies lie inside
+  pub accepted-inside : placed (length s) r ≡ true
+  unfolding placed
+  accepted-inside =
+      let x = reads in
+      let w = shortcut-whole s (x .sections) n (x .is) in
+      let i = read-inside s (x .sections) n (w .read) (omega (arith, w .all)) in
+      ap (λ (q : Record). allInside (length s) (bodies q)) (accepted-present ∙ sym (x .held)) ∙ i
+
+  pub accepted-decode : decode s ≡ got (contents s r) n
+  unfolding contents
+  accepted-decode =
+      let x = reads in
+      decode-is s ∙ ap (mapped (λ c. bodiesOf s (recordOf c))) (x .is) ∙ ap (λ (q : Record). got (bodiesOf s q) n) (x .held ∙ sym accepted-present)
+
+contents-is : (s : List ℕ) (r : Record) → contents s r ≡ bodiesOf s (present r)
+unfolding contents
+contents-is s r = refl
+
+-- what reads for its contents is accepted
+pub record Found (s : List ℕ) (c : Contents) (n : ℕ) : Type 0 where
+  pub held : Record
+  pub is : reading s ≡ record { verdict = Accepted n; held = held }
+  pub same : contents s held ≡ c
+
+pub decode-accepted : (s : List ℕ) (c : Contents) (n : ℕ) → decode s ≡ got c n → Found s c n
+unfolding reading
+decode-accepted s c n e = go (shortcut s) refl (sym (decode-is s) ∙ e)
+  where
+    go : (o : Outcome Sections) → shortcut s ≡ o → mapped (λ c. bodiesOf s (recordOf c)) o ≡ got c n → Found s c n
+    go (got a m) i h =
+        let q : m ≡ n = cc in
+        let b : bodiesOf s (recordOf a) ≡ c = cc in
+        let v : reading s ≡ record { verdict = Accepted n; held = recordOf a } = rw (i, q) in
+        let z : contents s (recordOf a) ≡ bodiesOf s (recordOf a) = same-contents (recordOf a) (accepted-present s (recordOf a) n v) in
+        record { held = recordOf a; is = v; same = z ∙ b }
+      where
+        same-contents : (r : Record) → present r ≡ r → contents s r ≡ bodiesOf s r
+        same-contents r e = contents-is s r ∙ ap (bodiesOf s) e
+    go (refused f p) i h = no-value h
+
+-- a refusal: the same for places and for contents
+pub decode-refused : (s : List ℕ) (f : Fault) (p : ℕ) → decode s ≡ refused f p → Refuses s f p
+unfolding Refuses reading
+decode-refused s f p e = go (shortcut s) refl (sym (decode-is s) ∙ e)
+  where
+    go : (o : Outcome Sections) → shortcut s ≡ o → mapped (λ c. bodiesOf s (recordOf c)) o ≡ refused f p → reading s ≡ record { verdict = Refused f p; held = noRecord }
+    go (got a m) i h = absurd (let z : _≡_ {A = ℕ} 0 1 = cc in omega arith)
+    go (refused x y) i h =
+        let a : x ≡ f = cc in
+        let b : y ≡ p = cc in
+        rw (i, a, b)

@@ -1,0 +1,181 @@
+-- The demands, proved of the definitions. Nothing is assumed but what types give: bytes are below 256, numbers fit their fields.
+use mathlib.Core.Path.{_≡_, refl, sym, ap, _∙_}
+use mathlib.Core.List.{List, [], _∷_}
+use mathlib.Core.Logic.{_↔_}
+use mathlib.Core.Bool.{Bool, true, false}
+use Prim.Native.Nat.{ℕ, _+_, _≤_, _<_}
+use native.Mathlib.Omega.{arith}
+use lib.ListN.{length, take}
+use lib.Dec.{leb}
+use borrow.Author.Tests.{leb-true, leb-false, le-leb, lt-leb}
+use Rattle.octets.specs.Numbers.{Bytes}
+use Rattle.format.specs.declared.Record.{Record}
+use Rattle.format.specs.declared.Reading.{Reading}
+use Rattle.format.specs.declared.Fault.{Fault}
+use Rattle.format.specs.declared.Fault.the-variants.{Cut as CUT, Place as PLACE, Unwritable as UNWRITABLE, Room as ROOM}
+use Rattle.format.specs.declared.Verdict.the-variants.{Accepted, Refused}
+use Rattle.format.specs.Tests.{Outcome, got, refused, choose}
+use Rattle.format.specs.Shortcut.{Sections, most, shortcut, recordOf, noRecord, verdictOf, heldBy, reading}
+use Rattle.format.specs.Contents.{Contents, present, placed, contents, Same}
+use Rattle.format.specs.Ranges.{FitsRecord}
+use Rattle.format.specs.Writing.{canonical, writable, writing}
+use Rattle.format.specs.Listing.{listing, EndToEnd}
+use Rattle.format.specs.Demands.{Accepts, Refuses, ReadsAs, Writes, misplaced, unwritable, no-room, written, CutAt}
+use Rattle.format.proofs.Bools.{by-order, clash}
+use Rattle.format.proofs.Chains.{CutBy, Law}
+use Rattle.format.proofs.HeaderLaws.{HeaderV}
+use Rattle.format.proofs.WholeLaws.{decode, Typed, Valid, Shortest, shortest, writes, refuses, beginning, can-valid, canonical-bytes}
+use Rattle.format.proofs.FoundLaws.{read-end-to-end}
+use Rattle.format.proofs.TypedLaws.{record-typed}
+use Rattle.format.proofs.AcceptedLaws.{accepted-read, shortcut-whole, accepted-length, accepted-limit, accepted-present, accepted-inside, accepted-decode, decode-accepted, decode-refused}
+
+-- ---- Demand 1: every input is answered, with one answer
+
+-- accepted, all of it, or refused
+pub data Answered (s : List ℕ) : Type 0 where
+  accepted : (r : Record) → Accepts s r → Answered s
+  refused-with : (f : Fault) (p : ℕ) → Refuses s f p → Answered s
+
+pub every-input-answered : (s : List ℕ) → Answered s
+unfolding Accepts Refuses reading
+every-input-answered s = go (shortcut s) refl
+  where
+    go : (o : Outcome Sections) → shortcut s ≡ o → Answered s
+    go (got c n) i =
+        let q = (shortcut-whole s c n i) .all in
+        accepted (recordOf c) (rw (i, q))
+    go (refused f p) i = refused-with f p (rw i)
+
+-- reading determines number, position and record
+pub one-answer : (s : List ℕ) (a b : Reading) → a ≡ reading s → b ≡ reading s → a ≡ b
+one-answer s a b p q = p ∙ sym q
+
+-- ---- Demand 2: what is shown is what is there
+
+-- an accepted shortcut is accepted whole
+pub accepted-whole : (s : List ℕ) (r : Record) (n : ℕ) → reading s ≡ record { verdict = Accepted n; held = r } → Accepts s r
+unfolding Accepts
+accepted-whole s r n e =
+    let q : n ≡ length s = accepted-length s r n e in
+    e ∙ ap (λ (k : ℕ). record { verdict = Accepted k; held = r }) q
+
+-- its bodies lie inside it, and what is absent is zero
+pub bodies-inside : (s : List ℕ) (r : Record) → Accepts s r → placed (length s) r ≡ true
+unfolding Accepts
+bodies-inside s r e = accepted-inside s r (length s) e
+
+pub absent-zero : (s : List ℕ) (r : Record) → Accepts s r → present r ≡ r
+unfolding Accepts
+absent-zero s r e = accepted-present s r (length s) e
+
+-- its sections lie end to end and their lengths add up to the file's
+pub sections-end-to-end : (s : List ℕ) (r : Record) → Accepts s r → EndToEnd 0 (listing s) (length s)
+unfolding Accepts listing
+sections-end-to-end s r e =
+    let x = accepted-read s r (length s) e in
+    let w = shortcut-whole s (x .sections) (length s) (x .is) in
+    rw (x .is) (read-end-to-end s (x .sections) (length s) (w .read))
+
+-- sameness is an equivalence
+pub same-self : (d : List ℕ) (r : Record) → Same d r d r
+unfolding Same
+same-self d r = refl
+
+pub same-back : (d : List ℕ) (r : Record) (e : List ℕ) (q : Record) → Same d r e q → Same e q d r
+unfolding Same
+same-back d r e q p = sym p
+
+pub same-through : (d : List ℕ) (r : Record) (e : List ℕ) (q : Record) (f : List ℕ) (t : Record) → Same d r e q → Same e q f t → Same d r f t
+unfolding Same
+same-through d r e q f t p k = p ∙ k
+
+-- ---- Demand 3: the writer gives up only when it has to. r is a record over the body buffer d
+
+module _ (r : Record) (d : List ℕ) (fits : FitsRecord r) (bs : Bytes d) where
+  bytes-made : writable (contents d r) ≡ true → Bytes (canonical (contents d r))
+  bytes-made e = canonical-bytes (contents d r) ((can-valid (contents d r) (record-typed d bs r fits) e) .0)
+
+  -- what is written for a record reads back as the same record
+  pub reads-back : writable (contents d r) ≡ true → ReadsAs (canonical (contents d r)) r d
+  unfolding Same Accepts
+  reads-back e =
+      let w : List ℕ = canonical (contents d r) in
+      let f = decode-accepted w (contents d r) (length w) (writes (contents d r) (record-typed d bs r fits) e) in
+      record { bytes = bytes-made e; held = f .held; accepted = f .is; same = f .same }
+
+  -- no accepted shortcut that reads as the record is shorter
+  pub none-shorter : (s : List ℕ) → ReadsAs s r d → length (canonical (contents d r)) ≤ length s
+  unfolding Same Accepts
+  none-shorter s x =
+      let e = accepted-decode s (x .held) (length s) (x .accepted) in
+      let k = (shortest s (contents s (x .held)) (length s) (x .bytes) e) .short in
+      rw (x .same) at k
+
+  -- the writability test fails exactly if no accepted shortcut reads as the record
+  pub unwritable-none : writable (contents d r) ≡ false → (s : List ℕ) → ReadsAs s r d → ⊥
+  unfolding Same Accepts
+  unwritable-none e s x =
+      let i = accepted-decode s (x .held) (length s) (x .accepted) in
+      refuses (contents d r) e s (length s) (x .bytes) (rw (x .same) at i)
+
+  pub none-unwritable : ((s : List ℕ) → ReadsAs s r d → ⊥) → writable (contents d r) ≡ false
+  none-unwritable h = go (writable (contents d r)) refl
+    where
+      go : (b : Bool) → writable (contents d r) ≡ b → b ≡ false
+      go true e = absurd (h (canonical (contents d r)) (reads-back e))
+      go false e = refl
+
+  -- the writer answers as demand 3 says, whatever the room
+  pub the-writer : (room : ℕ) → Writes r d room (writing r d room)
+  unfolding writing
+  the-writer room = go (placed (length d) r) refl (writable (contents d r)) refl (leb (length (canonical (contents d r))) room) refl
+    where
+      go : (a : Bool) → placed (length d) r ≡ a → (b : Bool) → writable (contents d r) ≡ b → (c : Bool) → leb (length (canonical (contents d r))) room ≡ c
+          → Writes r d room (choose a (choose b (choose c (got (canonical (contents d r)) (length (canonical (contents d r)))) (refused ROOM 0)) (refused UNWRITABLE 0)) (refused PLACE 0))
+      go true p true w true q = written (canonical (contents d r)) p (reads-back w) (leb-true _ _ q) none-shorter
+      go true p true w false q =
+          no-room (canonical (contents d r)) p (reads-back w) (λ s x. let k = none-shorter s x in omega (arith, leb-false (length (canonical (contents d r))) room q))
+      go true p false w c q = unwritable p (unwritable-none w)
+      go false p b w c q = misplaced p
+
+  -- and so UNWRITABLE exactly if no accepted shortcut reads as the record
+  pub unwritable-exactly : (room : ℕ) → placed (length d) r ≡ true → (writing r d room ≡ refused UNWRITABLE 0) ↔ ((s : List ℕ) → ReadsAs s r d → ⊥)
+  unwritable-exactly room p = (λ e. out (writing r d room) (the-writer room) e, λ h. back (writing r d room) (the-writer room) h)
+    where
+      out : (o : Outcome (List ℕ)) → Writes r d room o → o ≡ refused UNWRITABLE 0 → (s : List ℕ) → ReadsAs s r d → ⊥
+      out o (misplaced q) e s x = clash p q
+      out o (unwritable q h) e s x = h s x
+      out o (no-room w q y h) e s x = absurd (let z : _≡_ {A = ℕ} 0 1 = cc in omega arith)
+      out o (written w q y l h) e s x = absurd (let z : _≡_ {A = ℕ} 0 1 = cc in omega arith)
+
+      back : (o : Outcome (List ℕ)) → Writes r d room o → ((s : List ℕ) → ReadsAs s r d → ⊥) → o ≡ refused UNWRITABLE 0
+      back o (misplaced q) h = clash p q
+      back o (unwritable q k) h = refl
+      back o (no-room w q y k) h = absurd (h w y)
+      back o (written w q y l k) h = absurd (h w y)
+
+  -- ROOM exactly if some do but none as short as the room
+  pub room-exactly : (room : ℕ) → placed (length d) r ≡ true
+      → (writing r d room ≡ refused ROOM 0) ↔ (((w : List ℕ) × ReadsAs w r d) × ((s : List ℕ) → ReadsAs s r d → room < length s))
+  room-exactly room p = (λ e. out (writing r d room) (the-writer room) e, λ h. back (writing r d room) (the-writer room) h)
+    where
+      out : (o : Outcome (List ℕ)) → Writes r d room o → o ≡ refused ROOM 0 → ((w : List ℕ) × ReadsAs w r d) × ((s : List ℕ) → ReadsAs s r d → room < length s)
+      out o (misplaced q) e = clash p q
+      out o (unwritable q h) e = absurd (let z : _≡_ {A = ℕ} 0 1 = cc in omega arith)
+      out o (no-room w q y h) e = ((w, y), h)
+      out o (written w q y l h) e = absurd (let z : _≡_ {A = ℕ} 0 1 = cc in omega arith)
+
+      back : (o : Outcome (List ℕ)) → Writes r d room o → ((w : List ℕ) × ReadsAs w r d) × ((s : List ℕ) → ReadsAs s r d → room < length s) → o ≡ refused ROOM 0
+      back o (misplaced q) h = clash p q
+      back o (unwritable q k) h = absurd (k (h .0 .0) (h .0 .1))
+      back o (no-room w q y k) h = refl
+      back o (written w q y l k) h = absurd (let z = h .1 w y in omega arith)
+
+-- ---- no beginning passes
+
+-- every proper beginning of an accepted shortcut is refused with 2, at a position not after the cut
+pub beginning-cut : (s : List ℕ) (r : Record) → Accepts s r → (k : ℕ) → k < length s → CutAt k (take k s)
+unfolding Accepts
+beginning-cut s r e k h =
+    let z = beginning s (contents s r) (length s) (accepted-decode s r (length s) e) k h in
+    record { position = z .position; early = z .early; refusal = decode-refused (take k s) CUT (z .position) (z .is) }

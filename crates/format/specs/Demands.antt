@@ -1,0 +1,50 @@
+-- The words in which the three demands are put.
+use Prim.Native.Nat.{ℕ, _≤_, _<_}
+use mathlib.Core.Path.{_≡_}
+use mathlib.Core.List.{List}
+use mathlib.Core.Bool.{true, false}
+use lib.ListN.{length}
+use Rattle.octets.specs.Numbers.{Bytes}
+use Rattle.format.specs.declared.Record.{Record}
+use Rattle.format.specs.declared.Fault.{Fault}
+use Rattle.format.specs.declared.Verdict.the-variants.{Accepted, Refused}
+use Rattle.format.specs.declared.Fault.the-variants.{Cut as CUT, Place as PLACE, Unwritable as UNWRITABLE, Room as ROOM}
+use Rattle.format.specs.Tests.{Outcome, got, refused}
+use Rattle.format.specs.Shortcut.{reading, noRecord}
+use Rattle.format.specs.Contents.{placed, Same}
+
+-- the shortcut s is accepted, all of it, and read as the record r
+unfoldable pub Accepts : List ℕ → Record → Type 0
+unfolding reading
+Accepts s r = reading s ≡ record { verdict = Accepted (length s); held = r }
+
+-- the shortcut s is refused with this fault, at this position; the record beside a refusal is all zeros
+unfoldable pub Refuses : List ℕ → Fault → ℕ → Type 0
+unfolding reading
+Refuses s f p = reading s ≡ record { verdict = Refused f p; held = noRecord }
+
+-- s is an accepted shortcut that reads as the record r over the body buffer d
+pub record ReadsAs (s : List ℕ) (r : Record) (d : List ℕ) : Type 0 where
+  pub bytes : Bytes s
+  pub held : Record
+  pub accepted : Accepts s held
+  pub same : Same s held d r
+
+-- how a call that writes the record r over the body buffer d into a room may answer: one way for each record, buffer and room
+pub data Writes (r : Record) (d : List ℕ) (room : ℕ) : Outcome (List ℕ) → Type 0 where
+  -- a present body does not lie inside the body buffer
+  misplaced : placed (length d) r ≡ false → Writes r d room (refused PLACE 0)
+  -- no accepted shortcut reads as the record
+  unwritable : placed (length d) r ≡ true → ((s : List ℕ) → ReadsAs s r d → ⊥) → Writes r d room (refused UNWRITABLE 0)
+  -- some do, but none as short as the room
+  no-room : (w : List ℕ) → placed (length d) r ≡ true → ReadsAs w r d → ((s : List ℕ) → ReadsAs s r d → room < length s)
+      → Writes r d room (refused ROOM 0)
+  -- else what is written reads as the record, and nothing that reads so is shorter
+  written : (w : List ℕ) → placed (length d) r ≡ true → ReadsAs w r d → length w ≤ room → ((s : List ℕ) → ReadsAs s r d → length w ≤ length s)
+      → Writes r d room (got w (length w))
+
+-- the shortcut s is cut: refused with 2, at a position not after the place k
+pub record CutAt (k : ℕ) (s : List ℕ) : Type 0 where
+  pub position : ℕ
+  pub early : position ≤ k
+  pub refusal : Refuses s CUT position
