@@ -1,7 +1,7 @@
 -- The laws of the blocks.
 use mathlib.Core.Path.{_≡_, refl, sym, ap, _∙_}
 use mathlib.Core.List.{List, [], _∷_, _++_, append-assoc, append-nil}
-use mathlib.Core.Bool.{Bool, true, false}
+use mathlib.Core.Bool.{Bool, true, false, cond}
 use Prim.Native.Nat.{ℕ, zero, suc, _+_, _-_, _≤_, _<_}
 use native.Mathlib.Omega.{arith}
 use native.Mathlib.Nat.{add-sub-of-le}
@@ -13,7 +13,7 @@ use Rattle.octets.specs.Numbers.{Bytes, numberAt, little}
 use Rattle.octets.proofs.NumberLaws.{bytes-take, bytes-append, bytes-little, length-little, number-back, number-same}
 use Rattle.format.specs.declared.Fault.{Fault}
 use Rattle.format.specs.declared.Fault.the-variants.{Cut as CUT, Block as BLOCK}
-use Rattle.format.specs.Tests.{Outcome, got, refused, Test, _else_, tests, Reader, andThen, choose}
+use Rattle.format.specs.Tests.{Outcome, got, refused, Test, _else_, tests, Reader, andThen}
 use Rattle.format.specs.Blocks.{blockOk, blockSize, blockTests, blocksFrom, blocks}
 use Rattle.format.specs.Shortcut.{sum}
 use Rattle.format.specs.Writing.{blocksBytes, takes, writableBlocks}

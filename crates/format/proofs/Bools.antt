@@ -1,12 +1,11 @@
 -- Case tools for tests: from a conjunction or a disjunction of tests to its parts and back.
 use mathlib.Core.Path.{_≡_, refl}
 use mathlib.Core.List.{List, [], _∷_, _++_}
-use mathlib.Core.Bool.{Bool, true, false, not, _&&_, _||_}
+use mathlib.Core.Bool.{Bool, true, false, not, _&&_, _||_, cond}
 use Prim.Native.Nat.{ℕ, _≤_, _<_}
 use native.Mathlib.Omega.{arith}
 use lib.Dec.{leb}
 use borrow.Author.Tests.{leb-true, leb-false}
-use Rattle.format.specs.Tests.{choose}
 use Rattle.format.specs.Writing.{every}
 
 pub and-true : (a b : Bool) → (a && b) ≡ true → (a ≡ true) × (b ≡ true)
@@ -39,7 +38,7 @@ by-order {X = X} a b f g = go (leb a b) refl
 pub clash {ℓ} : {X : Type ℓ} {b : Bool} → b ≡ true → b ≡ false → X
 clash e f = absurd (let z : _≡_ {A = ℕ} 0 1 = cc in omega arith)
 
-pub choose-twice : {A : Type 0} (b : Bool) (x d : A) → choose b (choose b x d) d ≡ choose b x d
+pub choose-twice : {A : Type 0} (b : Bool) (x d : A) → cond b (cond b x d) d ≡ cond b x d
 choose-twice true x d = refl
 choose-twice false x d = refl
 

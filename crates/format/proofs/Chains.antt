@@ -2,7 +2,7 @@
 -- A section is a reader, a writer and a condition; the reader here gives contents, not places.
 use mathlib.Core.Path.{_≡_, refl, sym, ap, _∙_, subst₂}
 use mathlib.Core.List.{List, [], _∷_, _++_, append-assoc}
-use mathlib.Core.Bool.{Bool, true, false, _&&_}
+use mathlib.Core.Bool.{Bool, true, false, _&&_, cond}
 use Prim.Native.Nat.{ℕ, zero, suc, _+_, _-_, _≤_, _<_}
 use native.Mathlib.Omega.{arith}
 use native.Mathlib.Nat.{zero-add, suc-add, add-sub-of-le}
@@ -12,7 +12,7 @@ use Rattle.octets.specs.Numbers.{Bytes}
 use Rattle.octets.proofs.NumberLaws.{bytes-drop, bytes-append, bytes-nil}
 use Rattle.format.specs.declared.Fault.{Fault}
 use Rattle.format.specs.declared.Fault.the-variants.{Cut as CUT}
-use Rattle.format.specs.Tests.{Outcome, got, refused, choose, Test, _else_, tests, all, Reader, andThen, chain, optional}
+use Rattle.format.specs.Tests.{Outcome, got, refused, Test, _else_, tests, all, Reader, andThen, chain, optional}
 use Rattle.format.specs.Shortcut.{most}
 use Rattle.format.specs.Writing.{ifThere, writableIf}
 use Rattle.format.proofs.Bools.{and-true, and-both, by-order}
@@ -24,7 +24,7 @@ abbrev pub Pass : List Test → Type 0
 Pass [] = Unit {0}
 Pass (t ∷ ts) = (t .holds ≡ true) × Pass ts
 
-choose-got : {A : Type 0} (b : Bool) (r : Outcome A) (f : Fault) (p : ℕ) {a : A} {n : ℕ} → choose b r (refused f p) ≡ got a n → (b ≡ true) × (r ≡ got a n)
+choose-got : {A : Type 0} (b : Bool) (r : Outcome A) (f : Fault) (p : ℕ) {a : A} {n : ℕ} → cond b r (refused f p) ≡ got a n → (b ≡ true) × (r ≡ got a n)
 choose-got true r f p e = (refl, e)
 choose-got false r f p e = (cc, cc)
 
@@ -43,7 +43,7 @@ passed p (t ∷ ts) r e =
 
 pub tests-append : {A : Type 0} (p : ℕ) (ts us : List Test) (r : Outcome A) → tests p (ts ++ us) r ≡ tests p ts (tests p us r)
 tests-append p [] us r = refl
-tests-append p (t ∷ ts) us r = ap (λ (x : Outcome _). choose (t .holds) x (refused (t .fault) p)) (tests-append p ts us r)
+tests-append p (t ∷ ts) us r = ap (λ (x : Outcome _). cond (t .holds) x (refused (t .fault) p)) (tests-append p ts us r)
 
 pub pass-split : (ts us : List Test) → Pass (ts ++ us) → Pass ts × Pass us
 pass-split [] us h = (tt, h)

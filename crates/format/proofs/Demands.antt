@@ -2,7 +2,7 @@
 use mathlib.Core.Path.{_≡_, refl, sym, ap, _∙_}
 use mathlib.Core.List.{List, [], _∷_}
 use mathlib.Core.Logic.{_↔_}
-use mathlib.Core.Bool.{Bool, true, false}
+use mathlib.Core.Bool.{Bool, true, false, cond}
 use Prim.Native.Nat.{ℕ, _+_, _≤_, _<_}
 use native.Mathlib.Omega.{arith}
 use lib.ListN.{length, take}
@@ -14,7 +14,7 @@ use Rattle.format.specs.declared.Reading.{Reading}
 use Rattle.format.specs.declared.Fault.{Fault}
 use Rattle.format.specs.declared.Fault.the-variants.{Cut as CUT, Place as PLACE, Unwritable as UNWRITABLE, Room as ROOM}
 use Rattle.format.specs.declared.Verdict.the-variants.{Accepted, Refused}
-use Rattle.format.specs.Tests.{Outcome, got, refused, choose}
+use Rattle.format.specs.Tests.{Outcome, got, refused}
 use Rattle.format.specs.Shortcut.{Sections, most, shortcut, recordOf, noRecord, verdictOf, heldBy, reading}
 use Rattle.format.specs.Contents.{Contents, present, placed, contents, Same}
 use Rattle.format.specs.Ranges.{FitsRecord}
@@ -131,7 +131,7 @@ module _ (r : Record) (d : List ℕ) (fits : FitsRecord r) (bs : Bytes d) where
   the-writer room = go (placed (length d) r) refl (writable (contents d r)) refl (leb (length (canonical (contents d r))) room) refl
     where
       go : (a : Bool) → placed (length d) r ≡ a → (b : Bool) → writable (contents d r) ≡ b → (c : Bool) → leb (length (canonical (contents d r))) room ≡ c
-          → Writes r d room (choose a (choose b (choose c (got (canonical (contents d r)) (length (canonical (contents d r)))) (refused ROOM 0)) (refused UNWRITABLE 0)) (refused PLACE 0))
+          → Writes r d room (cond a (cond b (cond c (got (canonical (contents d r)) (length (canonical (contents d r)))) (refused ROOM 0)) (refused UNWRITABLE 0)) (refused PLACE 0))
       go true p true w true q = written (canonical (contents d r)) p (reads-back w) (leb-true _ _ q) none-shorter
       go true p true w false q =
           no-room (canonical (contents d r)) p (reads-back w) (λ s x. let k = none-shorter s x in omega (arith, leb-false (length (canonical (contents d r))) room q))

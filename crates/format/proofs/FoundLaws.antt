@@ -1,7 +1,7 @@
 -- What reading gives: zeros for what is absent, bodies inside the file, and sections end to end.
 use mathlib.Core.Path.{_≡_, refl, sym, ap, _∙_}
 use mathlib.Core.List.{List, [], _∷_, _++_}
-use mathlib.Core.Bool.{Bool, true, false, _&&_}
+use mathlib.Core.Bool.{Bool, true, false, _&&_, cond}
 use Prim.Native.Nat.{ℕ, _+_, _-_, _≤_, _<_}
 use native.Mathlib.Omega.{arith}
 use native.Mathlib.Nat.{add-assoc}
@@ -17,16 +17,16 @@ use Rattle.format.specs.declared.Info.{Info}
 use Rattle.format.specs.declared.Header.{Header}
 use Rattle.format.specs.declared.Network.{Network}
 use Rattle.format.specs.declared.Fault.the-variants.{Info as INFO}
-use Rattle.format.specs.Tests.{Outcome, got, refused, choose, bit, place, noPlace, _else_, tests, all, chain}
+use Rattle.format.specs.Tests.{Outcome, got, refused, bit, place, noPlace, _else_, tests, all, chain}
 use Rattle.format.specs.Header.{header}
-use Rattle.format.specs.Items.{itemsSize, itemsRules, items}
+use Rattle.format.specs.Items.{itemsLength, itemsRules, items}
 use Rattle.format.specs.Pieces.{textEnds, textLength, textPiece, textPlace, pieceOk}
 use Rattle.format.specs.Volume.{labelUnicode, labelOffset, labelOf, noVolume, volumeAt, volumeFields, volumeTests, volumePiece}
 use Rattle.format.specs.Network.{networkFlags, hasDevice, networkUnicode, networkHead, networkAt, networkFields, noNetwork, networkTests, networkPiece}
 use Rattle.format.specs.Info.{infoSize, infoHead, infoFlags, longHead, hasLocal, hasNetwork, infoRules, infoFields, info, noInfo}
-use Rattle.format.specs.Strings.{stringSize, string}
+use Rattle.format.specs.Strings.{stringLength, string}
 use Rattle.format.specs.Blocks.{blocks}
-use Rattle.format.specs.Shortcut.{Section, Tail, Sections, found, section, stringSection, tail, sections, sum, recordOf}
+use Rattle.format.specs.Shortcut.{Section, Tail, Sections, found, sectionIf, stringSection, tail, sections, sum, recordOf}
 use Rattle.format.specs.Contents.{presentNetwork, presentInfo, present, labelPlace, bodies, allInside}
 use Rattle.format.specs.Listing.{Row, row, blockRows, rowsOf, EndToEnd}
 use Rattle.format.proofs.Bools.{and-true, and-both, choose-twice}
@@ -48,7 +48,7 @@ network-present p v =
       choose-twice (networkUnicode v && hasDevice v) (place (p + u32At v 24) (textLength true (drop (u32At v 24) v))) noPlace,
     )
 
-network-there : (b : Bool) (p : ℕ) (v : List ℕ) → choose b (presentNetwork (choose b (networkFields p v) noNetwork)) noNetwork ≡ choose b (networkFields p v) noNetwork
+network-there : (b : Bool) (p : ℕ) (v : List ℕ) → cond b (presentNetwork (cond b (networkFields p v) noNetwork)) noNetwork ≡ cond b (networkFields p v) noNetwork
 network-there true p v = network-present p v
 network-there false p v = refl
 
@@ -63,7 +63,7 @@ info-present p l =
     )
 
 module _ (f : List ℕ) where
-  abbrev string-always : (flags k : ℕ) → Always f (stringSection flags k) (λ c. choose (bit k flags) (c .read) noPlace ≡ c .read)
+  abbrev string-always : (flags k : ℕ) → Always f (stringSection flags k) (λ c. cond (bit k flags) (c .read) noPlace ≡ c .read)
   string-always flags k = section-always f (string (bit 7 flags)) (bit k flags) noPlace (λ b. b) (λ p a n e. refl)
 
   blocks-always : Always f (found blocks) (λ c. Unit {0})
@@ -71,13 +71,13 @@ module _ (f : List ℕ) where
 
   abbrev Zeroed : ℕ → Tail → Type 0
   Zeroed flags c =
-      (choose (bit 0 flags) (c .0 .read) noPlace ≡ c .0 .read)
-      × ((choose (bit 1 flags) (presentInfo (c .1 .0 .read)) noInfo ≡ c .1 .0 .read)
-      × ((choose (bit 2 flags) (c .1 .1 .0 .read) noPlace ≡ c .1 .1 .0 .read)
-      × ((choose (bit 3 flags) (c .1 .1 .1 .0 .read) noPlace ≡ c .1 .1 .1 .0 .read)
-      × ((choose (bit 4 flags) (c .1 .1 .1 .1 .0 .read) noPlace ≡ c .1 .1 .1 .1 .0 .read)
-      × ((choose (bit 5 flags) (c .1 .1 .1 .1 .1 .0 .read) noPlace ≡ c .1 .1 .1 .1 .1 .0 .read)
-      × ((choose (bit 6 flags) (c .1 .1 .1 .1 .1 .1 .0 .read) noPlace ≡ c .1 .1 .1 .1 .1 .1 .0 .read)
+      (cond (bit 0 flags) (c .0 .read) noPlace ≡ c .0 .read)
+      × ((cond (bit 1 flags) (presentInfo (c .1 .0 .read)) noInfo ≡ c .1 .0 .read)
+      × ((cond (bit 2 flags) (c .1 .1 .0 .read) noPlace ≡ c .1 .1 .0 .read)
+      × ((cond (bit 3 flags) (c .1 .1 .1 .0 .read) noPlace ≡ c .1 .1 .1 .0 .read)
+      × ((cond (bit 4 flags) (c .1 .1 .1 .1 .0 .read) noPlace ≡ c .1 .1 .1 .1 .0 .read)
+      × ((cond (bit 5 flags) (c .1 .1 .1 .1 .1 .0 .read) noPlace ≡ c .1 .1 .1 .1 .1 .0 .read)
+      × ((cond (bit 6 flags) (c .1 .1 .1 .1 .1 .1 .0 .read) noPlace ≡ c .1 .1 .1 .1 .1 .1 .0 .read)
       × Unit {0}))))))
 
   tail-always : (flags : ℕ) → Always f (tail flags) (Zeroed flags)
@@ -217,8 +217,8 @@ one n b e = rw e
 items-inside : (f : List ℕ) (p : ℕ) (b : Place) (n : ℕ) → items p (drop p f) ≡ got b n → allInside (p + n) (b ∷ []) ≡ true
 items-inside f p b n =
     let s : List ℕ = drop p f in
-    let m : ℕ = itemsSize s in
-    tests-elim (λ b n. allInside (p + n) (b ∷ []) ≡ true) p (sizedTests 2 itemsSize (λ n. []) itemsRules itemsValue s) (place (p + 2) (m - 4)) m
+    let m : ℕ = itemsLength s in
+    tests-elim (λ b n. allInside (p + n) (b ∷ []) ≡ true) p (sizedTests 2 itemsLength (λ n. []) itemsRules itemsValue s) (place (p + 2) (m - 4)) m
     (λ c. one (p + m) (place (p + 2) (m - 4)) (le-leb (p + 2 + (m - 4)) (p + m) (omega arith)))
     b n
 
@@ -226,7 +226,7 @@ string-inside : (f : List ℕ) (u : Bool) (p : ℕ) (b : Place) (n : ℕ) → st
 string-inside f u p b n =
     let s : List ℕ = drop p f in
     let m : ℕ = bytesOf u (u16At s 0) in
-    tests-elim (λ b n. allInside (p + n) (b ∷ []) ≡ true) p (sizedTests 2 (stringSize u) (λ n. []) (λ l. []) (λ l. drop 2 l) s) (place (p + 2) m) (2 + m)
+    tests-elim (λ b n. allInside (p + n) (b ∷ []) ≡ true) p (sizedTests 2 (stringLength u) (λ n. []) (λ l. []) (λ l. drop 2 l) s) (place (p + 2) m) (2 + m)
     (λ c. one (p + (2 + m)) (place (p + 2) m) (le-leb (p + 2 + m) (p + (2 + m)) (omega arith)))
     b n
 

@@ -1,7 +1,7 @@
 -- The laws of the header.
 use mathlib.Core.Path.{_≡_, refl, sym, subst}
 use mathlib.Core.List.{List, [], _∷_, _++_}
-use mathlib.Core.Bool.{Bool, true, false, _&&_}
+use mathlib.Core.Bool.{Bool, true, false, _&&_, cond}
 use Prim.Native.Nat.{ℕ, _+_, _-_, _≤_, _<_, _^_}
 use native.Mathlib.Omega.{arith}
 use lib.ListN.{length, take}
@@ -12,7 +12,7 @@ use Rattle.octets.specs.Numbers.{Bytes, number, numberAt, u16At, u32At, u64At, 
 use Rattle.octets.proofs.NumberLaws.{bytes-append, bytes-nil, bytes-cons, bytes-little, number-little, number-below}
 use Rattle.format.specs.declared.Header.{Header}
 use Rattle.format.specs.declared.Fault.the-variants.{Cut as CUT}
-use Rattle.format.specs.Tests.{got, refused, choose, _else_, tests, Test, Outcome}
+use Rattle.format.specs.Tests.{got, refused, _else_, tests, Test, Outcome}
 use Rattle.format.specs.Header.{classIdentifier, magic, flagsOk, attributesOk, hotkeyOk, headerRules, signed, headerFields, header}
 use Rattle.format.specs.Ranges.{FitsSigned, FitsHeader}
 use Rattle.format.specs.Writing.{bits, headerBytes, writableHeader}
@@ -75,9 +75,9 @@ module _ (h : Header) (v : FitsHeader h) where
   unfolding headerBytes numberAt number little
   at52 = number-little 4 (h .size) (v .size)
 
-  at56 : u32At (headerBytes h) 56 ≡ bits (h .icon)
+  at56 : u32At (headerBytes h) 56 ≡ bits (h .«icon_index»)
   unfolding headerBytes numberAt number little
-  at56 = number-little 4 (bits (h .icon)) (bits-fit (h .icon) (v .icon))
+  at56 = number-little 4 (bits (h .«icon_index»)) (bits-fit (h .«icon_index») (v .index))
 
   at60 : u32At (headerBytes h) 60 ≡ h .command
   unfolding headerBytes numberAt number little
@@ -116,7 +116,7 @@ header-back h v =
       sizable = tt;
       judged = (magic-is h t, (rw (at20 h t) (c .0), (rw (at24 h t) (c .1 .0), (rw (at64 h t) (c .1 .1 .0), (ten-zeros h t, tt)))));
       same =
-          rw (at20 h t, at24 h t, at28 h t, at36 h t, at44 h t, at52 h t, at56 h t, at60 h t, at64 h t, signed-bits (h .icon) (t .icon));
+          rw (at20 h t, at24 h t, at28 h t, at36 h t, at44 h t, at52 h t, at56 h t, at60 h t, at64 h t, signed-bits (h .«icon_index») (t .index));
     }
 
 header-sized : Sized 76 (λ s. 76) (λ n. []) headerRules headerFields headerBytes HeaderV
@@ -134,7 +134,7 @@ header-sized = record {
         access = number-below 8 l 36 bs;
         write = number-below 8 l 44 bs;
         size = number-below 4 l 52 bs;
-        icon = signed-fits (u32At l 56) (number-below 4 l 56 bs);
+        index = signed-fits (u32At l 56) (number-below 4 l 56 bs);
         command = number-below 4 l 60 bs;
         hotkey = number-below 2 l 64 bs;
       };
@@ -148,7 +148,7 @@ header-sized = record {
 header-is : (p : ℕ) (s : List ℕ) → header p s ≡ sizedR 76 (λ s. 76) (λ n. []) headerRules headerFields p s
 header-is p s = go (leb 76 (length s)) (tests p (headerRules (take 76 s)) (got (headerFields (take 76 s)) 76))
   where
-    go : (b : Bool) (r : Outcome Header) → choose b r (refused CUT p) ≡ choose b (choose b r (refused CUT p)) (refused CUT p)
+    go : (b : Bool) (r : Outcome Header) → cond b r (refused CUT p) ≡ cond b (cond b r (refused CUT p)) (refused CUT p)
     go true r = refl
     go false r = refl
 

@@ -1,7 +1,7 @@
 -- The laws of LinkInfo.
 use mathlib.Core.Path.{_≡_, refl, sym, ap, _∙_}
 use mathlib.Core.List.{List, [], _∷_, _++_, map}
-use mathlib.Core.Bool.{Bool, true, false, not, _&&_, _||_}
+use mathlib.Core.Bool.{Bool, true, false, not, _&&_, _||_, cond}
 use Prim.Native.Nat.{ℕ, _+_, _≤_, _<_, _^_}
 use native.Mathlib.Omega.{arith}
 use lib.ListN.{length, take, drop, length-append}
@@ -10,7 +10,7 @@ use borrow.Author.Tests.{leb-true, le-leb, lt-leb, eqb-true}
 use Rattle.octets.specs.Numbers.{Bytes, number, numberAt, u32At, little}
 use Rattle.octets.proofs.NumberLaws.{bytes-append, bytes-nil, bytes-little, length-little, number-back, number-little, number-same}
 use Rattle.format.specs.declared.Fault.the-variants.{Info as INFO}
-use Rattle.format.specs.Tests.{Test, _else_, all, choose, bit}
+use Rattle.format.specs.Tests.{Test, _else_, all, bit}
 use Rattle.format.specs.Pieces.{textEnds, textSize, textPiece, span}
 use Rattle.format.specs.Volume.{volumeRules, volumePiece}
 use Rattle.format.specs.Network.{networkRules, networkPiece}
@@ -88,7 +88,7 @@ cans i =
     ∷ writableIf (i .long) (writableText true) (i .suffixUnicode)
     ∷ []
 
-head-is : (u : Bool) → choose u 0x24 0x1C ≡ 28 + choose u 8 0
+head-is : (u : Bool) → cond u 0x24 0x1C ≡ 28 + cond u 8 0
 head-is true = refl
 head-is false = refl
 
@@ -99,7 +99,7 @@ length-info i = simp (length-append, length-little, length-two) (omega (arith, h
 -- ---- from bytes
 
 -- the canonical head is no longer than the one that was read, which is inside
-head-fits : (h n : ℕ) → 0x1C ≤ n → (eqb h 0x1C || (leb 0x24 h && leb h n)) ≡ true → (choose (leb 0x24 h) 0x24 0x1C ≤ h) × (h ≤ n)
+head-fits : (h n : ℕ) → 0x1C ≤ n → (eqb h 0x1C || (leb 0x24 h && leb h n)) ≡ true → (cond (leb 0x24 h) 0x24 0x1C ≤ h) × (h ≤ n)
 head-fits h n k e =
     or-true (eqb h 0x1C) (leb 0x24 h && leb h n) e
     (λ t. let q : h ≡ 0x1C = eqb-true _ _ t in rw (lt-leb 0x24 h (omega arith)) (omega arith))
@@ -147,16 +147,16 @@ info-fits l bs k c =
 
 -- ---- to bytes
 
-long-is : (u : Bool) → leb 0x24 (choose u 0x24 0x1C) ≡ u
+long-is : (u : Bool) → leb 0x24 (cond u 0x24 0x1C) ≡ u
 long-is true = refl
 long-is false = refl
 
-head-good : (u : Bool) (n : ℕ) → choose u 0x24 0x1C ≤ n → (eqb (choose u 0x24 0x1C) 0x1C || (u && leb (choose u 0x24 0x1C) n)) ≡ true
+head-good : (u : Bool) (n : ℕ) → cond u 0x24 0x1C ≤ n → (eqb (cond u 0x24 0x1C) 0x1C || (u && leb (cond u 0x24 0x1C) n)) ≡ true
 head-good true n h = le-leb 0x24 n h
 head-good false n h = refl
 
 drop-head : (u : Bool) (a b c d e f g x y : ℕ) (r : List ℕ)
-    → drop (choose u 0x24 0x1C)
+    → drop (cond u 0x24 0x1C)
     (little 4 a ++ (little 4 b ++ (little 4 c ++ (little 4 d ++ (little 4 e ++ (little 4 f ++ (little 4 g ++ (twoFields u x y ++ r)))))))) ≡ r
 unfolding little
 drop-head true a b c d e f g x y r = refl
@@ -181,15 +181,15 @@ module _ (i : InfoContents) (v : InfoV i) (m : length (infoBytes i) ≤ most) wh
   unfolding infoBytes little numberAt number
   at8 = number-little 4 (i .flags) (omega (arith, leb-true (i .flags) 3 (can .0)))
 
-  at12 : u32At (infoBytes i) 12 ≡ choose (bit 0 (i .flags)) (volumeStart i) 0
+  at12 : u32At (infoBytes i) 12 ≡ cond (bit 0 (i .flags)) (volumeStart i) 0
   unfolding infoBytes little numberAt number
   at12 = field-is (bit 0 (i .flags)) (volumeStart i) (omega (arith, limit))
 
-  at16 : u32At (infoBytes i) 16 ≡ choose (bit 0 (i .flags)) (localStart i) 0
+  at16 : u32At (infoBytes i) 16 ≡ cond (bit 0 (i .flags)) (localStart i) 0
   unfolding infoBytes little numberAt number
   at16 = field-is (bit 0 (i .flags)) (localStart i) (omega (arith, limit))
 
-  at20 : u32At (infoBytes i) 20 ≡ choose (bit 1 (i .flags)) (networkStart i) 0
+  at20 : u32At (infoBytes i) 20 ≡ cond (bit 1 (i .flags)) (networkStart i) 0
   unfolding infoBytes little numberAt number
   at20 = field-is (bit 1 (i .flags)) (networkStart i) (omega (arith, limit))
 
@@ -201,15 +201,15 @@ module _ (i : InfoContents) (v : InfoV i) (m : length (infoBytes i) ≤ most) wh
   pieces =
       infoVolumeBytes i ++ (localBytes i ++ (infoNetworkBytes i ++ (suffixBytes i ++ (localUnicodeBytes i ++ (suffixUnicodeBytes i ++ [])))))
 
-  at28 : choose (i .long) (u32At (infoBytes i) 28) 0 ≡ choose (i .long) (choose (bit 0 (i .flags)) (localUnicodeStart i) 0) 0
+  at28 : cond (i .long) (u32At (infoBytes i) 28) 0 ≡ cond (i .long) (cond (bit 0 (i .flags)) (localUnicodeStart i) 0) 0
   unfolding infoBytes little numberAt number pieces
   at28 =
-      first-field (i .long) (choose (bit 0 (i .flags)) (localUnicodeStart i) 0) (suffixUnicodeStart i) pieces
+      first-field (i .long) (cond (bit 0 (i .flags)) (localUnicodeStart i) 0) (suffixUnicodeStart i) pieces
       (choose-below (bit 0 (i .flags)) (localUnicodeStart i) (omega (arith, limit)))
 
-  at32 : choose (i .long) (u32At (infoBytes i) 32) 0 ≡ choose (i .long) (suffixUnicodeStart i) 0
+  at32 : cond (i .long) (u32At (infoBytes i) 32) 0 ≡ cond (i .long) (suffixUnicodeStart i) 0
   unfolding infoBytes little numberAt number pieces
-  at32 = second-field (i .long) (choose (bit 0 (i .flags)) (localUnicodeStart i) 0) (suffixUnicodeStart i) pieces (omega (arith, limit))
+  at32 = second-field (i .long) (cond (bit 0 (i .flags)) (localUnicodeStart i) 0) (suffixUnicodeStart i) pieces (omega (arith, limit))
 
   is-long : longHead (infoBytes i) ≡ i .long
   is-long = rw at4 (long-is (i .long))
@@ -238,20 +238,20 @@ module _ (i : InfoContents) (v : InfoV i) (m : length (infoBytes i) ≤ most) wh
   TextBack u b o a x = SlotBack (textEnds u) (textSize u) (textValue u) b [] (textBytes u) (volumeStart i) (infoBytes i) o a x
 
   b₁ : SlotBack volumeWhole structSize volumeHere (bit 0 (i .flags)) noVolumeC volumeBytes (volumeStart i) (infoBytes i)
-      (choose (bit 0 (i .flags)) (volumeStart i) 0) (volumeStart i) (i .volume)
+      (cond (bit 0 (i .flags)) (volumeStart i) 0) (volumeStart i) (i .volume)
   b₁ =
       slot-back _ _ _ volume-law _ noVolumeC _ (infoBytes i) _ _ (volumeStart i) (i .volume)
       (ok-there VolumeT writableVolume (bit 0 (i .flags)) noVolumeC (i .volume) (v .typed .volume) (can .1 .0))
       (omega (arith, limit)) (omega arith) (choose-twice (bit 0 (i .flags)) (volumeStart i) 0) d₁
 
-  b₂ : TextBack false (bit 0 (i .flags)) (choose (bit 0 (i .flags)) (localStart i) 0) (localStart i) (i .local)
+  b₂ : TextBack false (bit 0 (i .flags)) (cond (bit 0 (i .flags)) (localStart i) 0) (localStart i) (i .local)
   b₂ =
       slot-back _ _ _ (text-law false) _ [] _ (infoBytes i) _ _ (localStart i) (i .local)
       (ok-there Bytes (writableText false) (bit 0 (i .flags)) [] (i .local) (v .typed .local) (can .1 .1 .0))
       (omega (arith, limit)) (omega arith) (choose-twice (bit 0 (i .flags)) (localStart i) 0) d₂
 
   b₃ : SlotBack networkWhole structSize networkHere (bit 1 (i .flags)) noNetworkC networkBytes (volumeStart i) (infoBytes i)
-      (choose (bit 1 (i .flags)) (networkStart i) 0) (networkStart i) (i .network)
+      (cond (bit 1 (i .flags)) (networkStart i) 0) (networkStart i) (i .network)
   b₃ =
       slot-back _ _ _ network-law _ noNetworkC _ (infoBytes i) _ _ (networkStart i) (i .network)
       (ok-there NetworkT writableNetwork (bit 1 (i .flags)) noNetworkC (i .network) (v .typed .network) (can .1 .1 .1 .0))
@@ -275,9 +275,9 @@ module _ (i : InfoContents) (v : InfoV i) (m : length (infoBytes i) ≤ most) wh
       (omega (arith, limit)) (omega arith) at32 d₆
 
   in-order : Ordered (volumeStart i)
-      (span (volumePiece (bit 0 (i .flags)) (infoBytes i) (choose (bit 0 (i .flags)) (volumeStart i) 0))
-      ∷ span (textPiece (bit 0 (i .flags)) false (infoBytes i) (choose (bit 0 (i .flags)) (localStart i) 0))
-      ∷ span (networkPiece (bit 1 (i .flags)) (infoBytes i) (choose (bit 1 (i .flags)) (networkStart i) 0))
+      (span (volumePiece (bit 0 (i .flags)) (infoBytes i) (cond (bit 0 (i .flags)) (volumeStart i) 0))
+      ∷ span (textPiece (bit 0 (i .flags)) false (infoBytes i) (cond (bit 0 (i .flags)) (localStart i) 0))
+      ∷ span (networkPiece (bit 1 (i .flags)) (infoBytes i) (cond (bit 1 (i .flags)) (networkStart i) 0))
       ∷ span (textPiece true false (infoBytes i) (suffixStart i))
       ∷ span (textPiece (i .long && bit 0 (i .flags)) true (infoBytes i) (u32At (infoBytes i) 28))
       ∷ span (textPiece (i .long) true (infoBytes i) (u32At (infoBytes i) 32))

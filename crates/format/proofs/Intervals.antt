@@ -1,7 +1,7 @@
 -- Intervals that share no place and lie in [h, n) have at most n - h places together.
 use mathlib.Core.Path.{_≡_, refl, ap}
 use mathlib.Core.List.{List, [], _∷_, map}
-use mathlib.Core.Bool.{Bool, true}
+use mathlib.Core.Bool.{Bool, true, cond}
 use Prim.Native.Nat.{ℕ, zero, suc, _+_, _-_, _≤_, _<_}
 use native.Mathlib.Omega.{arith}
 use native.Mathlib.Nat.{not-suc-le-zero, le-of-suc-le-suc}
@@ -9,7 +9,7 @@ use lib.ListN.{length, length-map}
 use lib.Dec.{leb}
 use borrow.Author.Tests.{leb-true, le-leb, lt-leb}
 use Rattle.format.specs.declared.Place.{Place}
-use Rattle.format.specs.Tests.{choose, place, noPlace}
+use Rattle.format.specs.Tests.{place, noPlace}
 use Rattle.format.specs.Pieces.{apart, apartFrom, allApart}
 use Rattle.format.proofs.Bools.{and-true, and-both, or-true, or-left, or-right, by-order}
 
@@ -36,7 +36,7 @@ abbrev moved : Place → Place → Place
 moved x y = record { at = y .at - x .len; len = y .len }
 
 without : Place → Place → Place
-without x y = record { at = choose (leb (y .at + y .len) (x .at)) (y .at) (y .at - x .len); len = y .len }
+without x y = record { at = cond (leb (y .at + y .len) (x .at)) (y .at) (y .at - x .len); len = y .len }
 
 -- an interval before x stays, one behind moves
 without-before : (x y : Place) → y .at + y .len ≤ x .at → without x y ≡ y

@@ -1,7 +1,7 @@
 -- The laws of the item list.
 use mathlib.Core.Path.{_≡_, refl, sym, ap, _∙_}
 use mathlib.Core.List.{List, [], _∷_, _++_}
-use mathlib.Core.Bool.{Bool, true, false, _&&_}
+use mathlib.Core.Bool.{Bool, true, false, _&&_, cond}
 use Prim.Native.Nat.{ℕ, zero, suc, _+_, _-_, _*_, _≤_, _<_}
 use native.Mathlib.Omega.{arith}
 use lib.ListN.{length, take, drop, length-append, length-drop}
@@ -10,8 +10,7 @@ use lib.Dec.{leb, ltb, eqb}
 use borrow.Author.Tests.{eqb-true, ltb-true, lt-ltb}
 use Rattle.octets.specs.Numbers.{Bytes, number, numberAt, u16At, little}
 use Rattle.octets.proofs.NumberLaws.{bytes-append, bytes-drop, bytes-take, bytes-nil, bytes-cons, bytes-little, length-little, number-back, number-below, number-same}
-use Rattle.format.specs.Tests.{choose}
-use Rattle.format.specs.Items.{walk, itemList, itemsSize, itemsRules}
+use Rattle.format.specs.Items.{walk, itemList, itemsLength, itemsRules}
 use Rattle.format.specs.Writing.{itemsBytes, writableItems}
 use Rattle.format.proofs.Bools.{and-true, and-both}
 use Rattle.format.proofs.Chains.{Ok, Fits, Law, no-true}
@@ -28,7 +27,7 @@ ends zero (a ∷ b ∷ l) e = go (eqb (a + 256 * b) 0) refl e (ends (a + 256 * b
     empty [] h p q = rw (p, q)
     empty (x ∷ r) h p q = absurd (omega arith)
 
-    go : (t : Bool) → eqb (a + 256 * b) 0 ≡ t → choose t (eqb (length l) 0) (leb 2 (a + 256 * b) && walk (a + 256 * b - 2) l) ≡ true
+    go : (t : Bool) → eqb (a + 256 * b) 0 ≡ t → cond t (eqb (length l) 0) (leb 2 (a + 256 * b) && walk (a + 256 * b - 2) l) ≡ true
         → (walk (a + 256 * b - 2) l ≡ true → (x : List ℕ) × (l ≡ x ++ 0 ∷ 0 ∷ [])) → (x : List ℕ) × (a ∷ b ∷ l ≡ x ++ 0 ∷ 0 ∷ [])
     go true t e f =
         let n : a + 256 * b ≡ 0 = eqb-true (a + 256 * b) 0 t in
@@ -60,7 +59,7 @@ items-at0 : (x r : List ℕ) → length x + 2 < 65536 → u16At (itemsBytes x ++
 unfolding itemsBytes little numberAt
 items-at0 x r h = number-back 2 (length x + 2) [] h
 
-items-fits : (l : List ℕ) → Bytes l → itemsSize l ≡ length l → itemList (drop 2 l) ≡ true → Fits itemsBytes ItemsV (itemsValue l) (length l)
+items-fits : (l : List ℕ) → Bytes l → itemsLength l ≡ length l → itemList (drop 2 l) ≡ true → Fits itemsBytes ItemsV (itemsValue l) (length l)
 items-fits l bs k c =
     let y = ends 0 (drop 2 l) c in
     let x : List ℕ = y .0 in
@@ -83,7 +82,7 @@ items-bytes x b =
     bytes-append (little 2 (length x + 2)) (x ++ 0 ∷ 0 ∷ []) (bytes-little 2 _)
     (bytes-append x (0 ∷ 0 ∷ []) b (bytes-cons (omega arith) (bytes-cons (omega arith) bytes-nil)))
 
-items-back : (x : List ℕ) → ItemsV x → SizedBack itemsSize (λ n. []) itemsRules itemsValue (itemsBytes x) x
+items-back : (x : List ℕ) → ItemsV x → SizedBack itemsLength (λ n. []) itemsRules itemsValue (itemsBytes x) x
 items-back x v =
     let i = and-true (ltb (length x + 2) 65536) (itemList (x ++ 0 ∷ 0 ∷ [])) (v .can) in
     record {
@@ -93,7 +92,7 @@ items-back x v =
       same = rw items-drop (take-at x (0 ∷ 0 ∷ []) (length (itemsBytes x) - 4) (omega (arith, length-items x)));
     }
 
-items-sized : Sized 2 itemsSize (λ n. []) itemsRules itemsValue itemsBytes ItemsV
+items-sized : Sized 2 itemsLength (λ n. []) itemsRules itemsValue itemsBytes ItemsV
 items-sized = record {
   first = λ s t e. ap (λ (c : ℕ). 2 + c) (number-same 2 2 s t 0 e (omega arith));
   low = λ s e. omega arith;
@@ -102,5 +101,5 @@ items-sized = record {
   fits = λ l bs k g c. items-fits l bs k (c .0);
 }
 
-pub items-law : Law (sizedR 2 itemsSize (λ n. []) itemsRules itemsValue) itemsBytes ItemsV
-items-law = sized-law 2 itemsSize (λ n. []) itemsRules itemsValue items-sized
+pub items-law : Law (sizedR 2 itemsLength (λ n. []) itemsRules itemsValue) itemsBytes ItemsV
+items-law = sized-law 2 itemsLength (λ n. []) itemsRules itemsValue items-sized

@@ -1,7 +1,7 @@
 -- The laws of the network link.
 use mathlib.Core.Path.{_≡_, refl, sym, ap, _∙_}
 use mathlib.Core.List.{List, [], _∷_, _++_, map}
-use mathlib.Core.Bool.{Bool, true, false, not, _&&_, _||_}
+use mathlib.Core.Bool.{Bool, true, false, not, _&&_, _||_, cond}
 use Prim.Native.Nat.{ℕ, _+_, _≤_, _<_, _^_}
 use native.Mathlib.Omega.{arith}
 use lib.ListN.{length, take, drop, length-append}
@@ -9,7 +9,7 @@ use lib.Dec.{leb, ltb, eqb}
 use borrow.Author.Tests.{leb-true, le-leb}
 use Rattle.octets.specs.Numbers.{Bytes, number, numberAt, u32At, little}
 use Rattle.octets.proofs.NumberLaws.{bytes-append, bytes-nil, bytes-little, length-little, number-back, number-little, number-below}
-use Rattle.format.specs.Tests.{all, choose, bit}
+use Rattle.format.specs.Tests.{all, bit}
 use Rattle.format.specs.Pieces.{textEnds, textSize, textPiece, absentZero, span, allApart}
 use Rattle.format.specs.Network.{networkFlags, hasDevice, networkUnicode, networkHead, networkPieces, networkRules}
 use Rattle.format.specs.Shortcut.{most}
@@ -29,7 +29,7 @@ text u b l o = slot (textEnds u) (textSize u) (textValue u) b [] l o
 abbrev pub networkValue : List ℕ → NetworkContents
 networkValue l = record {
   flags = networkFlags l;
-  provider = choose (bit 1 (networkFlags l)) (u32At l 16) 0;
+  provider = cond (bit 1 (networkFlags l)) (u32At l 16) 0;
   unicode = networkUnicode l;
   net = text false true l (u32At l 8);
   device = text false (hasDevice l) l (u32At l 12);
@@ -39,7 +39,7 @@ networkValue l = record {
 
 pub record NetworkT (n : NetworkContents) : Type 0 where
   pub provider : n .provider < 2 ^ 32
-  pub kept : choose (bit 1 (n .flags)) (n .provider) 0 ≡ n .provider
+  pub kept : cond (bit 1 (n .flags)) (n .provider) 0 ≡ n .provider
   pub net : Bytes (n .net)
   pub device : IfThere (bit 0 (n .flags)) [] Bytes (n .device)
   pub netUnicode : IfThere (n .unicode) [] Bytes (n .netUnicode)
@@ -48,7 +48,7 @@ pub record NetworkT (n : NetworkContents) : Type 0 where
 abbrev pub NetworkV : NetworkContents → Type 0
 NetworkV = Ok NetworkT writableNetwork
 
-head-is : (u : Bool) → networkHead u ≡ 20 + choose u 8 0
+head-is : (u : Bool) → networkHead u ≡ 20 + cond u 8 0
 head-is true = refl
 head-is false = refl
 
@@ -58,11 +58,11 @@ length-network n = simp (length-append, length-little, length-two) (omega (arith
 
 -- ---- from bytes
 
-kept-below : (b : Bool) (x : ℕ) → x < 2 ^ 32 → choose b x 0 < 2 ^ 32
+kept-below : (b : Bool) (x : ℕ) → x < 2 ^ 32 → cond b x 0 < 2 ^ 32
 kept-below true x h = h
 kept-below false x h = omega arith
 
-kept-twice : (b : Bool) (x : ℕ) → choose b (choose b x 0) 0 ≡ choose b x 0
+kept-twice : (b : Bool) (x : ℕ) → cond b (cond b x 0) 0 ≡ cond b x 0
 kept-twice true x = refl
 kept-twice false x = refl
 
@@ -129,25 +129,25 @@ module _ (n : NetworkContents) (v : NetworkV n) (m : length (networkBytes n) ≤
   unfolding networkBytes little numberAt number
   at8 = number-little 4 (netStart n) (omega (arith, limit))
 
-  at12 : u32At (networkBytes n) 12 ≡ choose (bit 0 (n .flags)) (deviceStart n) 0
+  at12 : u32At (networkBytes n) 12 ≡ cond (bit 0 (n .flags)) (deviceStart n) 0
   unfolding networkBytes little numberAt number
   at12 = field-is (bit 0 (n .flags)) (deviceStart n) (omega (arith, limit))
 
-  at16 : u32At (networkBytes n) 16 ≡ n .provider
+  at16 : u32At (networkBytes n) 16 ≡ cond (bit 1 (n .flags)) (n .provider) 0
   unfolding networkBytes little numberAt number
-  at16 = number-little 4 (n .provider) (v .typed .provider)
+  at16 = number-little 4 (cond (bit 1 (n .flags)) (n .provider) 0) (kept-below (bit 1 (n .flags)) (n .provider) (v .typed .provider))
 
   texts : List ℕ
   texts = netBytes n ++ (deviceBytes n ++ (netUnicodeBytes n ++ (deviceUnicodeBytes n ++ [])))
 
-  at20 : choose (n .unicode) (u32At (networkBytes n) 20) 0 ≡ choose (n .unicode) (netUnicodeStart n) 0
+  at20 : cond (n .unicode) (u32At (networkBytes n) 20) 0 ≡ cond (n .unicode) (netUnicodeStart n) 0
   unfolding networkBytes little numberAt number texts
-  at20 = first-field (n .unicode) (netUnicodeStart n) (choose (bit 0 (n .flags)) (deviceUnicodeStart n) 0) texts (omega (arith, limit))
+  at20 = first-field (n .unicode) (netUnicodeStart n) (cond (bit 0 (n .flags)) (deviceUnicodeStart n) 0) texts (omega (arith, limit))
 
-  at24 : choose (n .unicode) (u32At (networkBytes n) 24) 0 ≡ choose (n .unicode) (choose (bit 0 (n .flags)) (deviceUnicodeStart n) 0) 0
+  at24 : cond (n .unicode) (u32At (networkBytes n) 24) 0 ≡ cond (n .unicode) (cond (bit 0 (n .flags)) (deviceUnicodeStart n) 0) 0
   unfolding networkBytes little numberAt number texts
   at24 =
-      second-field (n .unicode) (netUnicodeStart n) (choose (bit 0 (n .flags)) (deviceUnicodeStart n) 0) texts
+      second-field (n .unicode) (netUnicodeStart n) (cond (bit 0 (n .flags)) (deviceUnicodeStart n) 0) texts
       (choose-below (bit 0 (n .flags)) (deviceUnicodeStart n) (omega (arith, limit)))
 
   unicode-is : networkUnicode (networkBytes n) ≡ n .unicode
@@ -165,7 +165,7 @@ module _ (n : NetworkContents) (v : NetworkV n) (m : length (networkBytes n) ≤
 
   d₁ : drop (netStart n) (networkBytes n) ≡ netBytes n ++ (deviceBytes n ++ (netUnicodeBytes n ++ (deviceUnicodeBytes n ++ [])))
   unfolding networkBytes
-  d₁ = drop-head (n .unicode) (networkLength n) (n .flags) (netStart n) _ (n .provider) _ _ _
+  d₁ = drop-head (n .unicode) (networkLength n) (n .flags) (netStart n) _ _ _ _ _
 
   d₂ : drop (deviceStart n) (networkBytes n) ≡ deviceBytes n ++ (netUnicodeBytes n ++ (deviceUnicodeBytes n ++ []))
   d₂ = next (networkBytes n) (netBytes n) _ (netStart n) d₁
@@ -187,7 +187,7 @@ module _ (n : NetworkContents) (v : NetworkV n) (m : length (networkBytes n) ≤
       slot-back _ _ _ (text-law false) true [] _ (networkBytes n) _ (netStart n) (netStart n) (n .net)
       (record { typed = v .typed .net; can = can .1 .0 }) (omega (arith, limit)) (omega arith) refl d₁
 
-  b₂ : TextBack false (bit 0 (n .flags)) (choose (bit 0 (n .flags)) (deviceStart n) 0) (deviceStart n) (n .device)
+  b₂ : TextBack false (bit 0 (n .flags)) (cond (bit 0 (n .flags)) (deviceStart n) 0) (deviceStart n) (n .device)
   b₂ =
       slot-back _ _ _ (text-law false) _ [] _ (networkBytes n) _ _ (deviceStart n) (n .device)
       (ok-there Bytes (writableText false) (bit 0 (n .flags)) [] (n .device) (v .typed .device) (can .1 .1 .0))
@@ -207,7 +207,7 @@ module _ (n : NetworkContents) (v : NetworkV n) (m : length (networkBytes n) ≤
 
   in-order : Ordered (netStart n)
       (span (textPiece true false (networkBytes n) (netStart n))
-      ∷ span (textPiece (bit 0 (n .flags)) false (networkBytes n) (choose (bit 0 (n .flags)) (deviceStart n) 0))
+      ∷ span (textPiece (bit 0 (n .flags)) false (networkBytes n) (cond (bit 0 (n .flags)) (deviceStart n) 0))
       ∷ span (textPiece (n .unicode) true (networkBytes n) (u32At (networkBytes n) 20))
       ∷ span (textPiece (n .unicode && bit 0 (n .flags)) true (networkBytes n) (u32At (networkBytes n) 24))
       ∷ [])
@@ -237,7 +237,7 @@ module _ (n : NetworkContents) (v : NetworkV n) (m : length (networkBytes n) ≤
       )
 
   network-same : networkValue (networkBytes n) ≡ n
-  network-same = rw (unicode-is, at4, at8, at12, at16, b₁ .same, b₂ .same, b₃ .same, b₄ .same, v .typed .kept)
+  network-same = rw (unicode-is, at4, at8, at12, at16, b₁ .same, b₂ .same, b₃ .same, b₄ .same, kept-twice (bit 1 (n .flags)) (n .provider), v .typed .kept)
 
 network-bytes : (n : NetworkContents) → NetworkV n → Bytes (networkBytes n)
 unfolding networkBytes

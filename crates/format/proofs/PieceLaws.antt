@@ -1,7 +1,7 @@
 -- The laws of a piece that an offset leads to: of a string, and of a piece that is there or not.
 use mathlib.Core.Path.{_≡_, refl, sym, ap, _∙_}
 use mathlib.Core.List.{List, [], _∷_, _++_, map, append-assoc}
-use mathlib.Core.Bool.{Bool, true, false}
+use mathlib.Core.Bool.{Bool, true, false, cond}
 use Prim.Native.Nat.{ℕ, zero, suc, _+_, _-_, _*_, _≤_, _<_}
 use native.Mathlib.Omega.{arith}
 use native.Mathlib.Nat.{add-zero}
@@ -15,7 +15,7 @@ use Rattle.octets.proofs.NumberLaws.{bytes-append, bytes-drop, bytes-take, byte
 use Rattle.octets.proofs.CharacterLaws.{before-le, before-take, before-append, characters-fit, characters-take, characters-append, bytes-of-le, bytes-of-add, bytes-of-same}
 use Rattle.format.specs.declared.Place.{Place}
 use Rattle.format.specs.declared.Fault.the-variants.{Piece as PIECE}
-use Rattle.format.specs.Tests.{Test, _else_, all, choose, place, noPlace}
+use Rattle.format.specs.Tests.{Test, _else_, all, place, noPlace}
 use Rattle.format.specs.Pieces.{Piece, textEnds, textLength, textSize, absentZero, pieceOk, span}
 use Rattle.format.specs.Shortcut.{most}
 use Rattle.format.specs.Writing.{textBytes, ifThere, writableText}
@@ -129,7 +129,7 @@ module _ {A : Type 0} (whole : List ℕ → Bool) (size : List ℕ → ℕ) (val
   pieceAt b l o = record { present = b; offset = o; whole = whole (drop o l); size = size (drop o l) }
 
   abbrev pub slot : Bool → A → List ℕ → ℕ → A
-  slot b d l o = choose b (value (drop o l)) d
+  slot b d l o = cond b (value (drop o l)) d
 
   -- what a piece that was read says
   pub record SlotFits (b : Bool) (d : A) (enc : A → List ℕ) (Valid : A → Type 0) (h : ℕ) (l : List ℕ) (o : ℕ) : Type 0 where
@@ -140,7 +140,7 @@ module _ {A : Type 0} (whole : List ℕ → Bool) (size : List ℕ → ℕ) (val
   -- a piece of the canonical layout, from the place a on, to which its offset field o leads
   pub record SlotBack (b : Bool) (d : A) (enc : A → List ℕ) (h : ℕ) (l : List ℕ) (o a : ℕ) (x : A) : Type 0 where
     pub good : pieceOk h (pieceAt b l o) ≡ true
-    pub spans : span (pieceAt b l o) ≡ choose b (place a (length (ifThere b enc x))) noPlace
+    pub spans : span (pieceAt b l o) ≡ cond b (place a (length (ifThere b enc x))) noPlace
     pub same : slot b d l o ≡ x
 
   module _ {enc : A → List ℕ} {Valid : A → Type 0} (F : PieceLaw whole size value enc Valid) where
@@ -154,7 +154,7 @@ module _ {A : Type 0} (whole : List ℕ → Bool) (size : List ℕ → ℕ) (val
     slot-fits false d h l o bs e = record { valid = refl; short = omega arith; within = λ z. absurd (omega arith) }
 
     pub slot-back : (b : Bool) (d : A) (h : ℕ) (l r : List ℕ) (o a : ℕ) (x : A) → IfThere b d Valid x → length (ifThere b enc x) ≤ most → h ≤ a
-        → choose b o 0 ≡ choose b a 0 → drop a l ≡ ifThere b enc x ++ r → SlotBack b d enc h l o a x
+        → cond b o 0 ≡ cond b a 0 → drop a l ≡ ifThere b enc x ++ r → SlotBack b d enc h l o a x
     slot-back true d h l r o a x v k g q e =
         let f = F .back x v k r in
         let i : drop o l ≡ enc x ++ r = ap (λ (m : ℕ). drop m l) q ∙ e in
@@ -170,7 +170,7 @@ module _ {A : Type 0} (whole : List ℕ → Bool) (size : List ℕ → ℕ) (val
     slot-bytes false d x v = bytes-nil
 
 -- the next piece of the layout takes its place in the order
-pub spans-ordered : (b : Bool) (a n : ℕ) (x : Place) (xs : List Place) → x ≡ choose b (place a n) noPlace → (b ≡ false → n ≡ 0) → Ordered (a + n) xs → Ordered a (x ∷ xs)
+pub spans-ordered : (b : Bool) (a n : ℕ) (x : Place) (xs : List Place) → x ≡ cond b (place a n) noPlace → (b ≡ false → n ≡ 0) → Ordered (a + n) xs → Ordered a (x ∷ xs)
 spans-ordered true a n x xs e z r = rw e (put n r)
 spans-ordered false a n x xs e z r =
     let k : a + n ≡ a = omega (arith, z refl) in

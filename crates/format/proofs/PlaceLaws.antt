@@ -1,7 +1,7 @@
 -- Places: what stands at the places that reading gives are the contents; they lie inside; what is absent is zero; the sections lie end to end.
 use mathlib.Core.Path.{_≡_, refl, sym, ap, _∙_, subst}
 use mathlib.Core.List.{List, [], _∷_, _++_}
-use mathlib.Core.Bool.{Bool, true, false, _&&_}
+use mathlib.Core.Bool.{Bool, true, false, _&&_, cond}
 use Prim.Native.Nat.{ℕ, zero, suc, _+_, _-_, _≤_, _<_}
 use native.Mathlib.Omega.{arith}
 use native.Mathlib.Nat.{add-assoc, add-zero}
@@ -17,9 +17,9 @@ use Rattle.format.specs.declared.Place.{Place}
 use Rattle.format.specs.declared.Header.{Header}
 use Rattle.format.specs.declared.Info.{Info}
 use Rattle.format.specs.declared.Fault.the-variants.{Cut as CUT, Info as INFO}
-use Rattle.format.specs.Tests.{Outcome, got, refused, choose, bit, place, noPlace, Test, _else_, tests, Reader, andThen, chain, _then_, optional}
+use Rattle.format.specs.Tests.{Outcome, got, refused, bit, place, noPlace, Test, _else_, tests, Reader, andThen, chain, _then_, optional}
 use Rattle.format.specs.Pieces.{textLength, textPlace}
-use Rattle.format.specs.Shortcut.{Section, absent, found, section}
+use Rattle.format.specs.Shortcut.{Section, absent, found, sectionIf}
 use Rattle.format.specs.Contents.{bytesAt, allInside}
 use Rattle.format.specs.Listing.{Row, row, EndToEnd}
 use Rattle.format.proofs.Bools.{by-order, and-true, and-both}
@@ -70,7 +70,7 @@ text-inside u s =
 
 -- a text's place holds the text
 pub text-placed : (f : List ℕ) (p : ℕ) (v : List ℕ) (b u : Bool) (o : ℕ) → PartOf f p v
-    → bytesAt f (textPlace b u p v o) ≡ choose b (textValue u (drop o v)) []
+    → bytesAt f (textPlace b u p v o) ≡ cond b (textValue u (drop o v)) []
 text-placed f p v true u o F = sym (F .same o (textLength u (drop o v)) (omega (arith, text-inside u (drop o v), length-drop o v)))
 text-placed f p v false u o F = refl
 
@@ -80,17 +80,17 @@ abbrev pub mapped : {A B : Type 0} → (A → B) → Outcome A → Outcome B
 mapped g r = andThen r (λ a n. got (g a) n)
 
 pub found-elim {ℓ} : {A : Type 0} (P : Reader A) (p : ℕ) (s : List ℕ) (X : Section A → ℕ → Type ℓ)
-    → ((a : A) (n : ℕ) → P p s ≡ got a n → X (record { there = true; start = p; size = n; read = a }) n)
+    → ((a : A) (n : ℕ) → P p s ≡ got a n → X (record { there = true; start = p; len = n; read = a }) n)
     → (c : Section A) (n : ℕ) → found P p s ≡ got c n → X c n
 found-elim {A = A} P p s X g c n e = go (P p s) refl e
   where
-    go : (r : Outcome A) → P p s ≡ r → andThen r (λ a n. got (record { there = true; start = p; size = n; read = a }) n) ≡ got c n → X c n
+    go : (r : Outcome A) → P p s ≡ r → andThen r (λ a n. got (record { there = true; start = p; len = n; read = a }) n) ≡ got c n → X c n
     go (got a m) i h = got-elim X h (g a m i)
     go (refused x y) i h = no-value h
 
 end-to-end-append : (p m q : ℕ) (xs ys : List Row) → EndToEnd p xs m → EndToEnd m ys q → EndToEnd p (xs ++ ys) q
 end-to-end-append p m q [] ys c d = rw c d
-end-to-end-append p m q (x ∷ xs) ys c d = (c .0, end-to-end-append (p + x .size) m q xs ys (c .1) d)
+end-to-end-append p m q (x ∷ xs) ys c d = (c .0, end-to-end-append (p + x .len) m q xs ys (c .1) d)
 
 inside-append : (n : ℕ) (xs ys : List Place) → allInside n xs ≡ true → allInside n ys ≡ true → allInside n (xs ++ ys) ≡ true
 inside-append n [] ys c d = d
@@ -119,7 +119,7 @@ module _ (f : List ℕ) where
   tests-placed view p (t ∷ ts) a b n e = go (t .holds) refl (λ q. tests-placed view p ts a b n (λ c. e (q, c)))
     where
       go : (h : Bool) → t .holds ≡ h → (t .holds ≡ true → mapped view (tests p ts (got a n)) ≡ tests p ts (got b n))
-          → mapped view (choose h (tests p ts (got a n)) (refused (t .fault) p)) ≡ choose h (tests p ts (got b n)) (refused (t .fault) p)
+          → mapped view (cond h (tests p ts (got a n)) (refused (t .fault) p)) ≡ cond h (tests p ts (got b n)) (refused (t .fault) p)
       go true q rest = rest q
       go false q rest = refl
 
@@ -127,12 +127,12 @@ module _ (f : List ℕ) where
   found-placed {A = A} {P = P} {view = view} {PC = PC} F = record { placed = λ p. go p (P p (drop p f)) refl }
     where
       go : (p : ℕ) (r : Outcome A) → P p (drop p f) ≡ r
-          → mapped (λ (c : Section A). view (c .read)) (andThen r (λ a n. got (record { there = true; start = p; size = n; read = a }) n)) ≡ PC p (drop p f)
+          → mapped (λ (c : Section A). view (c .read)) (andThen r (λ a n. got (record { there = true; start = p; len = n; read = a }) n)) ≡ PC p (drop p f)
       go p (got a n) i = sym (ap (mapped view) i) ∙ F .placed p
       go p (refused x y) i = sym (ap (mapped view) i) ∙ F .placed p
 
   pub section-placed : {A B : Type 0} {P : Reader A} {view : A → B} {PC : Reader B} (b : Bool) (d : A) (e : B) → view d ≡ e → Placed P view PC
-      → Placed (section b d P) (λ c. view (c .read)) (optional b e PC)
+      → Placed (sectionIf b d P) (λ c. view (c .read)) (optional b e PC)
   section-placed true d e q F = found-placed F
   section-placed false d e q F = record { placed = λ p. rw q }
 
@@ -180,7 +180,7 @@ module _ (f : List ℕ) where
   then-always {Q = Q} {Y = Y} F G = chain-always (λ a. Q) (λ a. Y) F (λ a. G)
 
   pub section-always : {A : Type 0} (P : Reader A) (b : Bool) (d : A) (g : A → A) → ((p : ℕ) (a : A) (n : ℕ) → P p (drop p f) ≡ got a n → g a ≡ a)
-      → Always (section b d P) (λ c. choose b (g (c .read)) d ≡ c .read)
+      → Always (sectionIf b d P) (λ c. cond b (g (c .read)) d ≡ c .read)
   section-always P true d g h = record { always = λ p c n e. found-elim P p (drop p f) (λ c n. g (c .read) ≡ c .read) (λ a n i. h p a n i) c n e }
   section-always P false d g h = record { always = λ p c n e. got-elim (λ c n. d ≡ c .read) e refl }
 
@@ -221,7 +221,7 @@ module _ (f : List ℕ) where
   }
 
   pub section-lies : {A : Type 0} (P : Reader A) (k : ℕ) (K : A → List Place) (b : Bool) (d : A) → ((n : ℕ) → allInside n (K d) ≡ true)
-      → ((p : ℕ) (a : A) (n : ℕ) → P p (drop p f) ≡ got a n → allInside (p + n) (K a) ≡ true) → Lies (section b d P) (row k) (λ c. K (c .read))
+      → ((p : ℕ) (a : A) (n : ℕ) → P p (drop p f) ≡ got a n → allInside (p + n) (K a) ≡ true) → Lies (sectionIf b d P) (row k) (λ c. K (c .read))
   section-lies P k K true d z h = found-lies P k K h
   section-lies P k K false d z h = record {
     listed = λ p c n e. got-elim (λ c n. EndToEnd p (row k c) (p + n)) e (omega arith);

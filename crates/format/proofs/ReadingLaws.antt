@@ -1,7 +1,7 @@
 -- The record that reading gives, beside the contents: each section's places hold its contents, and so do those of the whole.
 use mathlib.Core.Path.{_≡_, refl, sym, ap, _∙_}
 use mathlib.Core.List.{List, [], _∷_, _++_}
-use mathlib.Core.Bool.{Bool, true, false, _&&_}
+use mathlib.Core.Bool.{Bool, true, false, _&&_, cond}
 use Prim.Native.Nat.{ℕ, _+_, _-_, _≤_, _<_}
 use native.Mathlib.Omega.{arith}
 use lib.ListN.{length, take, drop, length-take, length-drop}
@@ -16,15 +16,15 @@ use Rattle.format.specs.declared.Label.{Label}
 use Rattle.format.specs.declared.Info.{Info}
 use Rattle.format.specs.declared.Header.{Header}
 use Rattle.format.specs.declared.Fault.the-variants.{Long as LONG, Trail as TRAIL, Info as INFO}
-use Rattle.format.specs.Tests.{Outcome, got, refused, choose, bit, place, noPlace, _else_, tests, andThen, optional}
+use Rattle.format.specs.Tests.{Outcome, got, refused, bit, place, noPlace, _else_, tests, andThen, optional}
 use Rattle.format.specs.Header.{header}
-use Rattle.format.specs.Items.{itemsSize, itemsRules, items}
+use Rattle.format.specs.Items.{itemsLength, itemsRules, items}
 use Rattle.format.specs.Volume.{labelUnicode, labelOffset, labelOf, noVolume, volumeAt}
 use Rattle.format.specs.Network.{hasDevice, networkUnicode, networkAt}
 use Rattle.format.specs.Info.{infoSize, infoFlags, longHead, hasLocal, hasNetwork, infoRules, infoFields, info, noInfo}
-use Rattle.format.specs.Strings.{stringSize, string}
+use Rattle.format.specs.Strings.{stringLength, string}
 use Rattle.format.specs.Blocks.{blocks}
-use Rattle.format.specs.Shortcut.{Section, Tail, Sections, found, section, stringSection, tail, sections, shortcut, most, sum, recordOf}
+use Rattle.format.specs.Shortcut.{Section, Tail, Sections, found, sectionIf, stringSection, tail, sections, shortcut, most, sum, recordOf}
 use Rattle.format.specs.Contents.{labelPlace, labelKind, bytesAt, volumeContents, networkContents, infoContents, bodiesOf}
 use Rattle.format.proofs.Chains.{drop-take}
 use Rattle.format.proofs.Sized.{sizedTests}
@@ -48,8 +48,8 @@ module _ (f : List ℕ) where
   items-placed = record {
     placed = λ p.
         let s : List ℕ = drop p f in
-        let n : ℕ = itemsSize s in
-        tests-placed f (bytesAt f) p (sizedTests 2 itemsSize (λ n. []) itemsRules itemsValue s) (place (p + 2) (n - 4)) (itemsValue (take n s)) n
+        let n : ℕ = itemsLength s in
+        tests-placed f (bytesAt f) p (sizedTests 2 itemsLength (λ n. []) itemsRules itemsValue s) (place (p + 2) (n - 4)) (itemsValue (take n s)) n
         (λ c.
         let l : length (take n s) ≡ n = length-take-le n s (leb-true n (length s) (c .1 .0)) in
         sym (ap (λ (k : ℕ). take (k - 4) (drop 2 (take n s))) l ∙ part-inside 2 (n - 4) n s (omega arith) ∙ ap (take (n - 4)) (drop-drop 2 p f)));
@@ -60,7 +60,7 @@ module _ (f : List ℕ) where
     placed = λ p.
         let s : List ℕ = drop p f in
         let n : ℕ = bytesOf u (u16At s 0) in
-        tests-placed f (bytesAt f) p (sizedTests 2 (stringSize u) (λ n. []) (λ l. []) (λ l. drop 2 l) s) (place (p + 2) n) (drop 2 (take (2 + n) s)) (2 + n)
+        tests-placed f (bytesAt f) p (sizedTests 2 (stringLength u) (λ n. []) (λ l. []) (λ l. drop 2 l) s) (place (p + 2) n) (drop 2 (take (2 + n) s)) (2 + n)
         (λ c. sym (drop-take 2 n s ∙ ap (take n) (drop-drop 2 p f)));
   }
 
@@ -75,14 +75,14 @@ module _ (f : List ℕ) where
   place-of false b = refl
 
   module _ (p : ℕ) (l : List ℕ) (F : PartOf f p l) (o : ℕ) where
-    volume-placed : (b : Bool) → volumeContents f (volumeAt b p l o) ≡ choose b (volumeValue (take (u32At (drop o l) 0) (drop o l))) noVolumeC
+    volume-placed : (b : Bool) → volumeContents f (volumeAt b p l o) ≡ cond b (volumeValue (take (u32At (drop o l) 0) (drop o l))) noVolumeC
     volume-placed true =
         let v : List ℕ = take (u32At (drop o l) 0) (drop o l) in
         let G : PartOf f (p + o) v = part-within f p l o (u32At (drop o l) 0) F in
         rw (kind-of (labelUnicode v), place-of (labelUnicode v), text-placed f (p + o) v true (labelUnicode v) (labelOffset v) G)
     volume-placed false = refl
 
-    network-placed : (b : Bool) → networkContents f (networkAt b p l o) ≡ choose b (networkValue (take (u32At (drop o l) 0) (drop o l))) noNetworkC
+    network-placed : (b : Bool) → networkContents f (networkAt b p l o) ≡ cond b (networkValue (take (u32At (drop o l) 0) (drop o l))) noNetworkC
     network-placed true =
         let v : List ℕ = take (u32At (drop o l) 0) (drop o l) in
         let G : PartOf f (p + o) v = part-within f p l o (u32At (drop o l) 0) F in
@@ -123,7 +123,7 @@ module _ (f : List ℕ) where
   blocks-placed = record { placed = λ p. go p (blocks p (drop p f)) refl }
     where
       go : (p : ℕ) (r : Outcome (List ℕ)) → blocks p (drop p f) ≡ r
-          → mapped (λ c. bytesAt f (blocksPlace c)) (andThen r (λ a n. got (record { there = true; start = p; size = n; read = a }) n)) ≡ blocksR p (drop p f)
+          → mapped (λ c. bytesAt f (blocksPlace c)) (andThen r (λ a n. got (record { there = true; start = p; len = n; read = a }) n)) ≡ blocksR p (drop p f)
       go p (got ls n) i = rw i
       go p (refused x y) i = rw i
 
@@ -163,8 +163,8 @@ decode-is f = go (leb (length f) most) (sections 0 f) refl
         let e : fileR 0 f ≡ got (both (λ c. c .read) (viewTail f) c) n = sym (sections-placed f .placed 0) ∙ ap (mapped (both (λ c. c .read) (viewTail f))) i in
         rw e (go₃ (eqb n (length f)))
       where
-        go₃ : (b : Bool) → choose b (got (toContents (both (λ c. c .read) (viewTail f) c)) n) (refused TRAIL n)
-            ≡ mapped (λ c. bodiesOf f (recordOf c)) (choose b (got c n) (refused TRAIL n))
+        go₃ : (b : Bool) → cond b (got (toContents (both (λ c. c .read) (viewTail f) c)) n) (refused TRAIL n)
+            ≡ mapped (λ c. bodiesOf f (recordOf c)) (cond b (got c n) (refused TRAIL n))
         go₃ true = refl
         go₃ false = refl
     go₂ (refused x y) i =
@@ -172,7 +172,7 @@ decode-is f = go (leb (length f) most) (sections 0 f) refl
         rw e
 
     go : (b : Bool) (r : Outcome Sections) → sections 0 f ≡ r
-        → choose b (andThen (fileR 0 f) (λ c n. tests n (eqb n (length f) else TRAIL ∷ []) (got (toContents c) n))) (refused LONG most)
-        ≡ mapped (λ c. bodiesOf f (recordOf c)) (choose b (andThen r (λ c n. tests n (eqb n (length f) else TRAIL ∷ []) (got c n))) (refused LONG most))
+        → cond b (andThen (fileR 0 f) (λ c n. tests n (eqb n (length f) else TRAIL ∷ []) (got (toContents c) n))) (refused LONG most)
+        ≡ mapped (λ c. bodiesOf f (recordOf c)) (cond b (andThen r (λ c n. tests n (eqb n (length f) else TRAIL ∷ []) (got c n))) (refused LONG most))
     go true r i = go₂ r i
     go false r i = refl

@@ -11,7 +11,7 @@ use Rattle.octets.specs.Numbers.{Bytes, numberAt, u16At, little}
 use Rattle.octets.specs.Characters.{bytesOf, characters}
 use Rattle.octets.proofs.NumberLaws.{bytes-append, bytes-drop, bytes-little, length-little, number-back, number-below, number-same}
 use Rattle.octets.proofs.CharacterLaws.{characters-whole}
-use Rattle.format.specs.Strings.{stringSize}
+use Rattle.format.specs.Strings.{stringLength}
 use Rattle.format.specs.Writing.{stringBytes, writableString}
 use Rattle.format.proofs.Bools.{and-true, and-both}
 use Rattle.format.proofs.Chains.{Ok, Fits, Law}
@@ -32,7 +32,7 @@ string-at0 : (u : Bool) (x r : List ℕ) → length (characters u x) < 65536 →
 unfolding stringBytes little numberAt
 string-at0 u x r h = number-back 2 (length (characters u x)) [] h
 
-string-back : (u : Bool) (x : List ℕ) → StringV u x → SizedBack (stringSize u) (λ n. []) (λ l. []) (λ l. drop 2 l) (stringBytes u x) x
+string-back : (u : Bool) (x : List ℕ) → StringV u x → SizedBack (stringLength u) (λ n. []) (λ l. []) (λ l. drop 2 l) (stringBytes u x) x
 string-back u x v =
     let i = and-true (eqb (bytesOf u (length (characters u x))) (length x)) (ltb (length (characters u x)) 65536) (v .can) in
     record {
@@ -43,7 +43,7 @@ string-back u x v =
       same = string-drop u x;
     }
 
-string-fits : (u : Bool) (l : List ℕ) → Bytes l → stringSize u l ≡ length l → Fits (stringBytes u) (StringV u) (drop 2 l) (length l)
+string-fits : (u : Bool) (l : List ℕ) → Bytes l → stringLength u l ≡ length l → Fits (stringBytes u) (StringV u) (drop 2 l) (length l)
 string-fits u l bs k =
     let x : List ℕ = drop 2 l in
     let m : length x ≡ bytesOf u (u16At l 0) = length-drop 2 l ∙ (omega arith) in
@@ -60,7 +60,7 @@ string-bytes : (u : Bool) (x : List ℕ) → Bytes x → Bytes (stringBytes u x)
 unfolding stringBytes
 string-bytes u x b = bytes-append (little 2 (length (characters u x))) x (bytes-little 2 _) b
 
-string-sized : (u : Bool) → Sized 2 (stringSize u) (λ n. []) (λ l. []) (λ l. drop 2 l) (stringBytes u) (StringV u)
+string-sized : (u : Bool) → Sized 2 (stringLength u) (λ n. []) (λ l. []) (λ l. drop 2 l) (stringBytes u) (StringV u)
 string-sized u = record {
   first = λ s t e. ap (λ (c : ℕ). 2 + bytesOf u c) (number-same 2 2 s t 0 e (omega arith));
   low = λ s e. omega arith;
@@ -69,5 +69,5 @@ string-sized u = record {
   fits = λ l bs k g c. string-fits u l bs k;
 }
 
-pub string-law : (u : Bool) → Law (sizedR 2 (stringSize u) (λ n. []) (λ l. []) (λ l. drop 2 l)) (stringBytes u) (StringV u)
-string-law u = sized-law 2 (stringSize u) (λ n. []) (λ l. []) (λ l. drop 2 l) (string-sized u)
+pub string-law : (u : Bool) → Law (sizedR 2 (stringLength u) (λ n. []) (λ l. []) (λ l. drop 2 l)) (stringBytes u) (StringV u)
+string-law u = sized-law 2 (stringLength u) (λ n. []) (λ l. []) (λ l. drop 2 l) (string-sized u)

@@ -1,7 +1,7 @@
 -- What a record's types give its contents: bytes are bytes, numbers fit, what is absent is zero.
 use mathlib.Core.Path.{_≡_, refl}
 use mathlib.Core.List.{List, []}
-use mathlib.Core.Bool.{Bool, true, false, _&&_}
+use mathlib.Core.Bool.{Bool, true, false, _&&_, cond}
 use Prim.Native.Nat.{ℕ, _<_, _^_}
 use native.Mathlib.Omega.{arith}
 use lib.ListN.{take, drop}
@@ -12,7 +12,7 @@ use Rattle.format.specs.declared.Volume.{Volume}
 use Rattle.format.specs.declared.Network.{Network}
 use Rattle.format.specs.declared.Info.{Info}
 use Rattle.format.specs.declared.Record.{Record}
-use Rattle.format.specs.Tests.{choose, bit, noPlace}
+use Rattle.format.specs.Tests.{bit, noPlace}
 use Rattle.format.specs.Volume.{noVolume}
 use Rattle.format.specs.Network.{noNetwork}
 use Rattle.format.specs.Info.{noInfo}
@@ -29,19 +29,19 @@ module _ (d : List ℕ) (bs : Bytes d) where
   body-bytes : (b : Place) → Bytes (bytesAt d b)
   body-bytes b = bytes-take (b .len) (drop (b .at) d) (bytes-drop (b .at) d bs)
 
-  body-there : (t : Bool) (b : Place) → IfThere t [] Bytes (bytesAt d (choose t b noPlace))
+  body-there : (t : Bool) (b : Place) → IfThere t [] Bytes (bytesAt d (cond t b noPlace))
   body-there true b = body-bytes b
   body-there false b = refl
 
-  kept-below : (t : Bool) (x : ℕ) → x < 2 ^ 32 → choose t x 0 < 2 ^ 32
+  kept-below : (t : Bool) (x : ℕ) → x < 2 ^ 32 → cond t x 0 < 2 ^ 32
   kept-below true x h = h
   kept-below false x h = omega arith
 
-  volume-there : (t : Bool) (v : Volume) → v .serial < 2 ^ 32 → IfThere t noVolumeC VolumeT (volumeContents d (choose t v noVolume))
+  volume-there : (t : Bool) (v : Volume) → v .serial < 2 ^ 32 → IfThere t noVolumeC VolumeT (volumeContents d (cond t v noVolume))
   volume-there true v h = record { serial = h; label = body-bytes (labelPlace (v .label)) }
   volume-there false v h = refl
 
-  network-there : (t : Bool) (n : Network) → n .provider < 2 ^ 32 → IfThere t noNetworkC NetworkT (networkContents d (choose t (presentNetwork n) noNetwork))
+  network-there : (t : Bool) (n : Network) → n .provider < 2 ^ 32 → IfThere t noNetworkC NetworkT (networkContents d (cond t (presentNetwork n) noNetwork))
   network-there true n h = record {
     provider = kept-below (bit 1 (n .flags)) (n .provider) h;
     kept = choose-twice (bit 1 (n .flags)) (n .provider) 0;
@@ -53,7 +53,7 @@ module _ (d : List ℕ) (bs : Bytes d) where
   network-there false n h = refl
 
   info-there : (t : Bool) (i : Info) → i .volume .serial < 2 ^ 32 → i .network .provider < 2 ^ 32
-      → IfThere t noInfoC InfoT (infoContents d (choose t (presentInfo i) noInfo))
+      → IfThere t noInfoC InfoT (infoContents d (cond t (presentInfo i) noInfo))
   info-there true i s p = record {
     volume = volume-there (bit 0 (i .flags)) (i .volume) s;
     local = body-there (bit 0 (i .flags)) (i .local);

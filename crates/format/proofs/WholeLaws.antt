@@ -12,9 +12,9 @@ use Rattle.format.specs.declared.Header.{Header}
 use Rattle.format.specs.declared.Fault.the-variants.{Long as LONG, Trail as TRAIL, Info as INFO}
 use Rattle.format.specs.Tests.{Outcome, got, refused, Test, _else_, tests, Reader, andThen, chain, optional, bit}
 use Rattle.format.specs.Header.{header}
-use Rattle.format.specs.Items.{itemsSize, itemsRules}
+use Rattle.format.specs.Items.{itemsLength, itemsRules}
 use Rattle.format.specs.Info.{infoSize, infoRules}
-use Rattle.format.specs.Strings.{stringSize}
+use Rattle.format.specs.Strings.{stringLength}
 use Rattle.format.specs.Shortcut.{most}
 use Rattle.format.specs.Contents.{InfoContents, Contents}
 use Rattle.format.specs.Ranges.{FitsHeader}
@@ -43,13 +43,13 @@ noInfoC = record {
 -- ---- readers of contents
 
 abbrev pub itemsR : Reader (List ℕ)
-itemsR = sizedR 2 itemsSize (λ n. []) itemsRules itemsValue
+itemsR = sizedR 2 itemsLength (λ n. []) itemsRules itemsValue
 
 abbrev pub infoR : Reader InfoContents
 infoR = sizedR 4 infoSize (λ n. leb 0x1C n else INFO ∷ []) infoRules infoValue
 
 abbrev pub stringR : Bool → Reader (List ℕ)
-stringR u = sizedR 2 (stringSize u) (λ n. []) (λ l. []) (λ l. drop 2 l)
+stringR u = sizedR 2 (stringLength u) (λ n. []) (λ l. []) (λ l. drop 2 l)
 
 -- ---- a reader, its writer and its condition, as one; and how they compose
 

@@ -1,12 +1,12 @@
 -- Blocks.
 use Prim.Native.Nat.{ℕ, zero, suc, _+_, _-_}
 use mathlib.Core.List.{List, [], _∷_}
-use mathlib.Core.Bool.{Bool, true, false, _&&_, _||_}
+use mathlib.Core.Bool.{Bool, true, false, _&&_, _||_, cond}
 use lib.ListN.{length, take, drop}
 use lib.Dec.{leb, ltb, eqb}
 use Rattle.octets.specs.Numbers.{u32At}
 use Rattle.format.specs.declared.Fault.the-variants.{Cut as CUT, Block as BLOCK}
-use Rattle.format.specs.Tests.{Test, _else_, tests, Outcome, got, refused, Reader, andThen, choose}
+use Rattle.format.specs.Tests.{Test, _else_, tests, Outcome, got, refused, Reader, andThen}
 use Rattle.format.specs.Items.{itemList}
 use Rattle.format.specs.Pieces.{textEnds}
 
@@ -19,15 +19,15 @@ unfoldable pub blockOk : List ℕ → Bool
 blockOk b =
     let n = length b in
     let signature = u32At b 4 in
-    choose (eqb signature 0xA0000001 || eqb signature 0xA0000006 || eqb signature 0xA0000007) (eqb n 0x314 && pathTexts b)
-    (choose (eqb signature 0xA0000002) (eqb n 0xCC)
-    (choose (eqb signature 0xA0000003) (eqb n 0x60)
-    (choose (eqb signature 0xA0000004) (eqb n 0x0C)
-    (choose (eqb signature 0xA0000005) (eqb n 0x10)
-    (choose (eqb signature 0xA0000008) (leb 0x88 n)
-    (choose (eqb signature 0xA0000009) (leb 0x0C n)
-    (choose (eqb signature 0xA000000B) (eqb n 0x1C)
-    (choose (eqb signature 0xA000000C) (leb 0x0A n && itemList (drop 8 b))
+    cond (eqb signature 0xA0000001 || eqb signature 0xA0000006 || eqb signature 0xA0000007) (eqb n 0x314 && pathTexts b)
+    (cond (eqb signature 0xA0000002) (eqb n 0xCC)
+    (cond (eqb signature 0xA0000003) (eqb n 0x60)
+    (cond (eqb signature 0xA0000004) (eqb n 0x0C)
+    (cond (eqb signature 0xA0000005) (eqb n 0x10)
+    (cond (eqb signature 0xA0000008) (leb 0x88 n)
+    (cond (eqb signature 0xA0000009) (leb 0x0C n)
+    (cond (eqb signature 0xA000000B) (eqb n 0x1C)
+    (cond (eqb signature 0xA000000C) (leb 0x0A n && itemList (drop 8 b))
     true))))))))
 
 abbrev pub blockSize : List ℕ → ℕ
@@ -50,7 +50,8 @@ blocksFrom p zero (a ∷ l) =
     let n = blockSize s in
     let rest = blocksFrom (p + n) (n - 1) l in
     let more = tests p (blockTests s) (andThen rest (λ lengths m. got (n ∷ lengths) (n + m))) in
-    tests p (leb 4 (length s) else CUT ∷ []) (choose (ltb n 4) (got [] 4) more)
+    tests p (leb 4 (length s) else CUT ∷ []) (cond (ltb n 4) (got [] 4) more)
+-- never met: a block's size was tested against what is left
 blocksFrom p (suc k) [] = refused CUT p
 blocksFrom p (suc k) (a ∷ l) = blocksFrom p k l
 

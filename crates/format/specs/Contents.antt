@@ -2,7 +2,7 @@
 use Prim.Native.Nat.{ℕ, _+_}
 use mathlib.Core.Path.{_≡_}
 use mathlib.Core.List.{List, [], _∷_}
-use mathlib.Core.Bool.{Bool, true, false, _&&_}
+use mathlib.Core.Bool.{Bool, true, false, _&&_, cond}
 use lib.ListN.{take, drop}
 use lib.Dec.{leb}
 use Rattle.format.specs.declared.Place.{Place}
@@ -13,7 +13,7 @@ use Rattle.format.specs.declared.Volume.{Volume}
 use Rattle.format.specs.declared.Network.{Network}
 use Rattle.format.specs.declared.Info.{Info}
 use Rattle.format.specs.declared.Record.{Record}
-use Rattle.format.specs.Tests.{choose, bit, noPlace}
+use Rattle.format.specs.Tests.{bit, noPlace}
 use Rattle.format.specs.Volume.{noVolume}
 use Rattle.format.specs.Network.{noNetwork}
 use Rattle.format.specs.Info.{noInfo}
@@ -23,36 +23,36 @@ use Rattle.format.specs.Info.{noInfo}
 abbrev pub presentNetwork : Network → Network
 presentNetwork n = record {
   flags = n .flags;
-  provider = choose (bit 1 (n .flags)) (n .provider) 0;
+  provider = cond (bit 1 (n .flags)) (n .provider) 0;
   unicode = n .unicode;
   net = n .net;
-  device = choose (bit 0 (n .flags)) (n .device) noPlace;
-  «net_unicode» = choose (n .unicode) (n .«net_unicode») noPlace;
-  «device_unicode» = choose (n .unicode && bit 0 (n .flags)) (n .«device_unicode») noPlace;
+  device = cond (bit 0 (n .flags)) (n .device) noPlace;
+  «net_unicode» = cond (n .unicode) (n .«net_unicode») noPlace;
+  «device_unicode» = cond (n .unicode && bit 0 (n .flags)) (n .«device_unicode») noPlace;
 }
 
 abbrev pub presentInfo : Info → Info
 presentInfo i = record {
   flags = i .flags;
   long = i .long;
-  volume = choose (bit 0 (i .flags)) (i .volume) noVolume;
-  local = choose (bit 0 (i .flags)) (i .local) noPlace;
-  network = choose (bit 1 (i .flags)) (presentNetwork (i .network)) noNetwork;
+  volume = cond (bit 0 (i .flags)) (i .volume) noVolume;
+  local = cond (bit 0 (i .flags)) (i .local) noPlace;
+  network = cond (bit 1 (i .flags)) (presentNetwork (i .network)) noNetwork;
   suffix = i .suffix;
-  «local_unicode» = choose (i .long && bit 0 (i .flags)) (i .«local_unicode») noPlace;
-  «suffix_unicode» = choose (i .long) (i .«suffix_unicode») noPlace;
+  «local_unicode» = cond (i .long && bit 0 (i .flags)) (i .«local_unicode») noPlace;
+  «suffix_unicode» = cond (i .long) (i .«suffix_unicode») noPlace;
 }
 
 unfoldable pub present : Record → Record
 present r = record {
   header = r .header;
-  items = choose (bit 0 (r .header .flags)) (r .items) noPlace;
-  info = choose (bit 1 (r .header .flags)) (presentInfo (r .info)) noInfo;
-  name = choose (bit 2 (r .header .flags)) (r .name) noPlace;
-  relative = choose (bit 3 (r .header .flags)) (r .relative) noPlace;
-  workdir = choose (bit 4 (r .header .flags)) (r .workdir) noPlace;
-  arguments = choose (bit 5 (r .header .flags)) (r .arguments) noPlace;
-  icon = choose (bit 6 (r .header .flags)) (r .icon) noPlace;
+  items = cond (bit 0 (r .header .flags)) (r .items) noPlace;
+  info = cond (bit 1 (r .header .flags)) (presentInfo (r .info)) noInfo;
+  name = cond (bit 2 (r .header .flags)) (r .name) noPlace;
+  relative = cond (bit 3 (r .header .flags)) (r .relative) noPlace;
+  workdir = cond (bit 4 (r .header .flags)) (r .workdir) noPlace;
+  arguments = cond (bit 5 (r .header .flags)) (r .arguments) noPlace;
+  icon = cond (bit 6 (r .header .flags)) (r .icon) noPlace;
   blocks = r .blocks;
 }
 
@@ -185,7 +185,7 @@ unfoldable pub contents : List ℕ → Record → Contents
 unfolding present
 contents d r = bodiesOf d (present r)
 
--- Two records are the same when their fields are equal and each body has the same bytes, wherever it stands
+-- Two records are the same when their fields are equal and each body has the same bytes, wherever it stands. Spoken of where both are placed
 unfoldable pub Same : List ℕ → Record → List ℕ → Record → Type 0
 unfolding contents
 Same d r e q = contents d r ≡ contents e q

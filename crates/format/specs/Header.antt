@@ -1,14 +1,14 @@
 -- Header, 76 bytes.
 use Prim.Native.Nat.{ℕ, _-_, _/_, _%_, _^_}
 use mathlib.Core.List.{List, [], _∷_}
-use mathlib.Core.Bool.{Bool, not, _&&_, _||_}
+use mathlib.Core.Bool.{Bool, not, _&&_, _||_, cond}
 use lib.ListN.{length, take}
 use lib.Dec.{leb, ltb, eqb}
 use lib.IntN.{ℤ, pos, negsuc}
 use Rattle.octets.specs.Numbers.{number, numberAt, u16At, u32At, u64At}
 use Rattle.format.specs.declared.Header.{Header}
 use Rattle.format.specs.declared.Fault.the-variants.{Cut as CUT, Magic as MAGIC, Head as HEAD}
-use Rattle.format.specs.Tests.{Test, _else_, tests, got, Reader, choose, bit}
+use Rattle.format.specs.Tests.{Test, _else_, tests, got, Reader, bit}
 
 -- 01 14 02 00, 00 00 00 00, C0 00 00 00, 00 00 00 46
 abbrev pub classIdentifier : List ℕ
@@ -53,7 +53,7 @@ headerRules l =
 
 -- 32 bits as a signed number
 unfoldable pub signed : ℕ → ℤ
-signed x = choose (ltb x 2147483648) (pos x) (negsuc (4294967295 - x))
+signed x = cond (ltb x 2147483648) (pos x) (negsuc (4294967295 - x))
 
 abbrev pub headerFields : List ℕ → Header
 headerFields l = record {
@@ -63,7 +63,7 @@ headerFields l = record {
   access = u64At l 36;
   write = u64At l 44;
   size = u32At l 52;
-  icon = signed (u32At l 56);
+  «icon_index» = signed (u32At l 56);
   command = u32At l 60;
   hotkey = u16At l 64;
 }
@@ -73,4 +73,4 @@ header p s = tests p (leb 76 (length s) else CUT ∷ headerRules (take 76 s)) (g
 
 -- The window shown is 3 or 7 where ShowCommand is that, and 1 otherwise
 abbrev pub windowShown : ℕ → ℕ
-windowShown c = choose (eqb c 3) 3 (choose (eqb c 7) 7 1)
+windowShown c = cond (eqb c 3) 3 (cond (eqb c 7) 7 1)

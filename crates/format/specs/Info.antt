@@ -1,8 +1,8 @@
 -- LinkInfo.
-use Prim.Native.Nat.{ℕ, _+_}
-use mathlib.Core.List.{List, [], _∷_, _++_}
+use Prim.Native.Nat.{ℕ}
+use mathlib.Core.List.{List, [], _∷_}
 use mathlib.Core.Bool.{Bool, true, false, not, _&&_, _||_}
-use lib.ListN.{length, take, drop}
+use lib.ListN.{length, take}
 use lib.Dec.{leb, eqb}
 use Rattle.octets.specs.Numbers.{u32At}
 use Rattle.format.specs.declared.Info.{Info}
@@ -29,13 +29,14 @@ headOk l = eqb (infoHead l) 0x1C || (longHead l && leb (infoHead l) (length l))
 abbrev pub infoFlags : List ℕ → ℕ
 infoFlags l = u32At l 8
 
--- VolumeID and LocalBasePath are present by bit 0, the network link by bit 1
+-- VolumeID and LocalBasePath are present by bit 0, the network link by bit 1, the suffix always
 abbrev pub hasLocal : List ℕ → Bool
 hasLocal l = bit 0 (infoFlags l)
 
 abbrev pub hasNetwork : List ℕ → Bool
 hasNetwork l = bit 1 (infoFlags l)
 
+-- With a long head the Unicode suffix is present, and the Unicode local path by bit 0; bytes of a head beyond 0x24 are skipped.
 -- Offset fields: VolumeID at 12, LocalBasePath 16, network link 20, CommonPathSuffix 24; with a long head LocalBasePathUnicode 28, CommonPathSuffixUnicode 32
 abbrev pub infoPieces : List ℕ → List Piece
 infoPieces l =
@@ -47,7 +48,7 @@ infoPieces l =
     ∷ textPiece (longHead l) true l (u32At l 32)
     ∷ []
 
--- then INFO unless the head is right; flags at 8 use bits 0 and 1 only; offset fields of absent parts are 0
+-- then INFO unless the head is right; flags at 8 use bits 0 and 1 only; offset fields of absent parts are 0; then the pieces' tests, PIECE
 abbrev pub infoRules : List ℕ → List Test
 infoRules l =
     headOk l else INFO

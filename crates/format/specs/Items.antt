@@ -1,13 +1,13 @@
 -- Item list.
 use Prim.Native.Nat.{ℕ, zero, suc, _+_, _-_, _*_}
 use mathlib.Core.List.{List, [], _∷_}
-use mathlib.Core.Bool.{Bool, true, false, _&&_}
+use mathlib.Core.Bool.{Bool, true, false, _&&_, cond}
 use lib.ListN.{length, take, drop}
 use lib.Dec.{leb, eqb}
 use Rattle.octets.specs.Numbers.{u16At}
 use Rattle.format.specs.declared.Place.{Place}
 use Rattle.format.specs.declared.Fault.the-variants.{Cut as CUT, Items as ITEMS}
-use Rattle.format.specs.Tests.{Test, _else_, tests, got, Reader, choose, place}
+use Rattle.format.specs.Tests.{Test, _else_, tests, got, Reader, place}
 
 -- items, each with a 2-byte size that counts itself, at least 2; then two zero bytes exactly at the end.
 -- k bytes of the item at hand are still to come; at 0 a size stands next
@@ -17,7 +17,7 @@ walk zero (a ∷ []) = false
 walk zero (a ∷ b ∷ l) =
     let n = a + 256 * b in
     let rest = walk (n - 2) l in
-    choose (eqb n 0) (eqb (length l) 0) (leb 2 n && rest)
+    cond (eqb n 0) (eqb (length l) 0) (leb 2 n && rest)
 walk (suc k) [] = false
 walk (suc k) (a ∷ l) = walk k l
 
@@ -26,8 +26,8 @@ abbrev pub itemList : List ℕ → Bool
 itemList l = walk 0 l
 
 -- Two bytes of size, then that many bytes
-abbrev pub itemsSize : List ℕ → ℕ
-itemsSize s = 2 + u16At s 0
+abbrev pub itemsLength : List ℕ → ℕ
+itemsLength s = 2 + u16At s 0
 
 abbrev pub itemsRules : List ℕ → List Test
 itemsRules l = itemList (drop 2 l) else ITEMS ∷ []
@@ -35,5 +35,5 @@ itemsRules l = itemList (drop 2 l) else ITEMS ∷ []
 -- The body is the items without the two zero bytes
 abbrev pub items : Reader Place
 items p s =
-    tests p (leb 2 (length s) else CUT ∷ leb (itemsSize s) (length s) else CUT ∷ itemsRules (take (itemsSize s) s))
-    (got (place (p + 2) (itemsSize s - 4)) (itemsSize s))
+    tests p (leb 2 (length s) else CUT ∷ leb (itemsLength s) (length s) else CUT ∷ itemsRules (take (itemsLength s) s))
+    (got (place (p + 2) (itemsLength s - 4)) (itemsLength s))

@@ -2,26 +2,27 @@
 use Prim.Native.Nat.{ℕ, zero, suc, _+_}
 use mathlib.Core.Path.{_≡_}
 use mathlib.Core.List.{List, [], _∷_, _++_}
-use mathlib.Core.Bool.{Bool, true, false}
-use lib.ListN.{length, take, drop}
+use mathlib.Core.Bool.{cond}
 use lib.Dec.{eqb}
-use Rattle.format.specs.Tests.{Outcome, got, refused, choose}
-use Rattle.format.specs.Shortcut.{Section, Sections, shortcut, sum}
+use Rattle.format.specs.Tests.{Outcome, got, refused, place, noPlace}
+use Rattle.format.specs.declared.Place.{Place}
+use Rattle.format.specs.Shortcut.{Section, Sections, shortcut}
+use Rattle.format.specs.Contents.{bytesAt}
 
 -- name, start, length
 pub record Row : Type 0 where
   pub name : ℕ
   pub start : ℕ
-  pub size : ℕ
+  pub len : ℕ
 
 -- Names are header, items, info, name, relative, workdir, arguments, icon, block, end: 0 to 9 in this order
 abbrev pub row : {A : Type 0} → ℕ → Section A → List Row
-row k c = choose (c .there) (record { name = k; start = c .start; size = c .size } ∷ []) []
+row k c = cond (c .there) (record { name = k; start = c .start; len = c .len } ∷ []) []
 
 -- the blocks one after another, then the terminal block, of four bytes
 abbrev pub blockRows : ℕ → List ℕ → List Row
-blockRows p [] = record { name = 9; start = p; size = 4 } ∷ []
-blockRows p (n ∷ ns) = record { name = 8; start = p; size = n } ∷ blockRows (p + n) ns
+blockRows p [] = record { name = 9; start = p; len = 4 } ∷ []
+blockRows p (n ∷ ns) = record { name = 8; start = p; len = n } ∷ blockRows (p + n) ns
 
 -- a line per section
 abbrev pub rowsOf : Sections → List Row
@@ -47,20 +48,25 @@ listing s = rowsBy (shortcut s)
 -- from p to q the sections lie end to end, and their lengths add up
 abbrev pub EndToEnd : ℕ → List Row → ℕ → Type 0
 EndToEnd p [] q = p ≡ q
-EndToEnd p (x ∷ xs) q = (x .start ≡ p) × EndToEnd (p + x .size) xs q
+EndToEnd p (x ∷ xs) q = (x .start ≡ p) × EndToEnd (p + x .len) xs q
 
 -- ---- a section asked for by name, a number 0 to 9; a block also by its number, from 0
 
 abbrev pub named : ℕ → List Row → List Row
 named k [] = []
-named k (x ∷ xs) = choose (eqb (x .name) k) (x ∷ named k xs) (named k xs)
+named k (x ∷ xs) = cond (eqb (x .name) k) (x ∷ named k xs) (named k xs)
 
--- all of it, as listed; what is absent or stands in a refused shortcut is shown empty
-abbrev pub rowBytes : List ℕ → ℕ → List Row → List ℕ
-rowBytes s j [] = []
-rowBytes s zero (x ∷ xs) = take (x .size) (drop (x .start) s)
-rowBytes s (suc j) (x ∷ xs) = rowBytes s j xs
+abbrev pub nth : ℕ → List Row → Place
+nth j [] = noPlace
+nth zero (x ∷ xs) = place (x .start) (x .len)
+nth (suc j) (x ∷ xs) = nth j xs
 
-unfoldable pub shown : List ℕ → ℕ → ℕ → List ℕ
+-- where it stands, all of it, as listed; the empty place for what is absent or stands in a refused shortcut
+unfoldable pub sectionPlace : List ℕ → ℕ → ℕ → Place
 unfolding listing
-shown s name block = rowBytes s (choose (eqb name 8) block 0) (named name (listing s))
+sectionPlace s name block = nth (cond (eqb name 8) block 0) (named name (listing s))
+
+-- the caller's own bytes there
+unfoldable pub shown : List ℕ → ℕ → ℕ → List ℕ
+unfolding sectionPlace
+shown s name block = bytesAt s (sectionPlace s name block)

@@ -1,13 +1,13 @@
 -- Network link.
 use Prim.Native.Nat.{ℕ, _+_}
-use mathlib.Core.List.{List, [], _∷_, _++_}
-use mathlib.Core.Bool.{Bool, true, false, not, _&&_, _||_}
+use mathlib.Core.List.{List, [], _∷_}
+use mathlib.Core.Bool.{Bool, true, false, not, _&&_, _||_, cond}
 use lib.ListN.{length, take, drop}
 use lib.Dec.{leb, ltb}
 use Rattle.octets.specs.Numbers.{u32At}
 use Rattle.format.specs.declared.Network.{Network}
 use Rattle.format.specs.declared.Fault.the-variants.{Piece as PIECE}
-use Rattle.format.specs.Tests.{Test, _else_, all, choose, bit, noPlace}
+use Rattle.format.specs.Tests.{Test, _else_, all, bit, noPlace}
 use Rattle.format.specs.Pieces.{Piece, textPiece, textPlace, absentZero, pieceTests}
 
 -- In what follows v is the network link's own bytes.
@@ -24,7 +24,7 @@ networkUnicode v = ltb 0x14 (u32At v 8)
 
 -- and the head is 0x1C long; otherwise it is 0x14 long
 abbrev pub networkHead : Bool → ℕ
-networkHead unicode = choose unicode 0x1C 0x14
+networkHead unicode = cond unicode 0x1C 0x14
 
 abbrev pub networkSize : List ℕ → ℕ
 networkSize s = u32At s 0
@@ -37,7 +37,7 @@ networkPieces v =
     ∷ textPiece (networkUnicode v && hasDevice v) true v (u32At v 24)
     ∷ []
 
--- flags at 4, bits 0 and 1 only; NetNameOffset at least 0x14; the head inside the declared size; absent, their offsets are 0;
+-- flags at 4, bits 0 and 1 only; NetNameOffset at least 0x14; the head inside the declared size; device names absent: their offsets are 0;
 -- the strings lie after the head, inside the declared size, and share no byte
 abbrev pub networkRules : List ℕ → List Test
 networkRules v =
@@ -74,7 +74,7 @@ noNetwork = record {
 abbrev pub networkFields : ℕ → List ℕ → Network
 networkFields p v = record {
   flags = networkFlags v;
-  provider = choose (bit 1 (networkFlags v)) (u32At v 16) 0;
+  provider = cond (bit 1 (networkFlags v)) (u32At v 16) 0;
   unicode = networkUnicode v;
   net = textPlace true false p v (u32At v 8);
   device = textPlace (hasDevice v) false p v (u32At v 12);
@@ -84,4 +84,4 @@ networkFields p v = record {
 
 -- l starts at p in the file
 abbrev pub networkAt : Bool → ℕ → List ℕ → ℕ → Network
-networkAt present p l o = choose present (networkFields (p + o) (take (networkSize (drop o l)) (drop o l))) noNetwork
+networkAt present p l o = cond present (networkFields (p + o) (take (networkSize (drop o l)) (drop o l))) noNetwork

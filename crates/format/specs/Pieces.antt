@@ -1,15 +1,15 @@
 -- Pieces: what an offset field leads to, counted from the start of the structure that holds the field.
 use Prim.Native.Nat.{ℕ, _+_}
 use mathlib.Core.List.{List, [], _∷_, _++_, map}
-use mathlib.Core.Bool.{Bool, true, false, not, _&&_, _||_}
-use lib.ListN.{length, drop}
+use mathlib.Core.Bool.{Bool, true, not, _&&_, _||_, cond}
+use lib.ListN.{drop}
 use lib.Dec.{leb, eqb}
 use Rattle.octets.specs.Characters.{bytesOf, characters, beforeZero, hasZero}
 use Rattle.format.specs.declared.Place.{Place}
 use Rattle.format.specs.declared.Fault.the-variants.{Piece as PIECE}
-use Rattle.format.specs.Tests.{Test, _else_, choose, place, noPlace}
+use Rattle.format.specs.Tests.{Test, _else_, place, noPlace}
 
--- whether it is present, its offset, whether it ends within its structure by its own rules, and how many bytes it has
+-- whether it is present, its offset, whether it ends within its structure and keeps its own rules, and how many bytes it has
 pub record Piece : Type 0 where
   pub present : Bool
   pub offset : ℕ
@@ -35,7 +35,7 @@ textPiece present unicode l o =
 
 -- where its body stands in the file, in which l starts at p
 abbrev pub textPlace : Bool → Bool → ℕ → List ℕ → ℕ → Place
-textPlace present unicode p l o = choose present (place (p + o) (textLength unicode (drop o l))) noPlace
+textPlace present unicode p l o = cond present (place (p + o) (textLength unicode (drop o l))) noPlace
 
 -- ---- the rules of all pieces of a structure
 
@@ -49,7 +49,7 @@ pieceOk head x = not (x .present) || (leb head (x .offset) && x .whole)
 
 -- the bytes of a piece; an absent one has none
 abbrev pub span : Piece → Place
-span x = choose (x .present) (place (x .offset) (x .size)) noPlace
+span x = cond (x .present) (place (x .offset) (x .size)) noPlace
 
 abbrev pub apart : Place → Place → Bool
 apart x y = leb (x .at + x .len) (y .at) || leb (y .at + y .len) (x .at)

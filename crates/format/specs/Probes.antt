@@ -1,21 +1,18 @@
 -- Probe shortcuts: P1 to P12 as rows of a single table.
-use Prim.Native.Nat.{ℕ, zero, suc, _+_}
+use Prim.Native.Nat.{ℕ}
 use mathlib.Core.List.{List, [], _∷_, _++_}
 use mathlib.Core.Bool.{Bool, true, false, _&&_}
 use lib.ListN.{length, replicate}
 use lib.Dec.{eqb}
 use Rattle.octets.specs.Numbers.{little}
-use Rattle.format.specs.declared.Label.the-variants.{Byte}
-use Rattle.format.specs.declared.Header.{Header}
-use Rattle.format.specs.declared.Info.{Info}
 use Rattle.format.specs.declared.Record.{Record}
 use Rattle.format.specs.declared.Verdict.{Verdict}
 use Rattle.format.specs.Numbers.{answerNumber, answerValue}
-use Rattle.format.specs.Tests.{Outcome, place, noPlace}
+use Rattle.format.specs.Tests.{place, noPlace}
 use Rattle.format.specs.Volume.{noVolume}
 use Rattle.format.specs.Network.{noNetwork}
-use Rattle.format.specs.Shortcut.{reading, verdictOf, noHeader, noRecord}
-use Rattle.format.specs.Writing.{writing, outputOf}
+use Rattle.format.specs.Shortcut.{reading, noHeader}
+use Rattle.format.specs.Writing.{writeAnswer, writeOutput}
 use Rattle.format.specs.Listing.{Row, listing}
 
 -- ---- the bytes
@@ -57,7 +54,7 @@ zeroPath = record {
     access = 0;
     write = 0;
     size = 0;
-    icon = noHeader .icon;
+    «icon_index» = noHeader .«icon_index»;
     command = 0;
     hotkey = 0;
   };
@@ -97,17 +94,17 @@ sameNumbers (x ∷ xs) (y ∷ ys) = eqb x y && sameNumbers xs ys
 
 abbrev pub rowNumbers : List Row → List ℕ
 rowNumbers [] = []
-rowNumbers (x ∷ xs) = x .name ∷ x .start ∷ x .size ∷ rowNumbers xs
+rowNumbers (x ∷ xs) = x .name ∷ x .start ∷ x .len ∷ rowNumbers xs
 
 abbrev pub answers : Verdict → ℕ → ℕ → Bool
 answers v number value = eqb (answerNumber v) number && eqb (answerValue v) value
 
 unfoldable pub holds : Probe → Bool
-unfolding reading listing writing outputOf answerNumber answerValue
+unfolding reading listing writeAnswer writeOutput answerNumber answerValue
 holds (reads s number value) = answers (reading s .verdict) number value
 holds (lists s rows) = sameNumbers (rowNumbers (listing s)) (rowNumbers rows)
 holds (writes r d out number value after) =
-    answers (verdictOf (writing r d (length out))) number value && sameNumbers (outputOf (writing r d (length out)) out) after
+    answers (writeAnswer r d out) number value && sameNumbers (writeOutput r d out) after
 
 unfoldable pub allHold : List Probe → Bool
 unfolding holds
@@ -115,7 +112,7 @@ allHold [] = true
 allHold (x ∷ xs) = holds x && allHold xs
 
 abbrev pub rowAt : ℕ → ℕ → ℕ → Row
-rowAt k p n = record { name = k; start = p; size = n }
+rowAt k p n = record { name = k; start = p; len = n }
 
 -- a lent buffer whose bytes are none of the shortcut's
 abbrev pub lent : ℕ → List ℕ
@@ -151,5 +148,6 @@ table =
     -- P11, P12
     ∷ writes (reading Z .held) Z (lent 79) 12 0 (lent 79)
     ∷ writes (reading Z .held) Z (lent 80) 0 80 Z
+    ∷ writes zeroPath (0x00 ∷ []) [] 11 0 []
     ∷ writes zeroPath (0x00 ∷ []) (lent 200) 11 0 (lent 200)
     ∷ []

@@ -15,7 +15,7 @@ pub record FitsHeader (h : Header) : Type 0 where
   pub access : h .access < 2 ^ 64
   pub write : h .write < 2 ^ 64
   pub size : h .size < 2 ^ 32
-  pub icon : FitsSigned (h .icon)
+  pub index : FitsSigned (h .«icon_index»)
   pub command : h .command < 2 ^ 32
   pub hotkey : h .hotkey < 2 ^ 16
 

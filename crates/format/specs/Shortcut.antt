@@ -1,7 +1,7 @@
 -- The whole shortcut: LONG first, then the sections in file order, TRAIL last.
 use Prim.Native.Nat.{ℕ, _+_}
 use mathlib.Core.List.{List, [], _∷_}
-use mathlib.Core.Bool.{Bool, true, false}
+use mathlib.Core.Bool.{Bool, true, false, cond}
 use lib.ListN.{length}
 use lib.Dec.{leb, eqb}
 use lib.IntN.{pos}
@@ -13,7 +13,7 @@ use Rattle.format.specs.declared.Header.{Header}
 use Rattle.format.specs.declared.Info.{Info}
 use Rattle.format.specs.declared.Record.{Record}
 use Rattle.format.specs.declared.Reading.{Reading}
-use Rattle.format.specs.Tests.{Test, _else_, tests, Outcome, got, refused, Reader, andThen, chain, _then_, optional, choose, bit, place, noPlace}
+use Rattle.format.specs.Tests.{Test, _else_, tests, Outcome, got, refused, Reader, andThen, chain, _then_, optional, bit, place, noPlace}
 use Rattle.format.specs.Header.{header}
 use Rattle.format.specs.Items.{items}
 use Rattle.format.specs.Info.{info, noInfo}
@@ -28,21 +28,21 @@ most = 65536
 pub record Section (A : Type 0) : Type 0 where
   pub there : Bool
   pub start : ℕ
-  pub size : ℕ
+  pub len : ℕ
   pub read : A
 
 abbrev pub absent : {A : Type 0} → A → Section A
-absent d = record { there = false; start = 0; size = 0; read = d }
+absent d = record { there = false; start = 0; len = 0; read = d }
 
 abbrev pub found : {A : Type 0} → Reader A → Reader (Section A)
-found P p s = andThen (P p s) (λ a n. got (record { there = true; start = p; size = n; read = a }) n)
+found P p s = andThen (P p s) (λ a n. got (record { there = true; start = p; len = n; read = a }) n)
 
-abbrev pub section : {A : Type 0} → Bool → A → Reader A → Reader (Section A)
-section there d P = optional there (absent d) (found P)
+abbrev pub sectionIf : {A : Type 0} → Bool → A → Reader A → Reader (Section A)
+sectionIf there d P = optional there (absent d) (found P)
 
 -- Flag bits 2 to 6 in order; two bytes each where bit 7 is set
 abbrev pub stringSection : ℕ → ℕ → Reader (Section Place)
-stringSection flags k = section (bit k flags) noPlace (string (bit 7 flags))
+stringSection flags k = sectionIf (bit k flags) noPlace (string (bit 7 flags))
 
 abbrev pub Tail : Type 0
 Tail =
@@ -52,8 +52,8 @@ Tail =
 -- the sections after the header, by its LinkFlags: items, LinkInfo, name, relative path, working directory, arguments, icon, blocks
 abbrev pub tail : ℕ → Reader Tail
 tail flags =
-    section (bit 0 flags) noPlace items
-    then section (bit 1 flags) noInfo info
+    sectionIf (bit 0 flags) noPlace items
+    then sectionIf (bit 1 flags) noInfo info
     then stringSection flags 2
     then stringSection flags 3
     then stringSection flags 4
@@ -102,7 +102,7 @@ noHeader = record {
   access = 0;
   write = 0;
   size = 0;
-  icon = pos 0;
+  «icon_index» = pos 0;
   command = 0;
   hotkey = 0;
 }

@@ -11,11 +11,11 @@ use Rattle.format.specs.declared.Fault.the-variants.{Cut as CUT}
 use Rattle.format.specs.Tests.{Test, _else_, tests, got, Reader, place}
 
 -- Each is a 2-byte count of characters and the characters, two bytes each in Unicode, else one
-abbrev pub stringSize : Bool → List ℕ → ℕ
-stringSize unicode s = 2 + bytesOf unicode (u16At s 0)
+abbrev pub stringLength : Bool → List ℕ → ℕ
+stringLength unicode s = 2 + bytesOf unicode (u16At s 0)
 
 -- Too few bytes: CUT
 abbrev pub string : Bool → Reader Place
 string unicode p s =
-    tests p (leb 2 (length s) else CUT ∷ leb (stringSize unicode s) (length s) else CUT ∷ [])
-    (got (place (p + 2) (bytesOf unicode (u16At s 0))) (stringSize unicode s))
+    tests p (leb 2 (length s) else CUT ∷ leb (stringLength unicode s) (length s) else CUT ∷ [])
+    (got (place (p + 2) (bytesOf unicode (u16At s 0))) (stringLength unicode s))

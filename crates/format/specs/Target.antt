@@ -1,16 +1,18 @@
 -- Target text.
 use Prim.Native.Nat.{ℕ}
 use mathlib.Core.List.{List, [], _∷_, _++_}
-use mathlib.Core.Bool.{Bool, not, _&&_, _||_}
+use mathlib.Core.Bool.{Bool, not, _&&_, _||_, cond}
 use lib.ListN.{length}
 use lib.Dec.{leb}
 use Rattle.format.specs.declared.Record.{Record}
+use Rattle.format.specs.declared.Verdict.{Verdict}
 use Rattle.format.specs.declared.Fault.the-variants.{Room as ROOM, NoTarget as NOTARGET}
-use Rattle.format.specs.Tests.{Outcome, got, _else_, tests, andThen, choose, bit}
-use Rattle.format.specs.Shortcut.{shortcut, recordOf}
+use Rattle.format.specs.Tests.{Outcome, got, _else_, tests, andThen, bit}
+use Rattle.format.specs.Shortcut.{shortcut, recordOf, verdictOf}
 use Rattle.format.specs.Contents.{bytesAt}
+use Rattle.format.specs.Writing.{outputOf}
 
--- NOTARGET if flag bit 8 is set or LinkInfo is absent; with neither of LinkInfo's bits 0 and 1 too
+-- there is a target unless flag bit 8 is set, LinkInfo is absent, or neither of its bits 0 and 1 is set
 abbrev pub hasTarget : Record → Bool
 hasTarget r =
     not (bit 8 (r .header .flags)) && bit 1 (r .header .flags) && (bit 0 (r .info .flags) || bit 1 (r .info .flags))
@@ -18,7 +20,7 @@ hasTarget r =
 -- With LinkInfo bit 0: local path, then suffix, as bytes. Otherwise with bit 1: net name, then suffix
 abbrev pub targetText : List ℕ → Record → List ℕ
 targetText s r =
-    choose (bit 0 (r .info .flags)) (bytesAt s (r .info .local)) (bytesAt s (r .info .network .net)) ++ bytesAt s (r .info .suffix)
+    cond (bit 0 (r .info .flags)) (bytesAt s (r .info .local)) (bytesAt s (r .info .network .net)) ++ bytesAt s (r .info .suffix)
 
 -- The target call tests as reading does, then 13, then 12
 unfoldable pub target : List ℕ → ℕ → Outcome (List ℕ)
@@ -27,3 +29,12 @@ target s room =
     andThen (shortcut s) (λ c n.
     let w = targetText s (recordOf c) in
     tests 0 (hasTarget (recordOf c) else NOTARGET ∷ leb (length w) room else ROOM ∷ []) (got w (length w)))
+
+-- the answer, and the output buffer afterwards; the room is the buffer's length
+unfoldable pub targetAnswer : List ℕ → List ℕ → Verdict
+unfolding target
+targetAnswer s out = verdictOf (target s (length out))
+
+unfoldable pub targetOutput : List ℕ → List ℕ → List ℕ
+unfolding target outputOf
+targetOutput s out = outputOf (target s (length out)) out

@@ -1,7 +1,7 @@
 -- How a section is read: tests in the order given, each with the number that its failure gives; then what was read, and how many bytes it took.
 use Prim.Native.Nat.{ℕ, _+_, _/_, _%_, _^_}
 use mathlib.Core.List.{List, [], _∷_}
-use mathlib.Core.Bool.{Bool, true, false, _&&_}
+use mathlib.Core.Bool.{Bool, true, false, cond, _&&_}
 use lib.ListN.{drop}
 use lib.Dec.{eqb}
 use Rattle.format.specs.declared.Fault.{Fault}
@@ -11,10 +11,6 @@ use Rattle.format.specs.declared.Place.{Place}
 pub data Outcome (A : Type 0) : Type 0 where
   got : A → ℕ → Outcome A
   refused : Fault → ℕ → Outcome A
-
-abbrev pub choose {ℓ} : {A : Type ℓ} → Bool → A → A → A
-choose true a b = a
-choose false a b = b
 
 -- bit k of a number
 abbrev pub bit : ℕ → ℕ → Bool
@@ -40,7 +36,7 @@ b else f = record { holds = b; fault = f }
 -- the first test that fails decides; p is where the section starts
 abbrev pub tests : {A : Type 0} → ℕ → List Test → Outcome A → Outcome A
 tests p [] r = r
-tests p (t ∷ ts) r = choose (t .holds) (tests p ts r) (refused (t .fault) p)
+tests p (t ∷ ts) r = cond (t .holds) (tests p ts r) (refused (t .fault) p)
 
 abbrev pub all : List Test → Bool
 all [] = true

@@ -1,7 +1,7 @@
 -- VolumeID.
 use Prim.Native.Nat.{ℕ, _+_}
 use mathlib.Core.List.{List, [], _∷_}
-use mathlib.Core.Bool.{Bool}
+use mathlib.Core.Bool.{Bool, cond}
 use lib.ListN.{length, take, drop}
 use lib.Dec.{leb, eqb}
 use Rattle.octets.specs.Numbers.{u32At}
@@ -10,7 +10,7 @@ use Rattle.format.specs.declared.Label.{Label}
 use Rattle.format.specs.declared.Label.the-variants.{Byte, Unicode}
 use Rattle.format.specs.declared.Volume.{Volume}
 use Rattle.format.specs.declared.Fault.the-variants.{Piece as PIECE}
-use Rattle.format.specs.Tests.{Test, _else_, all, choose, place, noPlace}
+use Rattle.format.specs.Tests.{Test, _else_, all, place, noPlace}
 use Rattle.format.specs.Pieces.{Piece, textEnds, textLength}
 
 -- In what follows v is VolumeID's own bytes.
@@ -19,16 +19,16 @@ abbrev pub labelUnicode : List ℕ → Bool
 labelUnicode v = eqb (u32At v 12) 0x14
 
 abbrev pub labelOffset : List ℕ → ℕ
-labelOffset v = choose (labelUnicode v) (u32At v 16) (u32At v 12)
+labelOffset v = cond (labelUnicode v) (u32At v 16) (u32At v 12)
 
--- which is at least 0x14; at least 0x10: the offset fields end there
+-- the label's least offset, where the offset fields end: 0x14 if it is Unicode, else 0x10
 abbrev pub labelLeast : Bool → ℕ
-labelLeast unicode = choose unicode 0x14 0x10
+labelLeast unicode = cond unicode 0x14 0x10
 
 abbrev pub volumeSize : List ℕ → ℕ
 volumeSize s = u32At s 0
 
--- drive type at 4, 0 to 6; the label and its terminator lie inside the declared size
+-- drive type at 4, 0 to 6; the offset fields, and the label with its terminator after them, lie inside the declared size
 abbrev pub volumeRules : List ℕ → List Test
 volumeRules v =
     leb (u32At v 4) 6 else PIECE
@@ -50,7 +50,7 @@ abbrev pub volumePiece : Bool → List ℕ → ℕ → Piece
 volumePiece present l o = record { present = present; offset = o; whole = all (volumeTests (drop o l)); size = volumeSize (drop o l) }
 
 abbrev pub labelOf : Bool → Place → Label
-labelOf unicode b = choose unicode (Unicode b) (Byte b)
+labelOf unicode b = cond unicode (Unicode b) (Byte b)
 
 abbrev pub noVolume : Volume
 noVolume = record { drive = 0; serial = 0; label = Byte noPlace }
@@ -65,4 +65,4 @@ volumeFields p v = record {
 
 -- l starts at p in the file
 abbrev pub volumeAt : Bool → ℕ → List ℕ → ℕ → Volume
-volumeAt present p l o = choose present (volumeFields (p + o) (take (volumeSize (drop o l)) (drop o l))) noVolume
+volumeAt present p l o = cond present (volumeFields (p + o) (take (volumeSize (drop o l)) (drop o l))) noVolume

@@ -1,8 +1,8 @@
 -- What the writer makes, and when it gives up.
 use Prim.Native.Nat.{ℕ, _+_, _-_}
 use mathlib.Core.List.{List, [], _∷_, _++_}
-use mathlib.Core.Bool.{Bool, true, false, _&&_}
-use lib.ListN.{length, drop, replicate}
+use mathlib.Core.Bool.{Bool, true, false, _&&_, cond}
+use lib.ListN.{length, replicate}
 use lib.Dec.{leb, ltb, eqb}
 use lib.IntN.{ℤ, pos, negsuc}
 use Rattle.octets.specs.Numbers.{little}
@@ -10,15 +10,16 @@ use Rattle.octets.specs.Characters.{bytesOf, characters}
 use Rattle.octets.specs.Parts.{put}
 use Rattle.format.specs.declared.Header.{Header}
 use Rattle.format.specs.declared.Record.{Record}
+use Rattle.format.specs.declared.Verdict.{Verdict}
 use Rattle.format.specs.declared.Fault.the-variants.{Place as PLACE, Unwritable as UNWRITABLE, Room as ROOM}
-use Rattle.format.specs.Tests.{Outcome, got, refused, _else_, tests, choose, bit}
+use Rattle.format.specs.Tests.{Outcome, got, refused, _else_, tests, bit}
 use Rattle.format.specs.Header.{classIdentifier, flagsOk, attributesOk, hotkeyOk}
 use Rattle.format.specs.Items.{itemList}
 use Rattle.format.specs.Pieces.{textLength}
 use Rattle.format.specs.Volume.{labelLeast}
 use Rattle.format.specs.Network.{networkHead}
 use Rattle.format.specs.Blocks.{blocks}
-use Rattle.format.specs.Shortcut.{most}
+use Rattle.format.specs.Shortcut.{most, verdictOf}
 use Rattle.format.specs.Contents.{VolumeContents, NetworkContents, InfoContents, Contents, contents, placed}
 
 abbrev pub endToEnd : List (List ℕ) → List ℕ
@@ -49,7 +50,7 @@ headerBytes h =
     ∷ little 8 (h .access)
     ∷ little 8 (h .write)
     ∷ little 4 (h .size)
-    ∷ little 4 (bits (h .icon))
+    ∷ little 4 (bits (h .«icon_index»))
     ∷ little 4 (h .command)
     ∷ little 2 (h .hotkey)
     ∷ little 10 0
@@ -73,7 +74,7 @@ twoFields false x y = []
 
 -- Unused fields are zero
 abbrev pub offsetField : Bool → ℕ → List ℕ
-offsetField there o = little 4 (choose there o 0)
+offsetField there o = little 4 (cond there o 0)
 
 -- VolumeID: the label follows its offset fields
 abbrev pub volumeLength : VolumeContents → ℕ
@@ -130,8 +131,8 @@ module _ (n : NetworkContents) where
       ∷ little 4 (n .flags)
       ∷ little 4 netStart
       ∷ offsetField (bit 0 (n .flags)) deviceStart
-      ∷ little 4 (n .provider)
-      ∷ twoFields (n .unicode) netUnicodeStart (choose (bit 0 (n .flags)) deviceUnicodeStart 0)
+      ∷ little 4 (cond (bit 1 (n .flags)) (n .provider) 0)
+      ∷ twoFields (n .unicode) netUnicodeStart (cond (bit 0 (n .flags)) deviceUnicodeStart 0)
       ∷ netBytes
       ∷ deviceBytes
       ∷ netUnicodeBytes
@@ -158,8 +159,13 @@ module _ (i : InfoContents) where
   abbrev pub suffixUnicodeBytes : List ℕ
   suffixUnicodeBytes = ifThere (i .long) (textBytes true) (i .suffixUnicode)
 
+  -- LinkInfoHeaderSize
+  abbrev pub infoHeadLength : ℕ
+  infoHeadLength = cond (i .long) 0x24 0x1C
+
+  -- where each piece starts, and where the last ends
   abbrev pub volumeStart : ℕ
-  volumeStart = choose (i .long) 0x24 0x1C
+  volumeStart = infoHeadLength
 
   abbrev pub localStart : ℕ
   localStart = volumeStart + length infoVolumeBytes
@@ -184,13 +190,13 @@ module _ (i : InfoContents) where
   infoBytes =
       endToEnd
       (little 4 infoLength
-      ∷ little 4 volumeStart
+      ∷ little 4 infoHeadLength
       ∷ little 4 (i .flags)
       ∷ offsetField (bit 0 (i .flags)) volumeStart
       ∷ offsetField (bit 0 (i .flags)) localStart
       ∷ offsetField (bit 1 (i .flags)) networkStart
       ∷ little 4 suffixStart
-      ∷ twoFields (i .long) (choose (bit 0 (i .flags)) localUnicodeStart 0) suffixUnicodeStart
+      ∷ twoFields (i .long) (cond (bit 0 (i .flags)) localUnicodeStart 0) suffixUnicodeStart
       ∷ infoVolumeBytes
       ∷ localBytes
       ∷ infoNetworkBytes
@@ -313,8 +319,19 @@ writing r d room =
     tests 0 (placed (length d) r else PLACE ∷ writable (contents d r) else UNWRITABLE ∷ leb (length w) room else ROOM ∷ [])
     (got w (length w))
 
+-- ---- what a call leaves in the output buffer it was lent
+
 -- Success changes only the first n bytes, n being the length returned; every refusal changes no byte of the output buffer
 unfoldable pub outputOf : Outcome (List ℕ) → List ℕ → List ℕ
 unfolding put
 outputOf (got w n) out = put out 0 w
 outputOf (refused f p) out = out
+
+-- the answer, and the output buffer afterwards; the room is the buffer's length
+unfoldable pub writeAnswer : Record → List ℕ → List ℕ → Verdict
+unfolding writing
+writeAnswer r d out = verdictOf (writing r d (length out))
+
+unfoldable pub writeOutput : Record → List ℕ → List ℕ → List ℕ
+unfolding writing outputOf
+writeOutput r d out = outputOf (writing r d (length out)) out

@@ -14,7 +14,7 @@ pub struct Header {
     pub access: u64,
     pub write: u64,
     pub size: u32,
-    pub icon: i32,
+    pub icon_index: i32,
     pub command: u32,
     pub hotkey: u16,
 }

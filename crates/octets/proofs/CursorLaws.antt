@@ -16,7 +16,7 @@ use Rattle.octets.proofs.ChoiceLaws.{cond-first, cond-second}
 
 -- ---- from the code to the definition
 module _ (w : ℕ) (s : List ℕ) (i : ℕ) where
-  pub take-cut : length s < i + w → Cut ≡ taken w s i
+  pub take-cut : length s < i + w → Cut (record { at = i }) ≡ taken w s i
   unfolding taken
   take-cut h = rw (lt-leb (i + w) (length s) h)
 
@@ -25,7 +25,7 @@ module _ (w : ℕ) (s : List ℕ) (i : ℕ) where
   take-number h e = rw (le-leb (i + w) (length s) h, e)
 
 module _ (s : List ℕ) (i n : ℕ) where
-  pub skip-cut : length s < i + n → Short ≡ skipped s i n
+  pub skip-cut : length s < i + n → Short (record { at = i }) ≡ skipped s i n
   unfolding skipped
   skip-cut h = rw (lt-leb (i + n) (length s) h)
 
@@ -35,10 +35,10 @@ module _ (s : List ℕ) (i n : ℕ) where
 
 -- ---- from an answer to the facts
 
-pub number-not-cut : {t : Took} {n : ℕ} {d : Cursor} → t ≡ Number n d → t ≡ Cut → ⊥
+pub number-not-cut : {t : Took} {n : ℕ} {d e : Cursor} → t ≡ Number n d → t ≡ Cut e → ⊥
 number-not-cut p q = let z : _≡_ {A = ℕ} 0 1 = cc in omega arith
 
-pub to-not-cut : {t : Skipped} {d : Cursor} → t ≡ To d → t ≡ Short → ⊥
+pub to-not-cut : {t : Skipped} {d e : Cursor} → t ≡ To d → t ≡ Short e → ⊥
 to-not-cut p q = let z : _≡_ {A = ℕ} 0 1 = cc in omega arith
 
 module _ (w : ℕ) (s : List ℕ) (i : ℕ) {t : Took} (e : t ≡ taken w s i) where
@@ -49,7 +49,7 @@ module _ (w : ℕ) (s : List ℕ) (i : ℕ) {t : Took} (e : t ≡ taken w s i) w
       let k : d ≡ record { at = i + w } = cc in
       (leb-true (i + w) (length s) b, cc, ap (λ (x : Cursor). x .at) k)
 
-  pub take-lost : t ≡ Cut → length s < i + w
+  pub take-lost : {d : Cursor} → t ≡ Cut d → length s < i + w
   unfolding taken
   take-lost h = leb-false (i + w) (length s) (cond-second (inside s i w) e (λ c. number-not-cut c h) .0)
 
@@ -61,6 +61,6 @@ module _ (s : List ℕ) (i n : ℕ) {t : Skipped} (e : t ≡ skipped s i n) wher
       let k : d ≡ record { at = i + n } = cc in
       (leb-true (i + n) (length s) b, ap (λ (x : Cursor). x .at) k)
 
-  pub skip-lost : t ≡ Short → length s < i + n
+  pub skip-lost : {d : Cursor} → t ≡ Short d → length s < i + n
   unfolding skipped
   skip-lost h = leb-false (i + n) (length s) (cond-second (inside s i n) e (λ c. to-not-cut c h) .0)

@@ -16,7 +16,24 @@ abbrev pub inside : List ℕ → ℕ → ℕ → Bool
 inside s i n = leb (i + n) (length s)
 
 unfoldable pub taken : ℕ → List ℕ → ℕ → Took
-taken w s i = cond (inside s i w) (Number (numberAt w s i) (record { at = i + w })) Cut
+taken w s i = cond (inside s i w) (Number (numberAt w s i) (record { at = i + w })) (Cut (record { at = i }))
 
 unfoldable pub skipped : List ℕ → ℕ → ℕ → Skipped
-skipped s i n = cond (inside s i n) (To (record { at = i + n })) Short
+skipped s i n = cond (inside s i n) (To (record { at = i + n })) (Short (record { at = i }))
+
+-- the number of each answer in the table of document 01, 0 OK or 2 CUT, and its value: the number taken, or where the cursor stands then
+unfoldable pub tookNumber : Took → ℕ
+tookNumber (Number n c) = 0
+tookNumber (Cut c) = 2
+
+unfoldable pub tookValue : Took → ℕ
+tookValue (Number n c) = n
+tookValue (Cut c) = c .at
+
+unfoldable pub skippedNumber : Skipped → ℕ
+skippedNumber (To c) = 0
+skippedNumber (Short c) = 2
+
+unfoldable pub skippedValue : Skipped → ℕ
+skippedValue (To c) = c .at
+skippedValue (Short c) = c .at

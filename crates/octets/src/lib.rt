@@ -13,16 +13,16 @@ pub struct Cursor {
     pub at: usize,
 }
 
-// A number and the next cursor; or the bytes end before the number does.
+// A number and the next cursor; or the bytes end before the number does, and the cursor stays.
 pub enum Took {
     Number(u32, Cursor),
-    Cut,
+    Cut(Cursor),
 }
 
-// The next cursor; or the bytes end before it.
+// The next cursor; or the bytes end before it, and the cursor stays.
 pub enum Skipped {
     To(Cursor),
-    Cut,
+    Cut(Cursor),
 }
 
 // How many characters stand before the first zero one; or none is zero.
@@ -84,7 +84,7 @@ impl Cursor {
         if stands(s, at, 2) {
             Took::Number(u16_at(s, at) as u32, Cursor { at: at + 2 })
         } else {
-            Took::Cut
+            Took::Cut(Cursor { at })
         }
     }
 
@@ -95,7 +95,7 @@ impl Cursor {
         if stands(s, at, 4) {
             Took::Number(u32_at(s, at), Cursor { at: at + 4 })
         } else {
-            Took::Cut
+            Took::Cut(Cursor { at })
         }
     }
 
@@ -106,7 +106,7 @@ impl Cursor {
         if stands(s, at, n) {
             Skipped::To(Cursor { at: at + n })
         } else {
-            Skipped::Cut
+            Skipped::Cut(Cursor { at })
         }
     }
 }
