@@ -1,0 +1,27 @@
+-- What the reader of the header answers, in terms of reading.
+use Prim.Native.Nat.{ℕ, _+_}
+use mathlib.Core.List.{List}
+use mathlib.Core.Bool.{Bool, _&&_}
+use lib.Dec.{eqb}
+use Rattle.octets.specs.Numbers.{numberAt, u16At, u32At}
+use Rattle.format.specs.declared.Header.{Header}
+use Rattle.format.specs.Tests.{Outcome, got, refused}
+use Rattle.format.specs.Header.{flagsOk, attributesOk, hotkeyOk, header}
+use Rattle.header.specs.declared.HeaderTaken.{HeaderTaken}
+use Rattle.header.specs.declared.HeaderTaken.the-variants.{Got, Refused}
+
+unfoldable pub zerosFrom66 : List ℕ → Bool
+zerosFrom66 l = eqb (numberAt 10 l 66) 0
+
+-- the rules of HEAD together
+unfoldable pub headOk : List ℕ → Bool
+unfolding zerosFrom66
+headOk l = flagsOk (u32At l 20) && attributesOk (u32At l 24) && hotkeyOk (u16At l 64) && zerosFrom66 l
+
+-- a refusal is at 0
+abbrev pub headerTaken : Outcome Header → HeaderTaken
+headerTaken (got h n) = Got h (record { at = n })
+headerTaken (refused f q) = Refused f
+
+unfoldable pub headerAt : List ℕ → HeaderTaken
+headerAt s = headerTaken (header 0 s)
