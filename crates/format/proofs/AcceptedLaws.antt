@@ -1,8 +1,8 @@
 -- An accepted shortcut: from its reading to its contents and back.
 use mathlib.Core.Path.{_≡_, refl, sym, ap, _∙_}
 use mathlib.Core.List.{List, [], _∷_}
-use mathlib.Core.Bool.{Bool, true, false}
-use Prim.Native.Nat.{ℕ, _+_, _≤_}
+use mathlib.Core.Bool.{true}
+use Prim.Native.Nat.{ℕ, _≤_}
 use native.Mathlib.Omega.{arith}
 use lib.ListN.{length}
 use lib.Dec.{leb, eqb}
@@ -11,12 +11,11 @@ use Rattle.format.specs.declared.Record.{Record}
 use Rattle.format.specs.declared.Reading.{Reading}
 use Rattle.format.specs.declared.Fault.{Fault}
 use Rattle.format.specs.declared.Fault.the-variants.{Long as LONG, Trail as TRAIL}
-use Rattle.format.specs.declared.Verdict.{Verdict}
 use Rattle.format.specs.declared.Verdict.the-variants.{Accepted, Refused}
 use Rattle.format.specs.Tests.{Outcome, got, refused, _else_, tests, andThen}
 use Rattle.format.specs.Shortcut.{Sections, most, sections, shortcut, recordOf, noRecord, verdictOf, heldBy, reading}
 use Rattle.format.specs.Contents.{Contents, present, placed, bodies, allInside, bodiesOf, contents}
-use Rattle.format.specs.Demands.{Accepts, Refuses}
+use Rattle.format.specs.Demands.{Refuses}
 use Rattle.format.proofs.Chains.{passed, got-elim, no-value}
 use Rattle.format.proofs.WholeLaws.{decode}
 use Rattle.format.proofs.PlaceLaws.{mapped}

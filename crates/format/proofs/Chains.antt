@@ -2,7 +2,7 @@
 -- A section is a reader, a writer and a condition; the reader here gives contents, not places.
 use mathlib.Core.Path.{_≡_, refl, sym, ap, _∙_, subst₂}
 use mathlib.Core.List.{List, [], _∷_, _++_, append-assoc}
-use mathlib.Core.Bool.{Bool, true, false, _&&_, cond}
+use mathlib.Core.Bool.{Bool, true, false, cond}
 use Prim.Native.Nat.{ℕ, zero, suc, _+_, _-_, _≤_, _<_}
 use native.Mathlib.Omega.{arith}
 use native.Mathlib.Nat.{zero-add, suc-add, add-sub-of-le}
@@ -12,7 +12,7 @@ use Rattle.octets.specs.Numbers.{Bytes}
 use Rattle.octets.proofs.NumberLaws.{bytes-drop, bytes-append, bytes-nil}
 use Rattle.format.specs.declared.Fault.{Fault}
 use Rattle.format.specs.declared.Fault.the-variants.{Cut as CUT}
-use Rattle.format.specs.Tests.{Outcome, got, refused, Test, _else_, tests, all, Reader, andThen, chain, optional}
+use Rattle.format.specs.Tests.{Outcome, got, refused, Test, tests, all, Reader, andThen, chain, optional}
 use Rattle.format.specs.Shortcut.{most}
 use Rattle.format.specs.Writing.{ifThere, writableIf}
 use Rattle.format.proofs.Bools.{and-true, and-both, by-order}

@@ -1,33 +1,31 @@
 -- The demands, proved of the definitions. Nothing is assumed but what types give: bytes are below 256, numbers fit their fields.
 use mathlib.Core.Path.{_≡_, refl, sym, ap, _∙_}
-use mathlib.Core.List.{List, [], _∷_}
+use mathlib.Core.List.{List}
 use mathlib.Core.Logic.{_↔_}
 use mathlib.Core.Bool.{Bool, true, false, cond}
-use Prim.Native.Nat.{ℕ, _+_, _≤_, _<_}
+use Prim.Native.Nat.{ℕ, _≤_, _<_}
 use native.Mathlib.Omega.{arith}
 use lib.ListN.{length, take}
 use lib.Dec.{leb}
-use borrow.Author.Tests.{leb-true, leb-false, le-leb, lt-leb}
+use borrow.Author.Tests.{leb-true, leb-false}
 use Rattle.octets.specs.Numbers.{Bytes}
 use Rattle.format.specs.declared.Record.{Record}
 use Rattle.format.specs.declared.Reading.{Reading}
 use Rattle.format.specs.declared.Fault.{Fault}
 use Rattle.format.specs.declared.Fault.the-variants.{Cut as CUT, Place as PLACE, Unwritable as UNWRITABLE, Room as ROOM}
-use Rattle.format.specs.declared.Verdict.the-variants.{Accepted, Refused}
+use Rattle.format.specs.declared.Verdict.the-variants.{Accepted}
 use Rattle.format.specs.Tests.{Outcome, got, refused}
-use Rattle.format.specs.Shortcut.{Sections, most, shortcut, recordOf, noRecord, verdictOf, heldBy, reading}
-use Rattle.format.specs.Contents.{Contents, present, placed, contents, Same}
+use Rattle.format.specs.Shortcut.{Sections, shortcut, recordOf, reading}
+use Rattle.format.specs.Contents.{present, placed, contents, Same}
 use Rattle.format.specs.Ranges.{FitsRecord}
 use Rattle.format.specs.Writing.{canonical, writable, writing}
 use Rattle.format.specs.Listing.{listing, EndToEnd}
 use Rattle.format.specs.Demands.{Accepts, Refuses, ReadsAs, Writes, misplaced, unwritable, no-room, written, CutAt}
-use Rattle.format.proofs.Bools.{by-order, clash}
-use Rattle.format.proofs.Chains.{CutBy, Law}
-use Rattle.format.proofs.HeaderLaws.{HeaderV}
-use Rattle.format.proofs.WholeLaws.{decode, Typed, Valid, Shortest, shortest, writes, refuses, beginning, can-valid, canonical-bytes}
+use Rattle.format.proofs.Bools.{clash}
+use Rattle.format.proofs.WholeLaws.{decode, shortest, writes, refuses, beginning, can-valid, canonical-bytes}
 use Rattle.format.proofs.FoundLaws.{read-end-to-end}
 use Rattle.format.proofs.TypedLaws.{record-typed}
-use Rattle.format.proofs.AcceptedLaws.{accepted-read, shortcut-whole, accepted-length, accepted-limit, accepted-present, accepted-inside, accepted-decode, decode-accepted, decode-refused}
+use Rattle.format.proofs.AcceptedLaws.{accepted-read, shortcut-whole, accepted-length, accepted-present, accepted-inside, accepted-decode, decode-accepted, decode-refused}
 
 -- ---- Demand 1: every input is answered, with one answer
 

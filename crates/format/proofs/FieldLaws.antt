@@ -1,14 +1,14 @@
 -- Offset fields of the canonical layout: what is read there is where the piece stands, or zero.
 use mathlib.Core.Path.{_≡_, refl}
-use mathlib.Core.List.{List, [], _∷_, _++_}
+use mathlib.Core.List.{List, _++_}
 use mathlib.Core.Bool.{Bool, true, false, not, _&&_, _||_, cond}
-use Prim.Native.Nat.{ℕ, _+_, _≤_, _<_}
+use Prim.Native.Nat.{ℕ, _≤_}
 use native.Mathlib.Omega.{arith}
 use lib.ListN.{length}
 use lib.Dec.{eqb}
 use borrow.Author.Tests.{eq-eqb}
 use Rattle.octets.specs.Numbers.{Bytes, number, numberAt, little}
-use Rattle.octets.proofs.NumberLaws.{bytes-append, bytes-nil, bytes-little, number-little, number-back}
+use Rattle.octets.proofs.NumberLaws.{bytes-append, bytes-nil, bytes-little, number-little}
 use Rattle.format.specs.Pieces.{absentZero}
 use Rattle.format.specs.Shortcut.{most}
 use Rattle.format.specs.Writing.{twoFields}

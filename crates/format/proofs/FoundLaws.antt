@@ -1,14 +1,13 @@
 -- What reading gives: zeros for what is absent, bodies inside the file, and sections end to end.
-use mathlib.Core.Path.{_≡_, refl, sym, ap, _∙_}
+use mathlib.Core.Path.{_≡_, refl}
 use mathlib.Core.List.{List, [], _∷_, _++_}
 use mathlib.Core.Bool.{Bool, true, false, _&&_, cond}
 use Prim.Native.Nat.{ℕ, _+_, _-_, _≤_, _<_}
 use native.Mathlib.Omega.{arith}
-use native.Mathlib.Nat.{add-assoc}
 use lib.ListN.{length, take, drop, length-take, length-drop}
 use lib.Seq.{length-take-le}
-use lib.Dec.{leb, eqb}
-use borrow.Author.Tests.{leb-true, le-leb, ltb-true, eqb-true}
+use lib.Dec.{leb}
+use borrow.Author.Tests.{leb-true, le-leb, ltb-true}
 use Rattle.octets.specs.Numbers.{u16At, u32At}
 use Rattle.octets.specs.Characters.{bytesOf, characters, beforeZero}
 use Rattle.octets.proofs.CharacterLaws.{characters-fit, bytes-of-le, bytes-of-add}
@@ -17,24 +16,24 @@ use Rattle.format.specs.declared.Info.{Info}
 use Rattle.format.specs.declared.Header.{Header}
 use Rattle.format.specs.declared.Network.{Network}
 use Rattle.format.specs.declared.Fault.the-variants.{Info as INFO}
-use Rattle.format.specs.Tests.{Outcome, got, refused, bit, place, noPlace, _else_, tests, all, chain}
+use Rattle.format.specs.Tests.{got, bit, place, noPlace, _else_, tests, all, chain}
 use Rattle.format.specs.Header.{header}
 use Rattle.format.specs.Items.{itemsLength, itemsRules, items}
 use Rattle.format.specs.Pieces.{textEnds, textLength, textPiece, textPlace, pieceOk}
 use Rattle.format.specs.Volume.{labelUnicode, labelOffset, labelOf, noVolume, volumeAt, volumeFields, volumeTests, volumePiece}
 use Rattle.format.specs.Network.{networkFlags, hasDevice, networkUnicode, networkHead, networkAt, networkFields, noNetwork, networkTests, networkPiece}
-use Rattle.format.specs.Info.{infoSize, infoHead, infoFlags, longHead, hasLocal, hasNetwork, infoRules, infoFields, info, noInfo}
+use Rattle.format.specs.Info.{infoSize, infoHead, longHead, hasLocal, hasNetwork, infoRules, infoFields, info, noInfo}
 use Rattle.format.specs.Strings.{stringLength, string}
 use Rattle.format.specs.Blocks.{blocks}
-use Rattle.format.specs.Shortcut.{Section, Tail, Sections, found, sectionIf, stringSection, tail, sections, sum, recordOf}
+use Rattle.format.specs.Shortcut.{Section, Tail, Sections, found, stringSection, tail, sections, sum, recordOf}
 use Rattle.format.specs.Contents.{presentNetwork, presentInfo, present, labelPlace, bodies, allInside}
 use Rattle.format.specs.Listing.{Row, row, blockRows, rowsOf, EndToEnd}
-use Rattle.format.proofs.Bools.{and-true, and-both, choose-twice}
-use Rattle.format.proofs.Chains.{Pass, all-pass, tests-elim}
+use Rattle.format.proofs.Bools.{and-true, choose-twice}
+use Rattle.format.proofs.Chains.{all-pass, tests-elim}
 use Rattle.format.proofs.Sized.{sizedTests}
 use Rattle.format.proofs.ItemsLaws.{itemsValue}
 use Rattle.format.proofs.InfoLaws.{infoValue}
-use Rattle.format.proofs.BlockLaws.{blocks-walked, step-elim, none-left}
+use Rattle.format.proofs.BlockLaws.{blocks-walked}
 use Rattle.format.proofs.PlaceLaws.{found-elim, Always, chain-always, then-always, section-always, Lies, chain-lies, then-lies, found-lies, section-lies, inside-more}
 
 -- ---- zeros for what is absent

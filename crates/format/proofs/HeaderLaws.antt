@@ -1,18 +1,18 @@
 -- The laws of the header.
 use mathlib.Core.Path.{_≡_, refl, sym, subst}
-use mathlib.Core.List.{List, [], _∷_, _++_}
-use mathlib.Core.Bool.{Bool, true, false, _&&_, cond}
-use Prim.Native.Nat.{ℕ, _+_, _-_, _≤_, _<_, _^_}
+use mathlib.Core.List.{List, [], _∷_}
+use mathlib.Core.Bool.{Bool, true, false, cond}
+use Prim.Native.Nat.{ℕ, _-_, _<_, _^_}
 use native.Mathlib.Omega.{arith}
 use lib.ListN.{length, take}
 use lib.Dec.{leb, ltb, eqb}
 use lib.IntN.{ℤ, pos, negsuc}
-use borrow.Author.Tests.{lt-ltb, le-ltb, eq-eqb}
+use borrow.Author.Tests.{lt-ltb, le-ltb}
 use Rattle.octets.specs.Numbers.{Bytes, number, numberAt, u16At, u32At, u64At, little}
-use Rattle.octets.proofs.NumberLaws.{bytes-append, bytes-nil, bytes-cons, bytes-little, number-little, number-below}
+use Rattle.octets.proofs.NumberLaws.{bytes-append, bytes-nil, bytes-little, number-little, number-below}
 use Rattle.format.specs.declared.Header.{Header}
 use Rattle.format.specs.declared.Fault.the-variants.{Cut as CUT}
-use Rattle.format.specs.Tests.{got, refused, _else_, tests, Test, Outcome}
+use Rattle.format.specs.Tests.{got, refused, tests, Outcome}
 use Rattle.format.specs.Header.{classIdentifier, magic, flagsOk, attributesOk, hotkeyOk, headerRules, signed, headerFields, header}
 use Rattle.format.specs.Ranges.{FitsSigned, FitsHeader}
 use Rattle.format.specs.Writing.{bits, headerBytes, writableHeader}

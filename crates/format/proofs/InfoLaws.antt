@@ -1,8 +1,8 @@
 -- The laws of LinkInfo.
 use mathlib.Core.Path.{_≡_, refl, sym, ap, _∙_}
 use mathlib.Core.List.{List, [], _∷_, _++_, map}
-use mathlib.Core.Bool.{Bool, true, false, not, _&&_, _||_, cond}
-use Prim.Native.Nat.{ℕ, _+_, _≤_, _<_, _^_}
+use mathlib.Core.Bool.{Bool, true, false, _&&_, _||_, cond}
+use Prim.Native.Nat.{ℕ, _+_, _≤_}
 use native.Mathlib.Omega.{arith}
 use lib.ListN.{length, take, drop, length-append}
 use lib.Dec.{leb, eqb}
@@ -14,10 +14,10 @@ use Rattle.format.specs.Tests.{Test, _else_, all, bit}
 use Rattle.format.specs.Pieces.{textEnds, textSize, textPiece, span}
 use Rattle.format.specs.Volume.{volumeRules, volumePiece}
 use Rattle.format.specs.Network.{networkRules, networkPiece}
-use Rattle.format.specs.Info.{infoSize, infoHead, longHead, headOk, infoFlags, hasLocal, hasNetwork, infoPieces, infoRules}
+use Rattle.format.specs.Info.{infoSize, infoHead, longHead, infoFlags, hasLocal, hasNetwork, infoPieces, infoRules}
 use Rattle.format.specs.Shortcut.{most}
 use Rattle.format.specs.Contents.{VolumeContents, NetworkContents, InfoContents}
-use Rattle.format.specs.Writing.{textBytes, ifThere, twoFields, offsetField, volumeBytes, networkBytes, infoVolumeBytes, localBytes, infoNetworkBytes, suffixBytes, localUnicodeBytes, suffixUnicodeBytes, volumeStart, localStart, networkStart, suffixStart, localUnicodeStart, suffixUnicodeStart, infoLength, infoBytes, writableIf, writableText, writableVolume, writableNetwork, writableInfo}
+use Rattle.format.specs.Writing.{textBytes, twoFields, volumeBytes, networkBytes, infoVolumeBytes, localBytes, infoNetworkBytes, suffixBytes, localUnicodeBytes, suffixUnicodeBytes, volumeStart, localStart, networkStart, suffixStart, localUnicodeStart, suffixUnicodeStart, infoLength, infoBytes, writableIf, writableText, writableVolume, writableNetwork, writableInfo}
 use Rattle.format.proofs.Bools.{and-true, or-true, Every, every-out, every-in, choose-twice}
 use Rattle.format.proofs.Intervals.{total, pack, Ordered, end, ordered-apart}
 use Rattle.format.proofs.Chains.{Pass, Ok, Fits, Law, IfThere, ok-there, there-ok}

@@ -1,7 +1,7 @@
 -- Intervals that share no place and lie in [h, n) have at most n - h places together.
 use mathlib.Core.Path.{_≡_, refl, ap}
 use mathlib.Core.List.{List, [], _∷_, map}
-use mathlib.Core.Bool.{Bool, true, cond}
+use mathlib.Core.Bool.{true, cond}
 use Prim.Native.Nat.{ℕ, zero, suc, _+_, _-_, _≤_, _<_}
 use native.Mathlib.Omega.{arith}
 use native.Mathlib.Nat.{not-suc-le-zero, le-of-suc-le-suc}
@@ -9,7 +9,7 @@ use lib.ListN.{length, length-map}
 use lib.Dec.{leb}
 use borrow.Author.Tests.{leb-true, le-leb, lt-leb}
 use Rattle.format.specs.declared.Place.{Place}
-use Rattle.format.specs.Tests.{place, noPlace}
+use Rattle.format.specs.Tests.{place}
 use Rattle.format.specs.Pieces.{apart, apartFrom, allApart}
 use Rattle.format.proofs.Bools.{and-true, and-both, or-true, or-left, or-right, by-order}
 

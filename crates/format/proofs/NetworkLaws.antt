@@ -1,22 +1,22 @@
 -- The laws of the network link.
 use mathlib.Core.Path.{_≡_, refl, sym, ap, _∙_}
 use mathlib.Core.List.{List, [], _∷_, _++_, map}
-use mathlib.Core.Bool.{Bool, true, false, not, _&&_, _||_, cond}
+use mathlib.Core.Bool.{Bool, true, false, not, _&&_, cond}
 use Prim.Native.Nat.{ℕ, _+_, _≤_, _<_, _^_}
 use native.Mathlib.Omega.{arith}
 use lib.ListN.{length, take, drop, length-append}
-use lib.Dec.{leb, ltb, eqb}
+use lib.Dec.{leb, ltb}
 use borrow.Author.Tests.{leb-true, le-leb}
 use Rattle.octets.specs.Numbers.{Bytes, number, numberAt, u32At, little}
 use Rattle.octets.proofs.NumberLaws.{bytes-append, bytes-nil, bytes-little, length-little, number-back, number-little, number-below}
 use Rattle.format.specs.Tests.{all, bit}
-use Rattle.format.specs.Pieces.{textEnds, textSize, textPiece, absentZero, span, allApart}
+use Rattle.format.specs.Pieces.{textEnds, textSize, textPiece, span}
 use Rattle.format.specs.Network.{networkFlags, hasDevice, networkUnicode, networkHead, networkPieces, networkRules}
 use Rattle.format.specs.Shortcut.{most}
 use Rattle.format.specs.Contents.{NetworkContents}
-use Rattle.format.specs.Writing.{textBytes, ifThere, twoFields, offsetField, netBytes, deviceBytes, netUnicodeBytes, deviceUnicodeBytes, netStart, deviceStart, netUnicodeStart, deviceUnicodeStart, networkLength, networkBytes, writableIf, writableText, writableNetwork}
+use Rattle.format.specs.Writing.{textBytes, twoFields, netBytes, deviceBytes, netUnicodeBytes, deviceUnicodeBytes, netStart, deviceStart, netUnicodeStart, deviceUnicodeStart, networkLength, networkBytes, writableIf, writableText, writableNetwork}
 use Rattle.format.proofs.Bools.{Every, every-out, every-in, choose-twice}
-use Rattle.format.proofs.Intervals.{Within, total, pack, Ordered, end, ordered-apart}
+use Rattle.format.proofs.Intervals.{total, pack, Ordered, end, ordered-apart}
 use Rattle.format.proofs.Chains.{Pass, Ok, Fits, IfThere, ok-there, there-ok}
 use Rattle.format.proofs.PieceLaws.{PieceLaw, TextV, textValue, text-law, slot, SlotFits, SlotBack, slot-fits, slot-back, slot-bytes, spans-ordered, absent-empty, next, Struct, structTests, struct-law}
 use Rattle.format.proofs.FieldLaws.{choose-below, field-is, length-two, bytes-two, first-field, second-field, both-there, zero-absent, zero-either}

@@ -1,10 +1,9 @@
 -- The laws of a piece that an offset leads to: of a string, and of a piece that is there or not.
 use mathlib.Core.Path.{_≡_, refl, sym, ap, _∙_}
-use mathlib.Core.List.{List, [], _∷_, _++_, map, append-assoc}
+use mathlib.Core.List.{List, _∷_, _++_, append-assoc}
 use mathlib.Core.Bool.{Bool, true, false, cond}
-use Prim.Native.Nat.{ℕ, zero, suc, _+_, _-_, _*_, _≤_, _<_}
+use Prim.Native.Nat.{ℕ, zero, suc, _+_, _≤_, _<_}
 use native.Mathlib.Omega.{arith}
-use native.Mathlib.Nat.{add-zero}
 use lib.ListN.{length, take, drop, replicate, length-append, length-drop, length-replicate}
 use lib.Seq.{length-take-le, take-at, drop-drop, drop-append-seam}
 use lib.Dec.{leb, ltb, eqb}
@@ -16,7 +15,7 @@ use Rattle.octets.proofs.CharacterLaws.{before-le, before-take, before-append, 
 use Rattle.format.specs.declared.Place.{Place}
 use Rattle.format.specs.declared.Fault.the-variants.{Piece as PIECE}
 use Rattle.format.specs.Tests.{Test, _else_, all, place, noPlace}
-use Rattle.format.specs.Pieces.{Piece, textEnds, textLength, textSize, absentZero, pieceOk, span}
+use Rattle.format.specs.Pieces.{Piece, textEnds, textLength, textSize, pieceOk, span}
 use Rattle.format.specs.Shortcut.{most}
 use Rattle.format.specs.Writing.{textBytes, ifThere, writableText}
 use Rattle.format.proofs.Bools.{and-true, and-both}

@@ -1,29 +1,25 @@
 -- Places: what stands at the places that reading gives are the contents; they lie inside; what is absent is zero; the sections lie end to end.
-use mathlib.Core.Path.{_≡_, refl, sym, ap, _∙_, subst}
+use mathlib.Core.Path.{_≡_, refl, sym, ap, _∙_}
 use mathlib.Core.List.{List, [], _∷_, _++_}
-use mathlib.Core.Bool.{Bool, true, false, _&&_, cond}
-use Prim.Native.Nat.{ℕ, zero, suc, _+_, _-_, _≤_, _<_}
+use mathlib.Core.Bool.{Bool, true, false, cond}
+use Prim.Native.Nat.{ℕ, zero, suc, _+_, _-_, _≤_}
 use native.Mathlib.Omega.{arith}
-use native.Mathlib.Nat.{add-assoc, add-zero}
+use native.Mathlib.Nat.{add-assoc}
 use lib.ListN.{length, take, drop, length-take, length-drop}
-use lib.Seq.{take-take, drop-drop, length-take-le}
+use lib.Seq.{drop-drop}
 use lib.Dec.{leb}
 use borrow.Author.Tests.{leb-true, le-leb}
-use Rattle.octets.specs.Numbers.{u16At, u32At}
-use Rattle.octets.specs.Characters.{bytesOf, characters, beforeZero}
+use Rattle.octets.specs.Characters.{characters}
 use Rattle.octets.proofs.NumberLaws.{part-inside}
 use Rattle.octets.proofs.CharacterLaws.{before-le, characters-fit, bytes-of-le}
 use Rattle.format.specs.declared.Place.{Place}
-use Rattle.format.specs.declared.Header.{Header}
-use Rattle.format.specs.declared.Info.{Info}
-use Rattle.format.specs.declared.Fault.the-variants.{Cut as CUT, Info as INFO}
-use Rattle.format.specs.Tests.{Outcome, got, refused, bit, place, noPlace, Test, _else_, tests, Reader, andThen, chain, _then_, optional}
+use Rattle.format.specs.Tests.{Outcome, got, refused, place, Test, tests, Reader, andThen, chain, _then_, optional}
 use Rattle.format.specs.Pieces.{textLength, textPlace}
 use Rattle.format.specs.Shortcut.{Section, absent, found, sectionIf}
 use Rattle.format.specs.Contents.{bytesAt, allInside}
 use Rattle.format.specs.Listing.{Row, row, EndToEnd}
 use Rattle.format.proofs.Bools.{by-order, and-true, and-both}
-use Rattle.format.proofs.Chains.{Pass, got-elim, no-value, drop-take, chain-elim}
+use Rattle.format.proofs.Chains.{Pass, got-elim, no-value, chain-elim}
 use Rattle.format.proofs.PieceLaws.{textValue}
 
 -- ---- parts of a file

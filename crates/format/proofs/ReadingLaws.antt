@@ -1,18 +1,17 @@
 -- The record that reading gives, beside the contents: each section's places hold its contents, and so do those of the whole.
 use mathlib.Core.Path.{_≡_, refl, sym, ap, _∙_}
-use mathlib.Core.List.{List, [], _∷_, _++_}
+use mathlib.Core.List.{List, [], _∷_}
 use mathlib.Core.Bool.{Bool, true, false, _&&_, cond}
-use Prim.Native.Nat.{ℕ, _+_, _-_, _≤_, _<_}
+use Prim.Native.Nat.{ℕ, _+_, _-_}
 use native.Mathlib.Omega.{arith}
-use lib.ListN.{length, take, drop, length-take, length-drop}
+use lib.ListN.{length, take, drop, length-take}
 use lib.Seq.{drop-drop, length-take-le}
 use lib.Dec.{leb, eqb}
-use borrow.Author.Tests.{leb-true, le-leb}
+use borrow.Author.Tests.{leb-true}
 use Rattle.octets.specs.Numbers.{u16At, u32At}
 use Rattle.octets.specs.Characters.{bytesOf}
 use Rattle.octets.proofs.NumberLaws.{part-inside}
 use Rattle.format.specs.declared.Place.{Place}
-use Rattle.format.specs.declared.Label.{Label}
 use Rattle.format.specs.declared.Info.{Info}
 use Rattle.format.specs.declared.Header.{Header}
 use Rattle.format.specs.declared.Fault.the-variants.{Long as LONG, Trail as TRAIL, Info as INFO}
@@ -21,10 +20,10 @@ use Rattle.format.specs.Header.{header}
 use Rattle.format.specs.Items.{itemsLength, itemsRules, items}
 use Rattle.format.specs.Volume.{labelUnicode, labelOffset, labelOf, noVolume, volumeAt}
 use Rattle.format.specs.Network.{hasDevice, networkUnicode, networkAt}
-use Rattle.format.specs.Info.{infoSize, infoFlags, longHead, hasLocal, hasNetwork, infoRules, infoFields, info, noInfo}
+use Rattle.format.specs.Info.{infoSize, longHead, hasLocal, hasNetwork, infoRules, infoFields, info, noInfo}
 use Rattle.format.specs.Strings.{stringLength, string}
 use Rattle.format.specs.Blocks.{blocks}
-use Rattle.format.specs.Shortcut.{Section, Tail, Sections, found, sectionIf, stringSection, tail, sections, shortcut, most, sum, recordOf}
+use Rattle.format.specs.Shortcut.{Section, Tail, Sections, found, stringSection, tail, sections, shortcut, most, sum, recordOf}
 use Rattle.format.specs.Contents.{labelPlace, labelKind, bytesAt, volumeContents, networkContents, infoContents, bodiesOf}
 use Rattle.format.proofs.Chains.{drop-take}
 use Rattle.format.proofs.Sized.{sizedTests}
@@ -34,7 +33,7 @@ use Rattle.format.proofs.NetworkLaws.{networkValue}
 use Rattle.format.proofs.InfoLaws.{noVolumeC, noNetworkC, infoValue}
 use Rattle.format.proofs.BlockLaws.{blocksR}
 use Rattle.format.proofs.WholeLaws.{noInfoC, itemsR, infoR, stringR, TailC, tail-s, fileR, decode, toContents}
-use Rattle.format.proofs.PlaceLaws.{PartOf, part-of, part-within, text-placed, Placed, tests-placed, found-placed, section-placed, chain-placed, then-placed, mapped, both, found-elim}
+use Rattle.format.proofs.PlaceLaws.{PartOf, part-of, part-within, text-placed, Placed, tests-placed, found-placed, section-placed, chain-placed, then-placed, mapped, both}
 
 module _ (f : List ℕ) where
   header-placed : Placed f header (λ h. h) header

@@ -1,10 +1,10 @@
 -- Sections that say their own size in their first bytes.
-use mathlib.Core.Path.{_≡_, refl, sym, ap, _∙_}
-use mathlib.Core.List.{List, [], _∷_, _++_}
-use mathlib.Core.Bool.{Bool, true, false}
-use Prim.Native.Nat.{ℕ, _+_, _≤_, _<_}
+use mathlib.Core.Path.{_≡_, sym, ap, _∙_}
+use mathlib.Core.List.{List, _∷_, _++_}
+use mathlib.Core.Bool.{true}
+use Prim.Native.Nat.{ℕ, _≤_, _<_}
 use native.Mathlib.Omega.{arith}
-use lib.ListN.{length, take, drop, length-append}
+use lib.ListN.{length, take, length-append}
 use lib.Seq.{length-take-le, take-take, take-append-seam}
 use lib.Dec.{leb}
 use borrow.Author.Tests.{leb-true, le-leb, lt-leb}
@@ -14,7 +14,7 @@ use Rattle.format.specs.declared.Fault.the-variants.{Cut as CUT}
 use Rattle.format.specs.Tests.{Outcome, got, refused, Test, _else_, tests, Reader}
 use Rattle.format.specs.Shortcut.{most}
 use Rattle.format.proofs.Bools.{by-order}
-use Rattle.format.proofs.Chains.{Pass, pass, pass-split, pass-join, tests-append, tests-elim, Fits, CutBy, Law}
+use Rattle.format.proofs.Chains.{Pass, pass, pass-split, pass-join, tests-append, tests-elim, Fits, Law}
 
 -- one whole section l, with nothing after it, reads as a
 pub record SizedBack {A : Type 0} (size : List ℕ → ℕ) (sizes : ℕ → List Test) (rules : List ℕ → List Test) (value : List ℕ → A) (l : List ℕ) (a : A) : Type 0 where

@@ -1,5 +1,5 @@
 -- What a record's types give its contents: bytes are bytes, numbers fit, what is absent is zero.
-use mathlib.Core.Path.{_≡_, refl}
+use mathlib.Core.Path.{refl}
 use mathlib.Core.List.{List, []}
 use mathlib.Core.Bool.{Bool, true, false, _&&_, cond}
 use Prim.Native.Nat.{ℕ, _<_, _^_}

@@ -1,8 +1,8 @@
 -- The whole shortcut, read for its contents: the sections' laws composed.
 use mathlib.Core.Path.{_≡_, refl, sym, ap, _∙_}
-use mathlib.Core.List.{List, [], _∷_, _++_, append-nil}
+use mathlib.Core.List.{List, [], _∷_, append-nil}
 use mathlib.Core.Bool.{Bool, true, false}
-use Prim.Native.Nat.{ℕ, _+_, _≤_, _<_}
+use Prim.Native.Nat.{ℕ, _≤_, _<_}
 use native.Mathlib.Omega.{arith}
 use lib.ListN.{length, take, drop, length-take}
 use lib.Dec.{leb, eqb}
@@ -10,7 +10,7 @@ use borrow.Author.Tests.{leb-true, le-leb, eqb-true, eq-eqb}
 use Rattle.octets.specs.Numbers.{Bytes}
 use Rattle.format.specs.declared.Header.{Header}
 use Rattle.format.specs.declared.Fault.the-variants.{Long as LONG, Trail as TRAIL, Info as INFO}
-use Rattle.format.specs.Tests.{Outcome, got, refused, Test, _else_, tests, Reader, andThen, chain, optional, bit}
+use Rattle.format.specs.Tests.{Outcome, got, refused, _else_, tests, Reader, andThen, chain, optional, bit}
 use Rattle.format.specs.Header.{header}
 use Rattle.format.specs.Items.{itemsLength, itemsRules}
 use Rattle.format.specs.Info.{infoSize, infoRules}
@@ -19,8 +19,8 @@ use Rattle.format.specs.Shortcut.{most}
 use Rattle.format.specs.Contents.{InfoContents, Contents}
 use Rattle.format.specs.Ranges.{FitsHeader}
 use Rattle.format.specs.Writing.{ifThere, headerBytes, itemsBytes, infoBytes, stringBytes, blocksBytes, canonical, writable, writableIf, writableHeader, writableItems, writableInfo, writableString, writableStringOf, writableBlocks}
-use Rattle.format.proofs.Bools.{Every, every-out, every-in, clash}
-use Rattle.format.proofs.Chains.{passed, got-elim, no-value, Ok, Fits, CutBy, Law, IfThere, ok-there, there-ok, optional-law, chainE, ChainV, chain-law}
+use Rattle.format.proofs.Bools.{every-out, every-in, clash}
+use Rattle.format.proofs.Chains.{passed, got-elim, no-value, Fits, CutBy, Law, IfThere, ok-there, there-ok, optional-law, chainE, ChainV, chain-law}
 use Rattle.format.proofs.Sized.{sizedR}
 use Rattle.format.proofs.HeaderLaws.{HeaderV, header-law}
 use Rattle.format.proofs.ItemsLaws.{ItemsV, itemsValue, items-law}

@@ -1,5 +1,5 @@
 -- What the types of a record's fields give: each number fits its field.
-use Prim.Native.Nat.{ℕ, _<_, _^_}
+use Prim.Native.Nat.{_<_, _^_}
 use lib.IntN.{ℤ, pos, negsuc}
 use Rattle.format.specs.declared.Header.{Header}
 use Rattle.format.specs.declared.Record.{Record}

@@ -1,7 +1,7 @@
 -- The whole shortcut: LONG first, then the sections in file order, TRAIL last.
 use Prim.Native.Nat.{ℕ, _+_}
 use mathlib.Core.List.{List, [], _∷_}
-use mathlib.Core.Bool.{Bool, true, false, cond}
+use mathlib.Core.Bool.{Bool, true, false}
 use lib.ListN.{length}
 use lib.Dec.{leb, eqb}
 use lib.IntN.{pos}
@@ -13,7 +13,7 @@ use Rattle.format.specs.declared.Header.{Header}
 use Rattle.format.specs.declared.Info.{Info}
 use Rattle.format.specs.declared.Record.{Record}
 use Rattle.format.specs.declared.Reading.{Reading}
-use Rattle.format.specs.Tests.{Test, _else_, tests, Outcome, got, refused, Reader, andThen, chain, _then_, optional, bit, place, noPlace}
+use Rattle.format.specs.Tests.{_else_, tests, Outcome, got, refused, Reader, andThen, chain, _then_, optional, bit, place, noPlace}
 use Rattle.format.specs.Header.{header}
 use Rattle.format.specs.Items.{items}
 use Rattle.format.specs.Info.{info, noInfo}

@@ -8,7 +8,7 @@ use Rattle.octets.specs.Numbers.{u16At}
 use Rattle.octets.specs.Characters.{bytesOf}
 use Rattle.format.specs.declared.Place.{Place}
 use Rattle.format.specs.declared.Fault.the-variants.{Cut as CUT}
-use Rattle.format.specs.Tests.{Test, _else_, tests, got, Reader, place}
+use Rattle.format.specs.Tests.{_else_, tests, got, Reader, place}
 
 -- Each is a 2-byte count of characters and the characters, two bytes each in Unicode, else one
 abbrev pub stringLength : Bool → List ℕ → ℕ

@@ -1,11 +1,11 @@
 -- Numbers and their bytes: there and back, over the width.
-use mathlib.Core.Path.{_≡_, refl, sym, ap, ap₂, _∙_}
+use mathlib.Core.Path.{_≡_, refl, sym, ap, _∙_}
 use mathlib.Core.List.{List, [], _∷_, _++_}
-use Prim.Native.Nat.{ℕ, zero, suc, _+_, _-_, _*_, _/_, _%_, _^_, _≤_, _<_, min}
+use Prim.Native.Nat.{ℕ, zero, suc, _+_, _*_, _/_, _%_, _^_, _≤_, _<_}
 use native.Mathlib.Omega.{arith}
-use native.Mathlib.Nat.{zero-add, add-zero, mod-eq-of-lt, div-eq-of-lt, add-mul-div-left, add-mul-mod-self-left, zero-lt-suc, pow-suc, pow-succ', pow-le-pow-right}
-use lib.ListN.{length, getD, take, drop, length-take, length-drop, length-append}
-use lib.Seq.{getD-drop, getD-take, take-take, drop-drop, take-add, take-nil, take-append-seam}
+use native.Mathlib.Nat.{zero-add, mod-eq-of-lt, div-eq-of-lt, add-mul-div-left, add-mul-mod-self-left, zero-lt-suc, pow-suc, pow-succ', pow-le-pow-right}
+use lib.ListN.{length, getD, take, drop, length-take, length-drop}
+use lib.Seq.{getD-drop, take-take, drop-drop, take-add, take-append-seam}
 use Rattle.octets.specs.Numbers.{Bytes, number, numberAt, little}
 
 -- ---- lists of bytes

@@ -5,7 +5,6 @@ use mathlib.Core.Bool.{Bool, cond}
 use lib.ListN.{length}
 use lib.Dec.{leb}
 use Rattle.octets.specs.Numbers.{numberAt}
-use Rattle.octets.specs.declared.Cursor.{Cursor}
 use Rattle.octets.specs.declared.Took.{Took}
 use Rattle.octets.specs.declared.Took.the-variants.{Number, Cut}
 use Rattle.octets.specs.declared.Skipped.{Skipped}

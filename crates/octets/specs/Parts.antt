@@ -1,7 +1,7 @@
 -- A part of a list of bytes, and a lent buffer after bytes were put into it.
 use Prim.Native.Nat.{ℕ, _+_}
 use mathlib.Core.List.{List, [], _++_}
-use mathlib.Core.Bool.{Bool, cond}
+use mathlib.Core.Bool.{cond}
 use lib.ListN.{length, take, drop}
 use Rattle.octets.specs.Cursors.{inside}
 
