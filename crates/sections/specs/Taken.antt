@@ -1,0 +1,22 @@
+-- What the readers of these sections answer, in terms of reading.
+use Prim.Native.Nat.{ℕ, _+_}
+use mathlib.Core.List.{List}
+use mathlib.Core.Bool.{Bool}
+use lib.ListN.{drop}
+use Rattle.format.specs.declared.Place.{Place}
+use Rattle.format.specs.Tests.{Outcome, got, refused}
+use Rattle.format.specs.Items.{items}
+use Rattle.format.specs.Strings.{string}
+use Rattle.sections.specs.declared.Taken.{Taken}
+use Rattle.sections.specs.declared.Taken.the-variants.{Got, Refused}
+
+-- a refusal is at the section's start
+abbrev pub placeTaken : ℕ → Outcome Place → Taken
+placeTaken p (got b n) = Got b (record { at = p + n })
+placeTaken p (refused f q) = Refused f
+
+unfoldable pub stringAt : Bool → List ℕ → ℕ → Taken
+stringAt unicode s p = placeTaken p (string unicode p (drop p s))
+
+unfoldable pub itemsAt : List ℕ → ℕ → Taken
+itemsAt s p = placeTaken p (items p (drop p s))
