@@ -1,11 +1,12 @@
 -- The demands, proved of the definitions. Nothing is assumed but what types give: bytes are below 256, numbers fit their fields.
 use mathlib.Core.Path.{_≡_, refl, sym, ap, _∙_}
-use mathlib.Core.List.{List}
+use mathlib.Core.List.{List, [], _∷_, map}
 use mathlib.Core.Logic.{_↔_}
 use mathlib.Core.Bool.{Bool, true, false, cond}
-use Prim.Native.Nat.{ℕ, _≤_, _<_}
+use Prim.Native.Nat.{ℕ, _+_, _-_, _≤_, _<_}
 use native.Mathlib.Omega.{arith}
-use lib.ListN.{length, take}
+use lib.ListN.{length, take, drop}
+use lib.Seq.{take-length, take-add, drop-drop}
 use lib.Dec.{leb}
 use borrow.Author.Tests.{leb-true, leb-false}
 use Rattle.octets.specs.Numbers.{Bytes}
@@ -18,8 +19,8 @@ use Rattle.format.specs.Tests.{Outcome, got, refused}
 use Rattle.format.specs.Shortcut.{Sections, shortcut, recordOf, reading}
 use Rattle.format.specs.Contents.{present, placed, contents, Same}
 use Rattle.format.specs.Ranges.{FitsRecord}
-use Rattle.format.specs.Writing.{canonical, writable, writing}
-use Rattle.format.specs.Listing.{listing, EndToEnd}
+use Rattle.format.specs.Writing.{endToEnd, canonical, writable, writing}
+use Rattle.format.specs.Listing.{Row, listing, EndToEnd, rowBytes}
 use Rattle.format.specs.Demands.{Accepts, Refuses, ReadsAs, Writes, misplaced, unwritable, no-room, written, CutAt}
 use Rattle.format.proofs.Bools.{clash}
 use Rattle.format.proofs.WholeLaws.{decode, shortest, writes, refuses, beginning, can-valid, canonical-bytes}
@@ -73,6 +74,25 @@ sections-end-to-end s r e =
     let x = accepted-read s r (length s) e in
     let w = shortcut-whole s (x .sections) (length s) (x .is) in
     rw (x .is) (read-end-to-end s (x .sections) (length s) (w .read))
+
+ahead : (p q : ℕ) (rows : List Row) → EndToEnd p rows q → p ≤ q
+ahead p q [] e = omega arith
+ahead p q (x ∷ xs) e = omega (arith, ahead (p + x .len) q xs (e .1))
+
+glued : (s : List ℕ) (p q : ℕ) (rows : List Row) → EndToEnd p rows q → q ≤ length s → endToEnd (map (rowBytes s) rows) ≡ take (q - p) (drop p s)
+glued s p q [] e h =
+    let z : q - p ≡ 0 = omega arith in
+    rw z
+glued s p q (x ∷ xs) e h =
+    let k : p + x .len ≤ q = ahead (p + x .len) q xs (e .1) in
+    let n : q - p ≡ x .len + (q - (p + x .len)) = omega arith in
+    rw (e .0, n, take-add (x .len) (q - (p + x .len)) (drop p s), drop-drop (x .len) p s, glued s (p + x .len) q xs (e .1) h)
+
+-- and what they show, one after another, is the shortcut
+pub sections-show-all : (s : List ℕ) (r : Record) → Accepts s r → endToEnd (map (rowBytes s) (listing s)) ≡ s
+sections-show-all s r e =
+    let z : length s - 0 ≡ length s = omega arith in
+    glued s 0 (length s) (listing s) (sections-end-to-end s r e) (omega arith) ∙ rw (z, take-length s)
 
 -- sameness is an equivalence
 pub same-self : (d : List ℕ) (r : Record) → Same d r d r

@@ -71,13 +71,13 @@ module _ (h : Header) (v : FitsHeader h) where
   unfolding headerBytes numberAt number little
   at44 = number-little 8 (h .write) (v .write)
 
-  at52 : u32At (headerBytes h) 52 ≡ h .size
+  at52 : u32At (headerBytes h) 52 ≡ h .«file_size»
   unfolding headerBytes numberAt number little
-  at52 = number-little 4 (h .size) (v .size)
+  at52 = number-little 4 (h .«file_size») (v .«file_size»)
 
   at56 : u32At (headerBytes h) 56 ≡ bits (h .«icon_index»)
   unfolding headerBytes numberAt number little
-  at56 = number-little 4 (bits (h .«icon_index»)) (bits-fit (h .«icon_index») (v .index))
+  at56 = number-little 4 (bits (h .«icon_index»)) (bits-fit (h .«icon_index») (v .«icon_index»))
 
   at60 : u32At (headerBytes h) 60 ≡ h .command
   unfolding headerBytes numberAt number little
@@ -116,7 +116,7 @@ header-back h v =
       sizable = tt;
       judged = (magic-is h t, (rw (at20 h t) (c .0), (rw (at24 h t) (c .1 .0), (rw (at64 h t) (c .1 .1 .0), (ten-zeros h t, tt)))));
       same =
-          rw (at20 h t, at24 h t, at28 h t, at36 h t, at44 h t, at52 h t, at56 h t, at60 h t, at64 h t, signed-bits (h .«icon_index») (t .index));
+          rw (at20 h t, at24 h t, at28 h t, at36 h t, at44 h t, at52 h t, at56 h t, at60 h t, at64 h t, signed-bits (h .«icon_index») (t .«icon_index»));
     }
 
 header-sized : Sized 76 (λ s. 76) (λ n. []) headerRules headerFields headerBytes HeaderV
@@ -133,8 +133,8 @@ header-sized = record {
         creation = number-below 8 l 28 bs;
         access = number-below 8 l 36 bs;
         write = number-below 8 l 44 bs;
-        size = number-below 4 l 52 bs;
-        index = signed-fits (u32At l 56) (number-below 4 l 56 bs);
+        «file_size» = number-below 4 l 52 bs;
+        «icon_index» = signed-fits (u32At l 56) (number-below 4 l 56 bs);
         command = number-below 4 l 60 bs;
         hotkey = number-below 2 l 64 bs;
       };

@@ -10,11 +10,11 @@ use Rattle.format.specs.Tests.{Test, _else_, tests, Outcome, got, refuse
 use Rattle.format.specs.Items.{itemList}
 use Rattle.format.specs.Pieces.{textEnds}
 
--- The three of 0x314 hold a zero byte among the 260 from byte 8 and a zero unit among the 260 units from byte 268
+-- The three of 0x314 hold a zero byte among the 260 from byte 8 and a zero unit among the 260 units from byte 268; bytes after these are kept
 abbrev pub pathTexts : List ℕ → Bool
 pathTexts b = textEnds false (take 260 (drop 8 b)) && textEnds true (take 520 (drop 268 b))
 
--- b is one block: Signature | Size. Other signatures pass
+-- b is one block: Signature | Size. Other signatures pass and may repeat; so may known ones
 unfoldable pub blockOk : List ℕ → Bool
 blockOk b =
     let n = length b in

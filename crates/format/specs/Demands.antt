@@ -30,7 +30,7 @@ pub record ReadsAs (s : List ℕ) (r : Record) (d : List ℕ) : Type 0 where
   pub accepted : Accepts s held
   pub same : Same s held d r
 
--- how a call that writes the record r over the body buffer d into a room may answer: one way for each record, buffer and room
+-- how a call that writes the record r over the body buffer d into a room may answer: one number and one length for each record, buffer and room
 pub data Writes (r : Record) (d : List ℕ) (room : ℕ) : Outcome (List ℕ) → Type 0 where
   -- a present body does not lie inside the body buffer
   misplaced : placed (length d) r ≡ false → Writes r d room (refused PLACE 0)

@@ -19,7 +19,7 @@ classIdentifier =
     ∷ 0x00 ∷ 0x00 ∷ 0x00 ∷ 0x46
     ∷ []
 
--- HeaderSize 0x4C, then the class identifier
+-- HeaderSize 0x4C, then the class identifier; for bytes, equal numbers are equal bytes
 unfoldable pub magic : List ℕ → Bool
 unfolding number
 magic l = eqb (u32At l 0) 0x4C && eqb (numberAt 16 l 4) (number classIdentifier)
@@ -28,14 +28,14 @@ magic l = eqb (u32At l 0) 0x4C && eqb (numberAt 16 l 4) (number classIdentifier)
 abbrev pub flagsOk : ℕ → Bool
 flagsOk f = eqb (f / 2 ^ 27) 0
 
--- FileAttributes has bits 3, 6 and 15 to 31 zero
+-- FileAttributes has bits 3, 6 and 15 to 31 zero (house: bit 7 is free)
 abbrev pub attributesOk : ℕ → Bool
 attributesOk a = not (bit 3 a) && not (bit 6 a) && eqb (a / 2 ^ 15) 0
 
 abbrev pub among : ℕ → ℕ → ℕ → Bool
 among a b x = leb a x && leb x b
 
--- HotKey is 0, or its low byte is in 30-39, 41-5A, 70-87 or 90-91 hex and its high byte is 0 to 7
+-- HotKey is 0, or its low byte is in 30-39, 41-5A, 70-87 or 90-91 hex and its high byte is 0 to 7 (house: 0 allowed)
 abbrev pub hotkeyOk : ℕ → Bool
 hotkeyOk h =
     eqb h 0
@@ -62,7 +62,7 @@ headerFields l = record {
   creation = u64At l 28;
   access = u64At l 36;
   write = u64At l 44;
-  size = u32At l 52;
+  «file_size» = u32At l 52;
   «icon_index» = signed (u32At l 56);
   command = u32At l 60;
   hotkey = u16At l 64;

@@ -36,7 +36,7 @@ hasLocal l = bit 0 (infoFlags l)
 abbrev pub hasNetwork : List ℕ → Bool
 hasNetwork l = bit 1 (infoFlags l)
 
--- With a long head the Unicode suffix is present, and the Unicode local path by bit 0; bytes of a head beyond 0x24 are skipped.
+-- With a long head the Unicode suffix is present, and the Unicode local path by bit 0 (house); bytes of a head beyond 0x24 are skipped.
 -- Offset fields: VolumeID at 12, LocalBasePath 16, network link 20, CommonPathSuffix 24; with a long head LocalBasePathUnicode 28, CommonPathSuffixUnicode 32
 abbrev pub infoPieces : List ℕ → List Piece
 infoPieces l =

@@ -27,15 +27,15 @@ blockRows p (n ∷ ns) = record { name = 8; start = p; len = n } ∷ blockRows (
 -- a line per section
 abbrev pub rowsOf : Sections → List Row
 rowsOf c =
-    row 0 (c .0)
-    ++ (row 1 (c .1 .0)
-    ++ (row 2 (c .1 .1 .0)
-    ++ (row 3 (c .1 .1 .1 .0)
-    ++ (row 4 (c .1 .1 .1 .1 .0)
-    ++ (row 5 (c .1 .1 .1 .1 .1 .0)
-    ++ (row 6 (c .1 .1 .1 .1 .1 .1 .0)
-    ++ (row 7 (c .1 .1 .1 .1 .1 .1 .1 .0)
-    ++ blockRows (c .1 .1 .1 .1 .1 .1 .1 .1 .start) (c .1 .1 .1 .1 .1 .1 .1 .1 .read))))))))
+    let (header, (items, (info, (name, (relative, (workdir, (arguments, (icon, blocks)))))))) = c in
+    row 0 header
+    ++ (row 1 items
+    ++ (row 2 info
+    ++ (row 3 name
+    ++ (row 4 relative
+    ++ (row 5 workdir
+    ++ (row 6 arguments
+    ++ (row 7 icon ++ blockRows (blocks .start) (blocks .read))))))))
 
 abbrev pub rowsBy : Outcome Sections → List Row
 rowsBy (got c n) = rowsOf c
@@ -49,6 +49,10 @@ listing s = rowsBy (shortcut s)
 abbrev pub EndToEnd : ℕ → List Row → ℕ → Type 0
 EndToEnd p [] q = p ≡ q
 EndToEnd p (x ∷ xs) q = (x .start ≡ p) × EndToEnd (p + x .len) xs q
+
+-- the bytes of a row
+abbrev pub rowBytes : List ℕ → Row → List ℕ
+rowBytes s x = bytesAt s (place (x .start) (x .len))
 
 -- ---- a section asked for by name, a number 0 to 9; a block also by its number, from 0
 

@@ -70,7 +70,7 @@ noNetwork = record {
   «device_unicode» = noPlace;
 }
 
--- v starts at p in the file; provider type at 16, kept where bit 1 is set, else ignored, as an absent part
+-- v starts at p in the file; provider type at 16, kept where bit 1 is set (house: any value), else ignored, as an absent part
 abbrev pub networkFields : ℕ → List ℕ → Network
 networkFields p v = record {
   flags = networkFlags v;

@@ -47,7 +47,7 @@ absentZero present o = present || eqb o 0
 abbrev pub pieceOk : ℕ → Piece → Bool
 pieceOk head x = not (x .present) || (leb head (x .offset) && x .whole)
 
--- the bytes of a piece; an absent one has none
+-- the bytes of a piece; an absent one has none, and stands at 0, apart from every other
 abbrev pub span : Piece → Place
 span x = cond (x .present) (place (x .offset) (x .size)) noPlace
 
@@ -58,7 +58,7 @@ abbrev pub apartFrom : Place → List Place → Bool
 apartFrom x [] = true
 apartFrom x (y ∷ ys) = apart x y && apartFrom x ys
 
--- No two share a byte
+-- No two share a byte (house). Order is free and gaps are allowed
 abbrev pub allApart : List Place → Bool
 allApart [] = true
 allApart (x ∷ xs) = apartFrom x xs && allApart xs

@@ -14,8 +14,8 @@ pub record FitsHeader (h : Header) : Type 0 where
   pub creation : h .creation < 2 ^ 64
   pub access : h .access < 2 ^ 64
   pub write : h .write < 2 ^ 64
-  pub size : h .size < 2 ^ 32
-  pub index : FitsSigned (h .«icon_index»)
+  pub «file_size» : h .«file_size» < 2 ^ 32
+  pub «icon_index» : FitsSigned (h .«icon_index»)
   pub command : h .command < 2 ^ 32
   pub hotkey : h .hotkey < 2 ^ 16
 

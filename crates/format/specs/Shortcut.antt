@@ -82,17 +82,19 @@ sum (n ∷ ns) = n + sum ns
 
 -- The record holds all blocks before the terminal as one body
 abbrev pub recordOf : Sections → Record
-recordOf c = record {
-  header = c .0 .read;
-  items = c .1 .0 .read;
-  info = c .1 .1 .0 .read;
-  name = c .1 .1 .1 .0 .read;
-  relative = c .1 .1 .1 .1 .0 .read;
-  workdir = c .1 .1 .1 .1 .1 .0 .read;
-  arguments = c .1 .1 .1 .1 .1 .1 .0 .read;
-  icon = c .1 .1 .1 .1 .1 .1 .1 .0 .read;
-  blocks = place (c .1 .1 .1 .1 .1 .1 .1 .1 .start) (sum (c .1 .1 .1 .1 .1 .1 .1 .1 .read));
-}
+recordOf c =
+    let (header, (items, (info, (name, (relative, (workdir, (arguments, (icon, blocks)))))))) = c in
+    record {
+      header = header .read;
+      items = items .read;
+      info = info .read;
+      name = name .read;
+      relative = relative .read;
+      workdir = workdir .read;
+      arguments = arguments .read;
+      icon = icon .read;
+      blocks = place (blocks .start) (sum (blocks .read));
+    }
 
 abbrev pub noHeader : Header
 noHeader = record {
@@ -101,7 +103,7 @@ noHeader = record {
   creation = 0;
   access = 0;
   write = 0;
-  size = 0;
+  «file_size» = 0;
   «icon_index» = pos 0;
   command = 0;
   hotkey = 0;

@@ -33,7 +33,7 @@ infix 90 _else_
 abbrev pub _else_ : Bool → Fault → Test
 b else f = record { holds = b; fault = f }
 
--- the first test that fails decides; p is where the section starts
+-- the first test that fails decides; p is the position reported
 abbrev pub tests : {A : Type 0} → ℕ → List Test → Outcome A → Outcome A
 tests p [] r = r
 tests p (t ∷ ts) r = cond (t .holds) (tests p ts r) (refused (t .fault) p)

@@ -49,7 +49,7 @@ headerBytes h =
     ∷ little 8 (h .creation)
     ∷ little 8 (h .access)
     ∷ little 8 (h .write)
-    ∷ little 4 (h .size)
+    ∷ little 4 (h .«file_size»)
     ∷ little 4 (bits (h .«icon_index»))
     ∷ little 4 (h .command)
     ∷ little 2 (h .hotkey)

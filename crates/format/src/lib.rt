@@ -13,7 +13,7 @@ pub struct Header {
     pub creation: u64,
     pub access: u64,
     pub write: u64,
-    pub size: u32,
+    pub file_size: u32,
     pub icon_index: i32,
     pub command: u32,
     pub hotkey: u16,

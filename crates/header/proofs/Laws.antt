@@ -18,7 +18,7 @@ use Rattle.format.specs.Header.{classIdentifier, magic, flagsOk, attributesOk, 
 use Rattle.format.proofs.Bools.{and-true, and-both}
 use Rattle.format.proofs.Chains.{no-true}
 use Rattle.header.specs.declared.HeaderTaken.the-variants.{Got, Refused}
-use Rattle.header.specs.Taken.{zerosFrom66, headOk, headerTaken, headerAt}
+use Rattle.header.specs.Taken.{zerosFrom66, headRules, headerTaken, headerAt}
 
 -- two tests that hold together are the same
 same-truth : (x y : Bool) → (x ≡ true → y ≡ true) → (y ≡ true → x ≡ true) → x ≡ y
@@ -100,9 +100,9 @@ module _ (s : List ℕ) where
     unfolding headerAt
     header-magic t = rw (le-leb 76 (length s) whole, sym em ∙ not-true m t)
 
-    module _ (right : not m ≡ false) {k : Bool} (ek : k ≡ headOk (take 76 s)) where
+    module _ (right : not m ≡ false) {k : Bool} (ek : k ≡ headRules (take 76 s)) where
       pub header-head : not k ≡ true → Refused HEAD ≡ headerAt s
-      unfolding headerAt headOk zerosFrom66
+      unfolding headerAt headRules zerosFrom66
       header-head t =
           rw (le-leb 76 (length s) whole, sym em ∙ not-false m right)
           (four (flagsOk (u32At (take 76 s) 20)) (attributesOk (u32At (take 76 s) 24)) (hotkeyOk (u16At (take 76 s) 64)) (eqb (numberAt 10 (take 76 s) 66) 0) (sym ek ∙ not-true k t))
@@ -117,7 +117,7 @@ module _ (s : List ℕ) where
 
       module _ (kept : not k ≡ false) where
         pub header-got : {h : Header} → h ≡ headerFields (take 76 s) → Got h (record { at = 76 }) ≡ headerAt s
-        unfolding headerAt headOk zerosFrom66
+        unfolding headerAt headRules zerosFrom66
         header-got e =
             rw (le-leb 76 (length s) whole, sym em ∙ not-false m right, e)
             (four (flagsOk (u32At (take 76 s) 20)) (attributesOk (u32At (take 76 s) 24)) (hotkeyOk (u16At (take 76 s) 64)) (eqb (numberAt 10 (take 76 s) 66) 0) (sym ek ∙ not-false k kept))
@@ -133,5 +133,5 @@ module _ (s : List ℕ) where
 
 pub fields-are : (l : List ℕ) {a b c d e f h j : ℕ} {i : ℤ} → a ≡ u32At l 20 → b ≡ u32At l 24 → c ≡ u64At l 28 → d ≡ u64At l 36 → e ≡ u64At l 44 → f ≡ u32At l 52
     → i ≡ signed (u32At l 56) → h ≡ u32At l 60 → j ≡ u16At l 64
-    → record { flags = a; attributes = b; creation = c; access = d; write = e; size = f; «icon_index» = i; command = h; hotkey = j } ≡ headerFields l
+    → record { flags = a; attributes = b; creation = c; access = d; write = e; «file_size» = f; «icon_index» = i; command = h; hotkey = j } ≡ headerFields l
 fields-are l pa pb pc pd pe pf pi ph pj = rw (pa, pb, pc, pd, pe, pf, pi, ph, pj)

@@ -14,9 +14,9 @@ unfoldable pub zerosFrom66 : List ℕ → Bool
 zerosFrom66 l = eqb (numberAt 10 l 66) 0
 
 -- the rules of HEAD together
-unfoldable pub headOk : List ℕ → Bool
+unfoldable pub headRules : List ℕ → Bool
 unfolding zerosFrom66
-headOk l = flagsOk (u32At l 20) && attributesOk (u32At l 24) && hotkeyOk (u16At l 64) && zerosFrom66 l
+headRules l = flagsOk (u32At l 20) && attributesOk (u32At l 24) && hotkeyOk (u16At l 64) && zerosFrom66 l
 
 -- a refusal is at 0
 abbrev pub headerTaken : Outcome Header → HeaderTaken

@@ -7,7 +7,7 @@ ghost use mathlib.Core.Bool.{true};
 ghost use Prim.Native.Nat.{_≤_};
 ghost use lib.ListN.{length};
 ghost use Rattle.format.specs.Header.{magic, flagsOk, attributesOk, hotkeyOk, signed, headerFields, windowShown};
-ghost use Rattle.header.specs.Taken.{zerosFrom66, headOk, headerAt};
+ghost use Rattle.header.specs.Taken.{zerosFrom66, headRules, headerAt};
 
 // The header and the cursor after it, or why it is refused.
 pub enum HeaderTaken {
@@ -61,7 +61,7 @@ fn zeros_from_66(l: &[u8]) -> bool
 
 fn head_ok(l: &[u8]) -> bool
     requires { ⌜ 76 ≤ length (now l) ⌝ }
-    ensures { λ r. ⌜ r ≡ headOk (now (l .entry)) ⌝ }
+    ensures { λ r. ⌜ r ≡ headRules (now (l .entry)) ⌝ }
 {
     flags_ok(octets::u32_at(l, 20))
         & attributes_ok(octets::u32_at(l, 24))
@@ -90,7 +90,7 @@ fn fields(l: &[u8]) -> Header
         creation: octets::u64_at(l, 28),
         access: octets::u64_at(l, 36),
         write: octets::u64_at(l, 44),
-        size: octets::u32_at(l, 52),
+        file_size: octets::u32_at(l, 52),
         icon_index: signed(octets::u32_at(l, 56)),
         command: octets::u32_at(l, 60),
         hotkey: octets::u16_at(l, 64),

@@ -1,4 +1,4 @@
-use Rattle.header.specs.Taken.{headOk}
+use Rattle.header.specs.Taken.{headRules}
 use borrow.Author.Needs.{needs}
 use Rattle.header.proofs.head_ok.Statement.{statement}
 use Rattle.header.proofs.head_ok.Tie as tie
@@ -25,7 +25,7 @@ zeros-from-66-requires : tie.Need-zeros-from-66-requires
 zeros-from-66-requires c κs = search needs
 
 returns : tie.Need-returns
-unfolding headOk
+unfolding headRules
 returns c = cc
 
 pub head-ok-spec : {M : Type 1} → statement M
