@@ -8,6 +8,7 @@ use native.Mathlib.Omega.{arith}
 use Rattle.items.proofs.item_list.Statement.{statement}
 use Rattle.items.proofs.item_list.Tie as tie
 
+-- p passes the end by one item at most
 abbrev Inv-loop : tie.InvT-loop
 Inv-loop l n p₀ p = (p ≤ length l + 65535) × (itemsAt l p ≡ itemList l)
 

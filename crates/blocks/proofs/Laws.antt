@@ -1,0 +1,175 @@
+-- What the code over blocks answers, one law for each way out.
+use mathlib.Core.Path.{_≡_, refl, sym, ap, _∙_}
+use mathlib.Core.List.{List, [], _∷_}
+use mathlib.Core.Bool.{Bool, true, false, not}
+use Prim.Native.Nat.{ℕ, zero, suc, _+_, _-_, _≤_, _<_}
+use native.Mathlib.Omega.{arith}
+use lib.ListN.{length, take, drop, length-drop}
+use lib.Seq.{take-all, drop-drop}
+use lib.Dec.{leb}
+use borrow.Author.Tests.{le-leb, lt-leb, leb-true, not-true, not-false}
+use Rattle.octets.specs.Numbers.{u32At}
+use Rattle.octets.specs.Characters.{zeroFrom}
+use Rattle.octets.specs.declared.Cursor.{Cursor}
+use Rattle.octets.specs.declared.Zero.{Zero}
+use Rattle.octets.specs.declared.Zero.the-variants.{After, Nowhere}
+use Rattle.octets.proofs.NumberLaws.{number-drop}
+use Rattle.octets.proofs.ZeroLaws.{zero-after, zero-nowhere}
+use Rattle.format.specs.declared.Fault.{Fault}
+use Rattle.format.specs.declared.Fault.the-variants.{Cut as CUT, Block as BLOCK}
+use Rattle.format.specs.declared.Place.{Place}
+use Rattle.format.specs.Tests.{Outcome, got, refused, _else_, tests, andThen, place, noPlace}
+use Rattle.format.specs.Pieces.{textEnds}
+use Rattle.format.specs.Blocks.{blockOk, blockSize, blockTests, blocks}
+use Rattle.format.specs.Shortcut.{sum}
+use Rattle.format.proofs.Chains.{Pass}
+use Rattle.format.proofs.BlockLaws.{none-left, the-end, one-more, step-elim}
+use Rattle.blocks.specs.Walk.{isFound, walkedFrom, blocksAt, nthPlace, NthOf}
+use Rattle.blocks.specs.declared.Walked.{Walked}
+use Rattle.blocks.specs.declared.Walked.the-variants.{Body, Refused}
+
+-- ---- one block
+
+pub found-is : (u : Bool) (l : List ℕ) (z : Zero) → z ≡ zeroFrom u l 0 → isFound z ≡ textEnds u l
+found-is u l (After n) e = sym (zero-after u l 0 e refl .0)
+found-is u l Nowhere e = sym (zero-nowhere u l 0 e refl)
+
+-- the part from k to the end
+pub tail-part : (k : ℕ) (l : List ℕ) → take (length l - k) (drop k l) ≡ drop k l
+tail-part k l = take-all (length l - k) (drop k l) (simp length-drop (omega arith))
+
+-- ---- the walk that started at a and stands at p
+
+abbrev onFrom : ℕ → ℕ → Outcome (List ℕ) → Walked
+onFrom a p (got lengths n) = Body (place a (p - a + sum lengths)) (record { at = p + n })
+onFrom a p (refused f q) = Refused f q
+
+-- kept closed, so that a citation need not name s, a and p
+unfoldable pub walkAt : List ℕ → ℕ → ℕ → Walked
+walkAt s a p = onFrom a p (blocks p (drop p s))
+
+pub walk-start : (s : List ℕ) (a : ℕ) → walkAt s a a ≡ blocksAt s a
+unfolding walkAt blocksAt
+walk-start s a = same (blocks a (drop a s))
+  where
+    same : (o : Outcome (List ℕ)) → onFrom a a o ≡ walkedFrom a o
+    same (got lengths n) = let e : a - a + sum lengths ≡ sum lengths = omega arith in rw e
+    same (refused f q) = refl
+
+-- a block of n bytes before the others
+abbrev before : ℕ → Outcome (List ℕ) → Outcome (List ℕ)
+before n o = andThen o (λ lengths m. got (n ∷ lengths) (n + m))
+
+on-more : (a p n : ℕ) → a ≤ p → (o : Outcome (List ℕ)) → onFrom a p (before n o) ≡ onFrom a (p + n) o
+on-more a p n h (got lengths m) =
+    let e : p - a + (n + sum lengths) ≡ p + n - a + sum lengths = omega arith in
+    let f : p + (n + m) ≡ p + n + m = omega arith in
+    rw (e, f)
+on-more a p n h (refused f q) = refl
+
+size-at : (s : List ℕ) (p : ℕ) {n : ℕ} → n ≡ u32At s p → blockSize (drop p s) ≡ n
+size-at s p e = number-drop 4 p s 0 ∙ ap (u32At s) (omega arith) ∙ sym e
+
+-- every step keeps r, the answer of the whole walk
+module _ (s : List ℕ) (a p : ℕ) {r : Walked} (inv : walkAt s a p ≡ r) where
+  pub walk-cut : length s < p + 4 → Refused CUT p ≡ r
+  unfolding walkAt
+  walk-cut h = sym (ap (onFrom a p) (none-left p (drop p s) (simp length-drop (omega arith)))) ∙ inv
+
+  module _ {n : ℕ} (fits : p + 4 ≤ length s) (e : n ≡ u32At s p) where
+    room : 4 ≤ length (drop p s)
+    room = simp length-drop (omega arith)
+
+    pub walk-end : n < 4 → Body (place a (p - a)) (record { at = p + 4 }) ≡ r
+    unfolding walkAt
+    walk-end t =
+        let q : p - a + 0 ≡ p - a = omega arith in
+        rw q at (sym (ap (onFrom a p) (the-end p (drop p s) room (rw (size-at s p e) t))) ∙ inv)
+
+    here : 4 ≤ n → onFrom a p (tests p (leb 8 n else BLOCK ∷ leb n (length s - p) else CUT ∷ blockOk (take n (drop p s)) else BLOCK ∷ []) (before n (blocks (p + n) (drop (p + n) s)))) ≡ r
+    unfolding walkAt
+    here t = rw (one-more p (drop p s) room (rw (size-at s p e) t), size-at s p e, length-drop p s, drop-drop n p s) at inv
+
+    pub walk-small : 4 ≤ n → n < 8 → Refused BLOCK p ≡ r
+    walk-small t u = rw (lt-leb 8 n u) at (here t)
+
+    module _ (big : 8 ≤ n) where
+      pub walk-past : length s < p + n → Refused CUT p ≡ r
+      walk-past t = rw (le-leb 8 n big, lt-leb n (length s - p) (omega arith)) at (here (omega arith))
+
+      module _ (inside : p + n ≤ length s) {k : Bool} (ek : k ≡ blockOk (take (p + n - p) (drop p s))) where
+        judged : onFrom a p (tests p (k else BLOCK ∷ []) (before n (blocks (p + n) (drop (p + n) s)))) ≡ r
+        judged =
+            let q : p + n - p ≡ n = omega arith in
+            let f : k ≡ blockOk (take n (drop p s)) = rw q at ek in
+            rw (le-leb 8 n big, le-leb n (length s - p) (omega arith), ← f) at (here (omega arith))
+
+        pub walk-wrong : not k ≡ true → Refused BLOCK p ≡ r
+        walk-wrong t = rw (not-true k t) at judged
+
+        pub walk-more : not k ≡ false → a ≤ p → walkAt s a (p + n) ≡ r
+        unfolding walkAt
+        walk-more t h = sym (on-more a p n h (blocks (p + n) (drop (p + n) s))) ∙ (rw (not-false k t) at judged)
+
+-- ---- block number k
+
+-- no block at p passes its tests
+pub nth-none : (s : List ℕ) (p k : ℕ) → (8 ≤ u32At s p → p + u32At s p ≤ length s → ⊥) → NthOf s p k noPlace
+nth-none s p k h = record {
+  inside = omega arith;
+  is = step-elim p (drop p s) (λ lengths n. noPlace ≡ nthPlace p lengths k) (λ l t. refl) (λ c lengths m i. absurd (no c));
+}
+  where
+    no : Pass (blockTests (drop p s)) → ⊥
+    no c =
+        let z = size-at s p refl in
+        let x = leb-true 8 (blockSize (drop p s)) (c .0) in
+        let y = leb-true (blockSize (drop p s)) (length (drop p s)) (c .1 .0) in
+        let d = length-drop p s in
+        h (omega arith) (omega arith)
+
+module _ (s : List ℕ) (p : ℕ) {n : ℕ} (e : n ≡ u32At s p) (more : 4 ≤ n) where
+  pub nth-here : (k : ℕ) → k ≡ 0 → p + n ≤ length s → NthOf s p k (place p n)
+  nth-here k z h = record {
+    inside = h;
+    is = step-elim p (drop p s) (λ lengths m. place p n ≡ nthPlace p lengths k) (λ l t. absurd (omega (arith, size-at s p e)))
+        (λ c lengths m i. rw (size-at s p e, z));
+  }
+
+  pub nth-next : (k : ℕ) {b : Place} → (k ≡ 0 → ⊥) → NthOf s (p + n) (k - 1) b → NthOf s p k b
+  nth-next zero z h = absurd (z refl)
+  nth-next (suc k) {b} z h = record {
+    inside = h .inside;
+    is = step-elim p (drop p s) (λ lengths m. b ≡ nthPlace p lengths (suc k)) (λ l t. absurd (omega (arith, size-at s p e)))
+        (λ c lengths m i.
+        let q : suc k - 1 ≡ k = omega arith in
+        let j : blocks (p + n) (drop (p + n) s) ≡ got lengths m = rw (size-at s p e, drop-drop n p s) at i in
+        rw (size-at s p e, ← q) (h .is lengths m j));
+  }
+
+-- ---- from an answer to the facts
+
+-- blocks that were read from p on, as the body b with the cursor c after the terminal
+pub record ReadAt (s : List ℕ) (p : ℕ) (b : Place) (c : Cursor) : Type 0 where
+  pub lengths : List ℕ
+  pub count : ℕ
+  pub is : blocks p (drop p s) ≡ got lengths count
+  pub body : b ≡ place p (sum lengths)
+  pub next : c ≡ record { at = p + count }
+
+module _ (s : List ℕ) (p : ℕ) {w : Walked} (e : w ≡ blocksAt s p) where
+  pub blocks-body : {b : Place} {c : Cursor} → w ≡ Body b c → ReadAt s p b c
+  unfolding blocksAt
+  blocks-body {b} {c} h = go (blocks p (drop p s)) refl (sym h ∙ e)
+    where
+      go : (o : Outcome (List ℕ)) → blocks p (drop p s) ≡ o → Body b c ≡ walkedFrom p o → ReadAt s p b c
+      go (got lengths n) i j = record { lengths = lengths; count = n; is = i; body = cc; next = cc }
+      go (refused f q) i j = absurd (let z : _≡_ {A = ℕ} 0 1 = cc in omega arith)
+
+  pub blocks-refused : {f : Fault} {q : ℕ} → w ≡ Refused f q → blocks p (drop p s) ≡ refused f q
+  unfolding blocksAt
+  blocks-refused {f} {q} h = go (blocks p (drop p s)) (sym h ∙ e)
+    where
+      go : (o : Outcome (List ℕ)) → Refused f q ≡ walkedFrom p o → o ≡ refused f q
+      go (got lengths n) j = absurd (let z : _≡_ {A = ℕ} 0 1 = cc in omega arith)
+      go (refused x y) j = cc

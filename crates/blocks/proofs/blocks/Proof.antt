@@ -1,0 +1,114 @@
+use Rattle.blocks.proofs.Laws.{walkAt, walk-start, walk-cut, walk-end, walk-small, walk-past, walk-wrong, walk-more}
+use Rattle.blocks.specs.Walk.{blocksAt}
+use lib.ListN.{length, length-take, length-drop}
+use mathlib.Core.Path.{_≡_}
+use Prim.Native.Nat.{_≤_, _-_}
+use borrow.Author.Needs.{needs}
+use native.Mathlib.Omega.{arith}
+use Rattle.blocks.proofs.blocks.Statement.{statement}
+use Rattle.blocks.proofs.blocks.Tie as tie
+
+-- the walk from p on, after what was passed, is the whole walk
+abbrev Inv-loop : tie.InvT-loop
+Inv-loop s start n p₀ p = (start ≤ p) × (p ≤ length s) × (walkAt s start p ≡ blocksAt s start)
+
+abbrev μ-loop : tie.MeasureT-loop
+μ-loop s start n p₀ p = length s - p
+
+returns : tie.Need-returns Inv-loop μ-loop
+returns c = walk-cut _ _ _ (walk-start _ _) (omega arith)
+
+loop-holds : tie.Need-loop-holds Inv-loop μ-loop
+loop-holds c = (omega arith, omega arith, walk-start _ _)
+
+sub-loop : tie.Need-sub-loop Inv-loop μ-loop
+sub-loop c = omega arith
+
+u32-at-requires : tie.Need-u32-at-requires Inv-loop μ-loop
+u32-at-requires c κs = omega arith
+
+cast-size : tie.Need-cast-size Inv-loop μ-loop
+cast-size c = search needs
+
+sub-t14 : tie.Need-sub-t14 Inv-loop μ-loop
+sub-t14 c = omega arith
+
+add-t14 : tie.Need-add-t14 Inv-loop μ-loop
+add-t14 c = omega arith
+
+returns-2 : tie.Need-returns-2 Inv-loop μ-loop
+returns-2 c =
+    let u = c .before in
+    walk-end _ _ _ (u .before .before .loop .inv .2) (omega arith) (u .u32-at .ensures) (omega arith)
+
+returns-3 : tie.Need-returns-3 Inv-loop μ-loop
+returns-3 c =
+    let u = c .before .before in
+    walk-small _ _ _ (u .before .before .loop .inv .2) (omega arith) (u .u32-at .ensures) (omega arith) (omega arith)
+
+sub-if4 : tie.Need-sub-if4 Inv-loop μ-loop
+sub-if4 c = omega arith
+
+returns-4 : tie.Need-returns-4 Inv-loop μ-loop
+returns-4 c =
+    let u = c .before .before .before in
+    walk-past _ _ _ (u .before .before .loop .inv .2) (omega arith) (u .u32-at .ensures) (omega arith) (omega arith)
+
+add-e : tie.Need-add-e Inv-loop μ-loop
+add-e c = omega arith
+
+sub-block-ok : tie.Need-sub-block-ok Inv-loop μ-loop
+sub-block-ok c = omega arith
+
+part-block-ok-start : tie.Need-part-block-ok-start Inv-loop μ-loop
+part-block-ok-start c = omega arith
+
+part-block-ok-end : tie.Need-part-block-ok-end Inv-loop μ-loop
+part-block-ok-end c = omega arith
+
+block-ok-requires : tie.Need-block-ok-requires Inv-loop μ-loop
+block-ok-requires c κs = simp (length-take, length-drop) (omega arith)
+
+returns-5 : tie.Need-returns-5 Inv-loop μ-loop
+returns-5 c =
+    let u = c .before .before .before .before .before .before in
+    walk-wrong _ _ _ (u .before .before .loop .inv .2) (omega arith) (u .u32-at .ensures) (omega arith) (omega arith) (c .before .block-ok .ensures) (c .if5 .taken)
+
+loop-less : tie.Need-loop-less Inv-loop μ-loop
+loop-less c = omega arith
+
+loop-again : tie.Need-loop-again Inv-loop μ-loop
+loop-again c =
+    let u = c .before .before .before .before .before .before in
+    let i = walk-more _ _ _ (u .before .before .loop .inv .2) (omega arith) (u .u32-at .ensures) (omega arith) (omega arith) (c .before .block-ok .ensures) (c .if5 .left) (omega arith) in
+    (omega arith, omega arith, i)
+
+returns-6 : tie.Need-returns-6 Inv-loop μ-loop
+returns-6 c = walk-cut _ _ _ (c .before .loop .inv .2) (omega arith)
+
+pub blocks-spec : {M : Type 1} → statement M
+blocks-spec =
+    tie.close
+    (tie.spec
+    Inv-loop
+    μ-loop
+    returns
+    loop-holds
+    sub-loop
+    u32-at-requires
+    cast-size
+    sub-t14
+    add-t14
+    returns-2
+    returns-3
+    sub-if4
+    returns-4
+    add-e
+    sub-block-ok
+    part-block-ok-start
+    part-block-ok-end
+    block-ok-requires
+    returns-5
+    loop-less
+    loop-again
+    returns-6)

@@ -1,0 +1,38 @@
+-- What the walk over blocks answers, in terms of reading.
+use Prim.Native.Nat.{ℕ, zero, suc, _+_, _≤_}
+use mathlib.Core.Path.{_≡_}
+use mathlib.Core.List.{List, [], _∷_}
+use mathlib.Core.Bool.{Bool, true, false}
+use lib.ListN.{length, drop}
+use Rattle.octets.specs.declared.Zero.{Zero}
+use Rattle.octets.specs.declared.Zero.the-variants.{After, Nowhere}
+use Rattle.format.specs.declared.Place.{Place}
+use Rattle.format.specs.Tests.{Outcome, got, refused, place, noPlace}
+use Rattle.format.specs.Blocks.{blocks}
+use Rattle.format.specs.Shortcut.{sum}
+use Rattle.blocks.specs.declared.Walked.{Walked}
+use Rattle.blocks.specs.declared.Walked.the-variants.{Body, Refused}
+
+-- whether a scan found a zero
+abbrev pub isFound : Zero → Bool
+isFound (After n) = true
+isFound Nowhere = false
+
+-- all blocks before the terminal as one body, that starts at p
+abbrev pub walkedFrom : ℕ → Outcome (List ℕ) → Walked
+walkedFrom p (got lengths n) = Body (place p (sum lengths)) (record { at = p + n })
+walkedFrom p (refused f q) = Refused f q
+
+unfoldable pub blocksAt : List ℕ → ℕ → Walked
+blocksAt s p = walkedFrom p (blocks p (drop p s))
+
+-- the place of number k, of blocks of these lengths from p on
+abbrev pub nthPlace : ℕ → List ℕ → ℕ → Place
+nthPlace p [] k = noPlace
+nthPlace p (n ∷ ns) zero = place p n
+nthPlace p (n ∷ ns) (suc k) = nthPlace (p + n) ns k
+
+-- b stands inside s; and where the blocks from p on are read, it is the place of number k
+pub record NthOf (s : List ℕ) (p k : ℕ) (b : Place) : Type 0 where
+  pub inside : b .at + b .len ≤ length s
+  pub is : (lengths : List ℕ) (n : ℕ) → blocks p (drop p s) ≡ got lengths n → b ≡ nthPlace p lengths k

@@ -1,0 +1,127 @@
+// Extra blocks: the rules of one, and the walk over all of them up to the terminal block.
+use format::Fault;
+use format::Place;
+use octets::Cursor;
+use octets::Zero;
+ghost use mathlib.Core.Path.{_≡_};
+ghost use Prim.Native.Nat.{_≤_};
+ghost use lib.ListN.{length};
+ghost use Rattle.format.specs.Blocks.{pathTexts, blockOk};
+ghost use Rattle.blocks.specs.Walk.{isFound, blocksAt, NthOf};
+
+// All blocks before the terminal as one body, with the cursor after the terminal; or the fault and the start of the block at fault.
+pub enum Walked {
+    Body(Place, Cursor),
+    Refused(Fault, usize),
+}
+
+fn found(z: Zero) -> bool
+    ensures { λ r. ⌜ r ≡ isFound z ⌝ }
+{
+    match z {
+        Zero::After(_) => true,
+        Zero::Nowhere => false,
+    }
+}
+
+// A zero byte among the 260 from byte 8, and a zero unit among the 260 units from byte 268.
+fn path_texts(b: &[u8]) -> bool
+    requires { ⌜ 0x314 ≤ length (now b) ⌝ }
+    ensures { λ r. ⌜ r ≡ pathTexts (now (b .entry)) ⌝ }
+{
+    let narrow = octets::zero_byte(&b[8..268], 0);
+    let wide = octets::zero_unit(&b[268..788], 0);
+    found(narrow) & found(wide)
+}
+
+// The table of signatures and sizes.
+pub fn block_ok(b: &[u8]) -> bool
+    requires { ⌜ 8 ≤ length (now b) ⌝ }
+    ensures { λ r. ⌜ r ≡ blockOk (now (b .entry)) ⌝ }
+{
+    let n = b.len();
+    let signature = octets::u32_at(b, 4);
+    if (signature == 0xA000_0001) | (signature == 0xA000_0006) | (signature == 0xA000_0007) {
+        if n != 0x314 {
+            return false;
+        }
+        return path_texts(b);
+    }
+    match signature {
+        0xA000_0002 => n == 0xCC,
+        0xA000_0003 => n == 0x60,
+        0xA000_0004 => n == 0x0C,
+        0xA000_0005 => n == 0x10,
+        0xA000_0008 => 0x88 <= n,
+        0xA000_0009 => 0x0C <= n,
+        0xA000_000B => n == 0x1C,
+        0xA000_000C => {
+            if n < 0x0A {
+                return false;
+            }
+            items::item_list(&b[8..])
+        }
+        _ => true,
+    }
+}
+
+pub fn blocks(s: &[u8], c: Cursor) -> Walked
+    ensures { λ r. ⌜ r ≡ blocksAt (now (s .entry)) (c .at) ⌝ }
+{
+    let start = c.at;
+    let n = s.len();
+    if n < start {
+        return Walked::Refused(Fault::Cut, start);
+    }
+    let mut p = start;
+    while 4 <= n - p {
+        let size = octets::u32_at(s, p) as usize;
+        if size < 4 {
+            let body = Place {
+                at: start,
+                len: p - start,
+            };
+            return Walked::Body(body, Cursor { at: p + 4 });
+        }
+        if size < 8 {
+            return Walked::Refused(Fault::Block, p);
+        }
+        if n - p < size {
+            return Walked::Refused(Fault::Cut, p);
+        }
+        let e = p + size;
+        if !block_ok(&s[p..e]) {
+            return Walked::Refused(Fault::Block, p);
+        }
+        p = e;
+    }
+    Walked::Refused(Fault::Cut, p)
+}
+
+// Where block number k stands, of those that start at `from`; the empty place where there are not so many.
+pub fn nth_block(s: &[u8], from: usize, k: usize) -> Place
+    ensures { λ r. ⌜ NthOf (now (s .entry)) from k r ⌝ }
+{
+    let none = Place { at: 0, len: 0 };
+    let n = s.len();
+    if n < from {
+        return none;
+    }
+    let mut p = from;
+    let mut left = k;
+    while 4 <= n - p {
+        let size = octets::u32_at(s, p) as usize;
+        if size < 4 {
+            return none;
+        }
+        if n - p < size {
+            return none;
+        }
+        if left == 0 {
+            return Place { at: p, len: size };
+        }
+        left -= 1;
+        p += size;
+    }
+    none
+}
