@@ -101,6 +101,17 @@ inside-more m n (x ∷ xs) h c =
     let k : x .at + x .len ≤ m = leb-true (x .at + x .len) m (i .0) in
     and-both (leb (x .at + x .len) n) _ (le-leb (x .at + x .len) n (omega arith)) (inside-more m n xs h (i .1))
 
+-- all of them inside: a product of orders, one for each
+abbrev pub AllIn : ℕ → List Place → Type 0
+AllIn n [] = Unit {0}
+AllIn n (b ∷ bs) = (b .at + b .len ≤ n) × AllIn n bs
+
+pub all-in : (n : ℕ) (bs : List Place) → allInside n bs ≡ true → AllIn n bs
+all-in n [] e = tt
+all-in n (b ∷ bs) e =
+    let i = and-true (leb (b .at + b .len) n) (allInside n bs) e in
+    (leb-true (b .at + b .len) n (i .0), all-in n bs (i .1))
+
 abbrev pub both : {A B X Y : Type 0} → (A → X) → (B → Y) → A × B → X × Y
 both u v c = (u (c .0), v (c .1))
 

@@ -1,4 +1,7 @@
 // The record of a shortcut, and the answers that calls give.
+ghost use mathlib.Core.Path.{_≡_};
+ghost use Rattle.format.specs.Numbers.{numberOf};
+ghost use Rattle.format.specs.Tests.{bit};
 
 // Where a body stands in the body buffer, and how many bytes it has.
 pub struct Place {
@@ -91,4 +94,37 @@ pub enum Verdict {
 pub struct Reading {
     pub verdict: Verdict,
     pub held: Record,
+}
+
+// The number of a fault in the table of document 01.
+pub fn number_of(f: Fault) -> u8
+    ensures { λ r. ⌜ r ≡ numberOf f ⌝ }
+{
+    match f {
+        Fault::Long => 1,
+        Fault::Cut => 2,
+        Fault::Magic => 3,
+        Fault::Head => 4,
+        Fault::Items => 5,
+        Fault::Info => 6,
+        Fault::Piece => 7,
+        Fault::Block => 8,
+        Fault::Trail => 9,
+        Fault::Place => 10,
+        Fault::Unwritable => 11,
+        Fault::Room => 12,
+        Fault::NoTarget => 13,
+    }
+}
+
+pub fn bit_0(n: u32) -> bool
+    ensures { λ r. ⌜ r ≡ bit 0 n ⌝ }
+{
+    n % 2 == 1
+}
+
+pub fn bit_1(n: u32) -> bool
+    ensures { λ r. ⌜ r ≡ bit 1 n ⌝ }
+{
+    n / 2 % 2 == 1
 }

@@ -1,0 +1,161 @@
+-- The network link: its head, its own bytes, and the piece of LinkInfo.
+use mathlib.Core.Path.{_≡_, refl, sym, ap, _∙_}
+use mathlib.Core.List.{List, [], _∷_, map}
+use mathlib.Core.Bool.{Bool, true, false, not, _&&_, cond}
+use Prim.Native.Nat.{ℕ, _≤_, _<_}
+use native.Mathlib.Omega.{arith}
+use lib.ListN.{length}
+use lib.Dec.{leb, ltb}
+use borrow.Author.Tests.{le-leb, lt-leb, leb-true, not-true, not-false}
+use Rattle.octets.specs.Numbers.{u32At}
+use Rattle.format.specs.declared.Network.{Network}
+use Rattle.format.specs.Tests.{all, bit}
+use Rattle.format.specs.Pieces.{absentZero, pieceTests, allApart}
+use Rattle.format.specs.Network.{hasDevice, networkUnicode, networkHead, networkPieces, networkRules, networkFields, networkPiece, networkAt, noNetwork}
+use Rattle.format.proofs.Bools.{every-out}
+use Rattle.format.proofs.Chains.{all-pass}
+use Rattle.info.specs.declared.Text.{Text}
+use Rattle.info.specs.declared.NetworkFound.{NetworkFound}
+use Rattle.info.specs.declared.NetworkRead.{NetworkRead}
+use Rattle.info.specs.declared.NetworkRead.the-variants.{Good, Bad}
+use Rattle.info.specs.Found.{fieldIf, found, textFound, networkFixed, networkIf, networkIn, providerOf, makeNetwork, networkFound}
+use Rattle.info.proofs.TestLaws.{and-assoc, and-one, and-zero, room, all-append, judge, pieces-judged}
+use Rattle.info.proofs.TextLaws.{text-body, text-field, zero-field}
+use Rattle.info.proofs.StructLaws.{Kind}
+
+-- ---- the head
+
+module _ (v : List ℕ) {flags name head : ℕ} (ef : flags ≡ u32At v 4) (en : name ≡ u32At v 8) (eh : head ≡ networkHead (ltb 0x14 name)) where
+  head-fits : (b : Bool) → leb head (length v) ≡ b → leb (networkHead (networkUnicode v)) (length v) ≡ b
+  head-fits b e = rw (← en, ← eh) e
+
+  pub network-short : length v < head → false ≡ all (networkFixed v)
+  unfolding networkFixed
+  network-short h = rw (head-fits false (lt-leb head (length v) h), and-zero, and-zero)
+
+  pub network-long : {device x y : Bool} {o₁ o₂ : ℕ} → head ≤ length v → device ≡ bit 0 flags → o₁ ≡ u32At v 12 → x ≡ absentZero device o₁
+      → o₂ ≡ fieldIf (ltb 0x14 name) v 24 → y ≡ absentZero device o₂ → (((leb flags 3 && leb 0x14 name) && x) && y) ≡ all (networkFixed v)
+  unfolding networkFixed
+  network-long h ed e₁ ex e₂ ey =
+      rw (head-fits true (le-leb head (length v) h), ex, ey, e₁, e₂, zero-field _ (ltb 0x14 name) v 24, ed, ef, en) (simp (and-assoc, and-one))
+
+-- a head that passes its tests lies inside
+pub network-room : (v : List ℕ) {fixed : Bool} {name : ℕ} → fixed ≡ all (networkFixed v) → not fixed ≡ false → name ≡ u32At v 8 → ltb 0x14 name ≡ true → 0x1C ≤ length v
+unfolding networkFixed
+network-room v {fixed} {name} e t en u =
+    let c = all-pass (networkFixed v) (sym e ∙ not-false fixed t) in
+    room 0x1C 0x14 (networkUnicode v) refl (leb-true _ (length v) (c .1 .1 .0)) (rw (← en) u)
+
+-- ---- the network link's own bytes
+
+rules-split : (v : List ℕ) → all (networkRules v) ≡ (all (networkFixed v) && all (pieceTests (networkHead (networkUnicode v)) (networkPieces v)))
+unfolding networkFixed
+rules-split v = all-append (networkFixed v) (pieceTests (networkHead (networkUnicode v)) (networkPieces v))
+
+-- whether all pass, and the fields, as the code puts them together
+abbrev pub fourPass : Text → Text → Text → Text → Bool → Bool
+fourPass a b c d far = (((a .ok && b .ok) && c .ok) && d .ok) && far
+
+abbrev pub fourFields : ℕ → ℕ → Bool → Text → Text → Text → Text → Network
+fourFields flags provider unicode a b c d = record {
+  flags = flags;
+  provider = provider;
+  unicode = unicode;
+  net = a .body;
+  device = b .body;
+  «net_unicode» = c .body;
+  «device_unicode» = d .body;
+}
+
+-- the four strings, as they were found
+pub record Four (p : ℕ) (v : List ℕ) (a b c d : Text) : Type 0 where
+  pub net : a ≡ textFound true false v p (networkHead (networkUnicode v)) (u32At v 8)
+  pub device : b ≡ textFound (hasDevice v) false v p (networkHead (networkUnicode v)) (u32At v 12)
+  pub netUnicode : c ≡ textFound (networkUnicode v) true v p (networkHead (networkUnicode v)) (u32At v 20)
+  pub deviceUnicode : d ≡ textFound (networkUnicode v && hasDevice v) true v p (networkHead (networkUnicode v)) (u32At v 24)
+
+pub four : (p : ℕ) (v : List ℕ) {flags name head o₁ o₂ o₃ : ℕ} {device : Bool} {a b c d : Text} → flags ≡ u32At v 4 → name ≡ u32At v 8 → device ≡ bit 0 flags
+    → head ≡ networkHead (ltb 0x14 name) → a ≡ textFound true false v p head name → o₁ ≡ u32At v 12 → b ≡ textFound device false v p head o₁
+    → o₂ ≡ fieldIf (ltb 0x14 name) v 20 → c ≡ textFound (ltb 0x14 name) true v p head o₂
+    → o₃ ≡ fieldIf (ltb 0x14 name) v 24 → d ≡ textFound (ltb 0x14 name && device) true v p head o₃ → Four p v a b c d
+four p v ef en ed eh ea e₁ eb e₂ ec e₃ ee =
+    let h : ℕ = networkHead (networkUnicode v) in
+    let u : Bool = networkUnicode v in
+    record {
+      net = ea ∙ rw (eh, en);
+      device = eb ∙ rw (eh, ed, ef, en, e₁);
+      netUnicode = ec ∙ rw (e₂, eh, en) (text-field u true v p h 20 u (λ z. z));
+      deviceUnicode = ee ∙ rw (e₃, eh, ed, ef, en) (text-field (u && hasDevice v) true v p h 24 u (λ z. rw z));
+    }
+
+module _ (p : ℕ) (v : List ℕ) {fixed : Bool} (ex : fixed ≡ all (networkFixed v)) where
+  pub network-fails : not fixed ≡ true → Bad ≡ networkIn p v
+  unfolding networkIn
+  network-fails t = rw (rules-split v, ← ex, not-true fixed t)
+
+  module _ {a b c d : Text} {far : Bool} (t : not fixed ≡ false) (f : Four p v a b c d) (ef : far ≡ allApart (a .span ∷ b .span ∷ c .span ∷ d .span ∷ [])) where
+    judged : all (networkRules v) ≡ fourPass a b c d far
+    unfolding textFound
+    judged =
+        let h : ℕ = networkHead (networkUnicode v) in
+        let fs : ((a .ok, a .span) ∷ (b .ok, b .span) ∷ (c .ok, c .span) ∷ (d .ok, d .span) ∷ []) ≡ map (judge h) (networkPieces v)
+        = rw (f .net, f .device, f .netUnicode, f .deviceUnicode) in
+        rules-split v ∙ rw (← ex, not-false fixed t, pieces-judged h (networkPieces v) fs ef) (simp (and-assoc, and-one))
+
+    pub network-read : {flags name kept provider : ℕ} {r : NetworkRead} → flags ≡ u32At v 4 → name ≡ u32At v 8 → kept ≡ u32At v 16 → provider ≡ providerOf flags kept
+        → r ≡ networkIf (fourPass a b c d far) (fourFields flags provider (ltb 0x14 name) a b c d) → r ≡ networkIn p v
+    unfolding networkIn
+    network-read {flags} {name} {provider = provider} eg en ek ep er =
+        er ∙ go (fourPass a b c d far) refl ∙ ap (λ (k : Bool). networkIf k (networkFields p v)) (sym judged)
+      where
+        go : (k : Bool) → fourPass a b c d far ≡ k → networkIf k (fourFields flags provider (ltb 0x14 name) a b c d) ≡ networkIf k (networkFields p v)
+        go true e =
+            let h : ℕ = networkHead (networkUnicode v) in
+            let w = every-out (a .ok ∷ b .ok ∷ c .ok ∷ d .ok ∷ far ∷ []) (simp (and-one, ← and-assoc) e) in
+            ap Good (rw (
+              ep,
+              ek,
+              eg,
+              en,
+              text-body true false v p h (u32At v 8) (f .net) (w .0),
+              text-body (hasDevice v) false v p h (u32At v 12) (f .device) (w .1 .0),
+              text-body (networkUnicode v) true v p h (u32At v 20) (f .netUnicode) (w .1 .1 .0),
+              text-body (networkUnicode v && hasDevice v) true v p h (u32At v 24) (f .deviceUnicode) (w .1 .1 .1 .0),
+            ))
+        go false e = refl
+
+-- ---- the piece
+
+pub good-not-bad : (a : Network) → Good a ≡ Bad → ⊥
+good-not-bad a e = let z : _≡_ {A = ℕ} 0 1 = cc in omega arith
+
+pub good-same : (a c : Network) → Good a ≡ Good c → a ≡ c
+good-same a c e = cc
+
+pub read-is : (p : ℕ) (v : List ℕ) → networkIn p v ≡ cond (all (networkRules v)) (Good (networkFields p v)) Bad
+unfolding networkIn
+read-is p v = refl
+
+pub found-as : (b : Bool) (l : List ℕ) (start head o : ℕ)
+    → networkFound b l start head o ≡ found makeNetwork head (networkPiece b l o) (networkAt b start l o) noNetwork
+unfolding networkFound
+found-as b l start head o = refl
+
+abbrev pub networkKind : Kind Network NetworkFound NetworkRead
+networkKind = record {
+  make = makeNetwork;
+  spanOf = λ r. r .span;
+  spans = λ ok x a. refl;
+  none = noNetwork;
+  least = 0x14;
+  rules = networkRules;
+  fields = networkFields;
+  good = Good;
+  bad = Bad;
+  differ = good-not-bad;
+  same = good-same;
+  readAs = networkIn;
+  read-is = read-is;
+  foundAs = networkFound;
+  found-as = found-as;
+}

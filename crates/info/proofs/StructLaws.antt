@@ -1,0 +1,180 @@
+-- A structure that says its size, and what was read of it: VolumeID and the network link.
+use mathlib.Core.Path.{_≡_, refl, sym, ap, _∙_}
+use mathlib.Core.List.{List, [], _∷_}
+use mathlib.Core.Bool.{Bool, true, false, not, _&&_, cond}
+use Prim.Native.Nat.{ℕ, _+_, _-_, _≤_, _<_}
+use native.Mathlib.Omega.{arith}
+use native.Mathlib.Nat.{add-zero}
+use lib.ListN.{length, take, drop, length-drop}
+use lib.Dec.{leb}
+use borrow.Author.Tests.{le-leb, lt-leb, leb-true, not-true, not-false}
+use Rattle.octets.specs.Numbers.{u32At, numberAt}
+use Rattle.octets.proofs.NumberLaws.{number-drop}
+use Rattle.octets.proofs.ChoiceLaws.{cond-first, cond-second}
+use Rattle.format.specs.declared.Place.{Place}
+use Rattle.format.specs.Tests.{Test, all, place, noPlace}
+use Rattle.format.specs.Pieces.{Piece, pieceOk, span}
+use Rattle.format.specs.Writing.{every}
+use Rattle.format.proofs.Bools.{every-out}
+use Rattle.format.proofs.PieceLaws.{pieceAt, structTests}
+use Rattle.info.specs.declared.Ends.{Ends}
+use Rattle.info.specs.declared.Ends.the-variants.{At, Outside}
+use Rattle.info.specs.Found.{Near, found, endAt}
+use Rattle.info.proofs.TestLaws.{found-absent, found-not, found-is}
+
+-- ---- a structure of LinkInfo as a piece, and what it says
+
+abbrev pub structAt : {A : Type 0} → ℕ → (List ℕ → List Test) → (ℕ → List ℕ → A) → Bool → List ℕ → ℕ → Piece
+structAt least rules fields b l o = pieceAt (λ s. all (structTests least rules (fields 0) s)) (λ s. u32At s 0) (fields 0) b l o
+
+abbrev pub structSays : {A : Type 0} → (ℕ → List ℕ → A) → A → Bool → List ℕ → ℕ → ℕ → A
+structSays fields none b l start o = cond b (fields (start + o) (take (u32At (drop o l) 0) (drop o l))) none
+
+-- ---- where a structure ends: the ways out
+
+pub first-number : (l : List ℕ) (o : ℕ) → u32At (drop o l) 0 ≡ u32At l o
+first-number l o = number-drop 4 o l 0 ∙ ap (numberAt 4 l) (add-zero o)
+
+module _ (l : List ℕ) (head least o : ℕ) where
+  pub end-low : o < head → Outside ≡ endAt l head least o
+  unfolding endAt
+  end-low h = rw (lt-leb head o h)
+
+  module _ (h : head ≤ o) where
+    pub end-cut : length l < o + 4 → Outside ≡ endAt l head least o
+    unfolding endAt
+    end-cut k = rw (le-leb head o h, length-drop, lt-leb 4 (length l - o) (omega arith))
+
+    module _ {n : ℕ} (f : o + 4 ≤ length l) (e : n ≡ u32At l o) where
+      pub end-past : length l < o + n → Outside ≡ endAt l head least o
+      unfolding endAt
+      end-past k = rw (le-leb head o h, length-drop, le-leb 4 (length l - o) (omega arith), first-number l o, ← e, lt-leb n (length l - o) (omega arith))
+
+      module _ (k : o + n ≤ length l) where
+        pub end-small : n < least → Outside ≡ endAt l head least o
+        unfolding endAt
+        end-small i =
+            rw (le-leb head o h, length-drop, le-leb 4 (length l - o) (omega arith), first-number l o, ← e, le-leb n (length l - o) (omega arith), lt-leb least n i)
+
+        pub end-at : least ≤ n → {m : ℕ} → m ≡ o + n → At m ≡ endAt l head least o
+        unfolding endAt
+        end-at i q =
+            rw (q, le-leb head o h, length-drop, le-leb 4 (length l - o) (omega arith), first-number l o, ← e, le-leb n (length l - o) (omega arith), le-leb least n i)
+
+-- ---- from the answer to the facts
+
+pub at-not-outside : {x : Ends} {e : ℕ} → x ≡ At e → x ≡ Outside → ⊥
+at-not-outside p q = let z : _≡_ {A = ℕ} 0 1 = cc in omega arith
+
+-- a structure that ends at e
+pub record Ended (l : List ℕ) (head least o e : ℕ) : Type 0 where
+  pub after : head ≤ o
+  pub field : 4 ≤ length (drop o l)
+  pub sized : u32At (drop o l) 0 ≡ e - o
+  pub enough : least ≤ e - o
+  pub ordered : o ≤ e
+  pub inside : e ≤ length l
+
+module _ (l : List ℕ) (head least o : ℕ) {x : Ends} (ex : x ≡ endAt l head least o) where
+  outside-tests : x ≡ Outside → every (leb head o ∷ leb 4 (length (drop o l)) ∷ leb (u32At (drop o l) 0) (length (drop o l)) ∷ leb least (u32At (drop o l) 0) ∷ []) ≡ false
+  unfolding endAt
+  outside-tests q = cond-second _ ex (λ h. at-not-outside h q) .0
+
+  pub ended : {e : ℕ} → x ≡ At e → Ended l head least o e
+  unfolding endAt
+  ended {e} h =
+      let s : List ℕ = drop o l in
+      let n : ℕ = u32At s 0 in
+      let i = cond-first _ ex (at-not-outside h) in
+      let t = every-out (leb head o ∷ leb 4 (length s) ∷ leb n (length s) ∷ leb least n ∷ []) (i .0) in
+      let q : e ≡ o + n = cc in
+      let a : head ≤ o = leb-true head o (t .0) in
+      let b : 4 ≤ length s = leb-true 4 (length s) (t .1 .0) in
+      let d : n ≤ length s = leb-true n (length s) (t .1 .1 .0) in
+      let f : least ≤ n = leb-true least n (t .1 .1 .1 .0) in
+      let g = length-drop o l in
+      record { after = a; field = b; sized = omega arith; enough = omega arith; ordered = omega arith; inside = omega arith }
+
+  -- ---- the tests of the structure, as a piece
+
+  module _ {A : Type 0} (rules : List ℕ → List Test) (fields : ℕ → List ℕ → A) where
+    struct-outside : x ≡ Outside → pieceOk head (structAt least rules fields true l o) ≡ false
+    struct-outside q = go (leb head o) (leb 4 (length (drop o l))) (leb (u32At (drop o l) 0) (length (drop o l))) (leb least (u32At (drop o l) 0)) _ (outside-tests q)
+      where
+        go : (a b c d e : Bool) → every (a ∷ b ∷ c ∷ d ∷ []) ≡ false → (a && (b && (c && (d && e)))) ≡ false
+        go false b c d e h = refl
+        go true false c d e h = refl
+        go true true false d e h = refl
+        go true true true false e h = refl
+        go true true true true e h = absurd (let z : _≡_ {A = ℕ} 0 1 = cc in omega arith)
+
+    struct-judged : {e : ℕ} → x ≡ At e → pieceOk head (structAt least rules fields true l o) ≡ all (rules (take (e - o) (drop o l)))
+    struct-judged {e} h =
+        let i = ended h in
+        let d : e - o ≤ length (drop o l) = rw length-drop (omega arith) in
+        rw (i .sized, le-leb head o (i .after), le-leb 4 (length (drop o l)) (i .field), le-leb (e - o) (length (drop o l)) d, le-leb least (e - o) (i .enough))
+
+-- ---- a kind of structure
+
+pub record Kind (A R Q : Type 0) : Type 0 where
+  -- an answer, and the span in it
+  pub make : Bool → Place → A → R
+  pub spanOf : R → Place
+  pub spans : (ok : Bool) (x : Place) (a : A) → spanOf (make ok x a) ≡ x
+  -- what it says, and what stands for that where it is absent
+  pub none : A
+  pub least : ℕ
+  pub rules : List ℕ → List Test
+  pub fields : ℕ → List ℕ → A
+  -- what reading its own bytes answers
+  pub good : A → Q
+  pub bad : Q
+  pub differ : (a : A) → good a ≡ bad → ⊥
+  pub same : (a c : A) → good a ≡ good c → a ≡ c
+  -- the definitions that the contracts cite
+  pub readAs : ℕ → List ℕ → Q
+  pub read-is : (p : ℕ) (v : List ℕ) → readAs p v ≡ cond (all (rules v)) (good (fields p v)) bad
+  pub foundAs : Bool → List ℕ → ℕ → ℕ → ℕ → R
+  pub found-as : (b : Bool) (l : List ℕ) (start head o : ℕ) → foundAs b l start head o ≡ found make head (structAt least rules fields b l o) (structSays fields none b l start o) none
+
+-- ---- the ways out
+
+module _ {A R Q : Type 0} (K : Kind A R Q) (b : Bool) (l : List ℕ) (start head o : ℕ) where
+  abbrev piece : Piece
+  piece = structAt (K .least) (K .rules) (K .fields) b l o
+
+  abbrev says : A
+  says = structSays (K .fields) (K .none) b l start o
+
+  nowhere : (ok : Bool) {r : R} → r ≡ K .make ok noPlace (K .none) → Near (K .spanOf r)
+  nowhere ok e = rw (ap (K .spanOf) e ∙ K .spans ok noPlace (K .none)) (omega arith)
+
+  pub struct-absent : {r : R} → not b ≡ true → r ≡ K .make true noPlace (K .none) → (r ≡ K .foundAs b l start head o) × Near (K .spanOf r)
+  struct-absent t e =
+      let f : b ≡ false = not-true b t in
+      (e ∙ found-absent (K .make) head piece says (K .none) f (rw f) ∙ sym (K .found-as b l start head o), nowhere true e)
+
+  not-found : {r : R} → pieceOk head piece ≡ false → r ≡ K .make false noPlace (K .none) → (r ≡ K .foundAs b l start head o) × Near (K .spanOf r)
+  not-found f e = (e ∙ found-not (K .make) head piece says (K .none) f ∙ sym (K .found-as b l start head o), nowhere false e)
+
+  module _ {x : Ends} (t : not b ≡ false) (ex : x ≡ endAt l head (K .least) o) where
+    pub struct-lost : {r : R} → x ≡ Outside → r ≡ K .make false noPlace (K .none) → (r ≡ K .foundAs b l start head o) × Near (K .spanOf r)
+    struct-lost q = not-found (rw (not-false b t) (struct-outside l head (K .least) o ex (K .rules) (K .fields) q))
+
+    module _ {e : ℕ} {y : Q} (q : x ≡ At e) (ey : y ≡ K .readAs (start + o) (take (e - o) (drop o l))) where
+      judged : pieceOk head piece ≡ all (K .rules (take (e - o) (drop o l)))
+      judged = rw (not-false b t) (struct-judged l head (K .least) o ex (K .rules) (K .fields) q)
+
+      pub struct-bad : {r : R} → y ≡ K .bad → r ≡ K .make false noPlace (K .none) → (r ≡ K .foundAs b l start head o) × Near (K .spanOf r)
+      struct-bad i = not-found (judged ∙ cond-second _ (ey ∙ K .read-is _ _) (λ g. K .differ _ (sym g ∙ i)) .0)
+
+      pub struct-good : {a : A} → start + length l ≤ 65536 → y ≡ K .good a
+          → (K .make true (place o (e - o)) a ≡ K .foundAs b l start head o) × Near (K .spanOf (K .make true (place o (e - o)) a))
+      struct-good {a} s i =
+          let w = ended l head (K .least) o ex q in
+          let j = cond-first _ (ey ∙ K .read-is _ _) (λ g. K .differ _ (sym i ∙ g)) in
+          let k : says ≡ a = rw (not-false b t, w .sized) (K .same _ _ (sym (j .1) ∙ i)) in
+          let m : span piece ≡ place o (e - o) = rw (not-false b t, w .sized) in (
+            rw (← k) (found-is (K .make) head piece says (K .none) (judged ∙ j .0) m) ∙ sym (K .found-as b l start head o),
+            rw (K .spans true (place o (e - o)) a) (omega arith),
+          )

@@ -1,0 +1,114 @@
+-- Chains of tests as one test, and the tests of all pieces by what was found of each.
+use mathlib.Core.Path.{_≡_, refl, sym, ap, ap₂, _∙_}
+use mathlib.Core.List.{List, [], _∷_, _++_, map}
+use mathlib.Core.Bool.{Bool, true, false, _&&_, _||_, cond}
+use Prim.Native.Nat.{ℕ, _≤_}
+use native.Mathlib.Omega.{arith}
+use Rattle.format.specs.declared.Fault.{Fault}
+use Rattle.format.specs.declared.Place.{Place}
+use Rattle.format.specs.Tests.{Outcome, refused, Test, tests, all, noPlace}
+use Rattle.format.specs.Pieces.{Piece, pieceOk, span, apart, allApart, eachOk, pieceTests}
+use Rattle.format.specs.Writing.{every}
+use Rattle.format.proofs.Bools.{and-true}
+use Rattle.info.specs.Found.{foundSpan, found}
+
+-- ---- conjunctions
+
+pub and-assoc : (a b c : Bool) → ((a && b) && c) ≡ (a && (b && c))
+and-assoc true b c = refl
+and-assoc false b c = refl
+
+pub and-one : (a : Bool) → (a && true) ≡ a
+and-one true = refl
+and-one false = refl
+
+pub and-zero : (a : Bool) → (a && false) ≡ false
+and-zero true = refl
+and-zero false = refl
+
+pub or-false : (a b : Bool) → (a || b) ≡ false → (a ≡ false) × (b ≡ false)
+or-false true b e = (e, cc)
+or-false false b e = (refl, e)
+
+-- a choice of two lengths leaves room for the one chosen
+pub room : (m n : ℕ) {k z : ℕ} (u : Bool) → k ≡ cond u m n → k ≤ z → u ≡ true → m ≤ z
+room m n u e h t = let i : cond u m n ≡ m = rw t in omega arith
+
+-- ---- one fault
+
+-- all of these tests give the fault f
+abbrev pub Faults : Fault → List Test → Type 0
+Faults f [] = Unit {0}
+Faults f (t ∷ ts) = (t .fault ≡ f) × Faults f ts
+
+-- tests of one fault are one test
+pub one-fault : {A : Type 0} (f : Fault) (p : ℕ) (ts : List Test) (r : Outcome A) → Faults f ts → tests p ts r ≡ cond (all ts) r (refused f p)
+one-fault f p [] r h = refl
+one-fault f p (t ∷ ts) r h = rw (h .0, one-fault f p ts r (h .1)) (go (t .holds))
+  where
+    go : (b : Bool) → cond b (cond (all ts) r (refused f p)) (refused f p) ≡ cond (b && all ts) r (refused f p)
+    go true = refl
+    go false = refl
+
+pub all-append : (ts us : List Test) → all (ts ++ us) ≡ (all ts && all us)
+all-append [] us = refl
+all-append (t ∷ ts) us = ap (λ (b : Bool). t .holds && b) (all-append ts us) ∙ sym (and-assoc (t .holds) (all ts) (all us))
+
+-- ---- the tests of all pieces
+
+-- what is found of a piece: whether it passes, and its span
+abbrev pub judge : ℕ → Piece → Bool × Place
+judge h x = (pieceOk h x, foundSpan h x)
+
+abbrev passes : List (Bool × Place) → Bool
+passes fs = every (map (λ f. f .0) fs)
+
+abbrev spansOf : List (Bool × Place) → List Place
+spansOf fs = map (λ f. f .1) fs
+
+each-ok : (h : ℕ) (xs : List Piece) → all (eachOk h xs) ≡ passes (map (judge h) xs)
+each-ok h [] = refl
+each-ok h (x ∷ xs) = ap (λ (b : Bool). pieceOk h x && b) (each-ok h xs)
+
+-- the spans found are the real ones where every piece passes
+spans-found : (h : ℕ) (xs : List Piece) → passes (map (judge h) xs) ≡ true → spansOf (map (judge h) xs) ≡ map span xs
+spans-found h [] e = refl
+spans-found h (x ∷ xs) e =
+    let i = and-true (pieceOk h x) (passes (map (judge h) xs)) e in
+    rw (i .0, spans-found h xs (i .1))
+
+-- and where one fails the answer is the same
+pieces-found : (h : ℕ) (xs : List Piece) → all (pieceTests h xs) ≡ (passes (map (judge h) xs) && allApart (spansOf (map (judge h) xs)))
+pieces-found h xs =
+    all-append (eachOk h xs) _ ∙ ap₂ (λ (a b : Bool). a && b) (each-ok h xs) (and-one (allApart (map span xs))) ∙ go (passes (map (judge h) xs)) refl
+  where
+    go : (b : Bool) → passes (map (judge h) xs) ≡ b → (b && allApart (map span xs)) ≡ (b && allApart (spansOf (map (judge h) xs)))
+    go true e = ap allApart (sym (spans-found h xs e))
+    go false e = refl
+
+pub pieces-judged : (h : ℕ) (xs : List Piece) {fs : List (Bool × Place)} {far : Bool} → fs ≡ map (judge h) xs → far ≡ allApart (spansOf fs)
+    → all (pieceTests h xs) ≡ (passes fs && far)
+pieces-judged h xs p e = pieces-found h xs ∙ rw (e, p)
+
+-- ---- pairs that share no byte
+
+pub four-apart : (a b c d : Place) {x₁ x₂ x₃ x₄ x₅ x₆ : Bool} → x₁ ≡ apart a b → x₂ ≡ apart a c → x₃ ≡ apart a d → x₄ ≡ apart b c → x₅ ≡ apart b d → x₆ ≡ apart c d
+    → (((((x₁ && x₂) && x₃) && x₄) && x₅) && x₆) ≡ allApart (a ∷ b ∷ c ∷ d ∷ [])
+four-apart a b c d e₁ e₂ e₃ e₄ e₅ e₆ = rw (← e₁, ← e₂, ← e₃, ← e₄, ← e₅, ← e₆) (simp (and-assoc, and-one))
+
+pub six-apart : (a b c d e f : Place) {x₁ x₂ x₃ x₄ x₅ x₆ x₇ x₈ x₉ y : Bool} → x₁ ≡ apart a b → x₂ ≡ apart a c → x₃ ≡ apart a d → x₄ ≡ apart a e → x₅ ≡ apart a f
+    → x₆ ≡ apart b c → x₇ ≡ apart b d → x₈ ≡ apart b e → x₉ ≡ apart b f → y ≡ allApart (c ∷ d ∷ e ∷ f ∷ [])
+    → (((((((((x₁ && x₂) && x₃) && x₄) && x₅) && x₆) && x₇) && x₈) && x₉) && y) ≡ allApart (a ∷ b ∷ c ∷ d ∷ e ∷ f ∷ [])
+six-apart a b c d e f e₁ e₂ e₃ e₄ e₅ e₆ e₇ e₈ e₉ g = rw (← g, ← e₁, ← e₂, ← e₃, ← e₄, ← e₅, ← e₆, ← e₇, ← e₈, ← e₉) (simp (and-assoc, and-one))
+
+-- ---- a piece that was found
+
+module _ {A R : Type 0} (make : Bool → Place → A → R) (h : ℕ) (x : Piece) (a d : A) where
+  pub found-absent : x .present ≡ false → a ≡ d → make true noPlace d ≡ found make h x a d
+  found-absent e q = rw (e, q)
+
+  pub found-not : pieceOk h x ≡ false → make false noPlace d ≡ found make h x a d
+  found-not e = rw e
+
+  pub found-is : pieceOk h x ≡ true → {p : Place} → span x ≡ p → make true p a ≡ found make h x a d
+  found-is e q = rw (e, q)

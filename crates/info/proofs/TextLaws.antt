@@ -1,0 +1,98 @@
+-- The string that an offset leads to, and a field that is there or not.
+use mathlib.Core.Path.{_≡_, refl, sym, ap, _∙_}
+use mathlib.Core.List.{List}
+use mathlib.Core.Bool.{Bool, true, false, not, _||_}
+use Prim.Native.Nat.{ℕ, _+_, _≤_, _<_}
+use native.Mathlib.Omega.{arith}
+use lib.ListN.{length, drop, length-drop}
+use borrow.Author.Tests.{ltb-true, le-leb, lt-leb, not-true, not-false}
+use Rattle.octets.specs.Numbers.{u32At}
+use Rattle.octets.specs.Characters.{bytesOf, characters, beforeZero, zeroFrom}
+use Rattle.octets.specs.declared.Zero.{Zero}
+use Rattle.octets.specs.declared.Zero.the-variants.{After, Nowhere}
+use Rattle.octets.proofs.CharacterLaws.{characters-fit, bytes-of-le, bytes-of-add}
+use Rattle.octets.proofs.ZeroLaws.{zero-after, zero-nowhere}
+use Rattle.format.specs.Tests.{place, noPlace}
+use Rattle.format.specs.Pieces.{textEnds, textLength, textPiece, textPlace, absentZero, pieceOk}
+use Rattle.info.specs.declared.Text.{Text}
+use Rattle.info.specs.Found.{Near, fieldIf, makeText, textFound}
+use Rattle.info.proofs.TestLaws.{found-absent, found-not, found-is}
+
+-- ---- a string inside its part
+
+some-bytes : (u : Bool) (n : ℕ) → (n ≤ bytesOf u n) × (0 < bytesOf u 1)
+some-bytes true n = (omega arith, omega arith)
+some-bytes false n = (omega arith, omega arith)
+
+pub text-inside : (u : Bool) (l : List ℕ) (o : ℕ) {z : Zero} {n : ℕ} → z ≡ zeroFrom u l o → z ≡ After n → (n ≤ length l) × (o + (bytesOf u n + bytesOf u 1) ≤ length l)
+text-inside u l o {n = n} e h =
+    let c : List ℕ = characters u (drop o l) in
+    let (b, q) = zero-after u l o e h in
+    let k : beforeZero c < length c = ltb-true _ _ b in
+    let f : bytesOf u (length c) ≤ length (drop o l) = characters-fit u (drop o l) in
+    let g : bytesOf u (n + 1) ≤ bytesOf u (length c) = bytes-of-le u (omega arith) in
+    let a : bytesOf u (n + 1) ≡ bytesOf u n + bytesOf u 1 = bytes-of-add u n 1 in
+    let (m, i) = some-bytes u n in
+    (omega (arith, length-drop o l), omega (arith, length-drop o l))
+
+-- ---- the ways out
+
+module _ (b u : Bool) (l : List ℕ) (start head o : ℕ) where
+  pub text-absent : {r : Text} → not b ≡ true → r ≡ makeText true noPlace noPlace → (r ≡ textFound b u l start head o) × Near (r .span)
+  unfolding textFound
+  text-absent t e =
+      let f : b ≡ false = not-true b t in
+      (e ∙ found-absent makeText head (textPiece b u l o) (textPlace b u start l o) noPlace f (rw f), rw e (omega arith))
+
+  not-found : {r : Text} → pieceOk head (textPiece b u l o) ≡ false → r ≡ makeText false noPlace noPlace → (r ≡ textFound b u l start head o) × Near (r .span)
+  unfolding textFound
+  not-found f e = (e ∙ found-not makeText head (textPiece b u l o) (textPlace b u start l o) noPlace f, rw e (omega arith))
+
+  module _ (t : not b ≡ false) where
+    pub text-low : {r : Text} → o < head → r ≡ makeText false noPlace noPlace → (r ≡ textFound b u l start head o) × Near (r .span)
+    text-low h = not-found (rw (not-false b t, lt-leb head o h))
+
+    module _ {z : Zero} (h : head ≤ o) (ez : z ≡ zeroFrom u l o) where
+      pub text-open : {r : Text} → z ≡ Nowhere → r ≡ makeText false noPlace noPlace → (r ≡ textFound b u l start head o) × Near (r .span)
+      text-open q =
+          let w : textEnds u (drop o l) ≡ false = zero-nowhere u l o ez q in
+          not-found (rw (not-false b t, le-leb head o h, w))
+
+      pub text-ends : start + length l ≤ 65536 → {n k m : ℕ} → z ≡ After n → k ≡ bytesOf u n → m ≡ bytesOf u 1
+          → (makeText true (place o (k + m)) (place (start + o) k) ≡ textFound b u l start head o) × Near (place o (k + m))
+      unfolding textFound
+      text-ends s {n} {k} {m} q ek em =
+          let (w, i) = zero-after u l o ez q in
+          let x : k ≡ textLength u (drop o l) = ek ∙ ap (bytesOf u) i in
+          let y : textPlace b u start l o ≡ place (start + o) k = rw (not-false b t, x) in (
+            rw (← y) (found-is makeText head (textPiece b u l o) (textPlace b u start l o) noPlace (rw (not-false b t, le-leb head o h, w)) (rw (not-false b t, x, em))),
+            omega (arith, text-inside u l o ez q),
+          )
+
+-- ---- what was found
+
+module _ (b u : Bool) (l : List ℕ) (start head o : ℕ) {t : Text} (e : t ≡ textFound b u l start head o) where
+  pub text-ok : t .ok ≡ pieceOk head (textPiece b u l o)
+  unfolding textFound
+  text-ok = ap (λ (x : Text). x .ok) e
+
+  pub text-body : t .ok ≡ true → t .body ≡ textPlace b u start l o
+  unfolding textFound
+  text-body k = ap (λ (x : Text). x .body) e ∙ rw (sym text-ok ∙ k)
+
+-- ---- a field that is there or not
+
+-- an absent string is the same wherever its offset leads
+pub text-field : (b u : Bool) (l : List ℕ) (start head i : ℕ) (w : Bool) → (w ≡ false → b ≡ false)
+    → textFound b u l start head (fieldIf w l i) ≡ textFound b u l start head (u32At l i)
+unfolding fieldIf textFound
+text-field b u l start head i true h = refl
+text-field b u l start head i false h = rw (h refl)
+
+-- an absent field is 0
+pub zero-field : (b w : Bool) (l : List ℕ) (i : ℕ) → absentZero b (fieldIf w l i) ≡ (not w || absentZero b (u32At l i))
+unfolding fieldIf
+zero-field true true l i = refl
+zero-field false true l i = refl
+zero-field true false l i = refl
+zero-field false false l i = refl

@@ -1,0 +1,56 @@
+use Rattle.info.proofs.TestLaws.{six-apart}
+use borrow.Author.Needs.{needs}
+use Rattle.info.proofs.apart_six.Statement.{statement}
+use Rattle.info.proofs.apart_six.Tie as tie
+
+apart-requires : tie.Need-apart-requires
+apart-requires c κs = search needs
+
+apart-requires-2 : tie.Need-apart-requires-2
+apart-requires-2 c κs = search needs
+
+apart-requires-3 : tie.Need-apart-requires-3
+apart-requires-3 c κs = search needs
+
+apart-requires-4 : tie.Need-apart-requires-4
+apart-requires-4 c κs = search needs
+
+apart-requires-5 : tie.Need-apart-requires-5
+apart-requires-5 c κs = search needs
+
+apart-requires-6 : tie.Need-apart-requires-6
+apart-requires-6 c κs = search needs
+
+apart-requires-7 : tie.Need-apart-requires-7
+apart-requires-7 c κs = search needs
+
+apart-requires-8 : tie.Need-apart-requires-8
+apart-requires-8 c κs = search needs
+
+apart-requires-9 : tie.Need-apart-requires-9
+apart-requires-9 c κs = search needs
+
+apart-four-requires : tie.Need-apart-four-requires
+apart-four-requires c κs = search needs
+
+returns : tie.Need-returns
+returns c =
+    let z = c .before .before .before .before .before .before .before .before .before .before .args in
+    six-apart (z .a) (z .b) (z .c) (z .d) (z .e) (z .f) (c .before .before .before .before .before .before .before .before .before .apart .ensures) (c .before .before .before .before .before .before .before .before .apart2 .ensures) (c .before .before .before .before .before .before .before .apart3 .ensures) (c .before .before .before .before .before .before .apart4 .ensures) (c .before .before .before .before .before .apart5 .ensures)
+    (c .before .before .before .before .apart6 .ensures) (c .before .before .before .apart7 .ensures) (c .before .before .apart8 .ensures) (c .before .apart9 .ensures) (c .apart-four .ensures)
+
+pub apart-six-spec : {M : Type 1} → statement M
+apart-six-spec =
+    tie.close
+    (tie.spec
+    apart-requires
+    apart-requires-2
+    apart-requires-3
+    apart-requires-4
+    apart-requires-5
+    apart-requires-6
+    apart-requires-7
+    apart-requires-8
+    apart-requires-9
+    apart-four-requires
+    returns)

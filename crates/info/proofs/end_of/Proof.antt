@@ -1,0 +1,67 @@
+use Rattle.info.proofs.StructLaws.{end-low, end-cut, end-past, end-small, end-at}
+use Rattle.octets.proofs.CursorLaws.{take-got, take-lost, skip-got, skip-lost}
+use native.Mathlib.Omega.{arith}
+use borrow.Author.Needs.{needs}
+use Rattle.info.proofs.end_of.Statement.{statement}
+use Rattle.info.proofs.end_of.Tie as tie
+
+returns : tie.Need-returns
+returns c = end-low _ _ _ _ (omega arith)
+
+take-u32-requires : tie.Need-take-u32-requires
+take-u32-requires c κs = search needs
+
+enum-known-size : tie.Need-enum-known-size
+enum-known-size c = search needs
+
+enum-told : tie.Need-enum-told
+enum-told c = search needs
+
+returns-2 : tie.Need-returns-2
+returns-2 c = end-cut _ _ _ _ (omega arith) (take-lost _ _ _ (c .before .before .take-u32 .ensures) (c .enum-told .given .1))
+
+cast-skip : tie.Need-cast-skip
+cast-skip c = search needs
+
+skip-requires : tie.Need-skip-requires
+skip-requires c κs = search needs
+
+enum-known-next : tie.Need-enum-known-next
+enum-known-next c = search needs
+
+enum-told-2 : tie.Need-enum-told-2
+enum-told-2 c = search needs
+
+returns-3 : tie.Need-returns-3
+returns-3 c =
+    let t = take-got _ _ _ (c .before .before .before .before .before .before .take-u32 .ensures) (c .before .before .before .before .size .given .1) in
+    end-past _ _ _ _ (omega arith) (t .0) (t .1) (skip-lost _ _ _ (c .before .before .skip .ensures) (c .enum-told2 .given .1))
+
+returns-4 : tie.Need-returns-4
+returns-4 c =
+    let t = take-got _ _ _ (c .before .before .before .before .before .before .before .before .take-u32 .ensures) (c .before .before .before .before .before .before .size .given .1) in
+    let u = skip-got _ _ _ (c .before .before .before .before .skip .ensures) (c .before .before .next .given .1) in
+    end-small _ _ _ _ (omega arith) (t .0) (t .1) (u .0) (omega arith)
+
+returns-5 : tie.Need-returns-5
+returns-5 c =
+    let t = take-got _ _ _ (c .before .before .before .before .before .before .before .before .take-u32 .ensures) (c .before .before .before .before .before .before .size .given .1) in
+    let u = skip-got _ _ _ (c .before .before .before .before .skip .ensures) (c .before .before .next .given .1) in
+    end-at _ _ _ _ (omega arith) (t .0) (t .1) (u .0) (omega arith) (u .1)
+
+pub end-of-spec : {M : Type 1} → statement M
+end-of-spec =
+    tie.close
+    (tie.spec
+    returns
+    take-u32-requires
+    enum-known-size
+    enum-told
+    returns-2
+    cast-skip
+    skip-requires
+    enum-known-next
+    enum-told-2
+    returns-3
+    returns-4
+    returns-5)

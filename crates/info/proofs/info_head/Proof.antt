@@ -1,0 +1,85 @@
+use Rattle.info.proofs.InfoLaws.{head-fails, head-room, head-passes}
+use native.Mathlib.Omega.{arith}
+use borrow.Author.Needs.{needs}
+use Rattle.info.proofs.info_head.Statement.{statement}
+use Rattle.info.proofs.info_head.Tie as tie
+
+u32-at-requires : tie.Need-u32-at-requires
+u32-at-requires c κs = search needs
+
+cast-head : tie.Need-cast-head
+cast-head c = search needs
+
+returns : tie.Need-returns
+returns c = head-fails _ (c .before .u32-at .ensures) (c .if1 .taken)
+
+u32-at-requires-2 : tie.Need-u32-at-requires-2
+u32-at-requires-2 c κs = search needs
+
+bit-0-requires : tie.Need-bit-0-requires
+bit-0-requires c κs = search needs
+
+u32-at-requires-3 : tie.Need-u32-at-requires-3
+u32-at-requires-3 c κs = search needs
+
+cast-absent-zero : tie.Need-cast-absent-zero
+cast-absent-zero c = search needs
+
+absent-zero-requires : tie.Need-absent-zero-requires
+absent-zero-requires c κs = search needs
+
+u32-at-requires-4 : tie.Need-u32-at-requires-4
+u32-at-requires-4 c κs = search needs
+
+cast-absent-zero-2 : tie.Need-cast-absent-zero-2
+cast-absent-zero-2 c = search needs
+
+absent-zero-requires-2 : tie.Need-absent-zero-requires-2
+absent-zero-requires-2 c κs = search needs
+
+bit-1-requires : tie.Need-bit-1-requires
+bit-1-requires c κs = search needs
+
+u32-at-requires-5 : tie.Need-u32-at-requires-5
+u32-at-requires-5 c κs = search needs
+
+cast-absent-zero-3 : tie.Need-cast-absent-zero-3
+cast-absent-zero-3 c = search needs
+
+absent-zero-requires-3 : tie.Need-absent-zero-requires-3
+absent-zero-requires-3 c κs = search needs
+
+field-requires : tie.Need-field-requires
+field-requires c κs =
+    λ e. omega (arith, head-room _ (c .before .before .before .before .before .before .before .before .before .before .u32-at .ensures) (c .before .before .before .before .before .before .before .before .before .if1 .left) e)
+
+absent-zero-requires-4 : tie.Need-absent-zero-requires-4
+absent-zero-requires-4 c κs = search needs
+
+returns-2 : tie.Need-returns-2
+returns-2 c =
+    head-passes _ (c .before .before .before .before .before .before .before .before .before .before .before .before .u32-at .ensures) (c .before .before .before .before .before .before .before .before .before .before .before .if1 .left) (c .before .before .before .before .before .before .before .before .before .before .u32-at2 .ensures) (c .before .before .before .before .before .before .before .before .before .bit-0 .ensures) (c .before .before .before .before .before .before .before .before .u32-at3 .ensures) (c .before .before .before .before .before .before .before .absent-zero .ensures) (c .before .before .before .before .before .before .u32-at4 .ensures)
+    (c .before .before .before .before .before .absent-zero2 .ensures) (c .before .before .before .before .bit-1 .ensures) (c .before .before .before .u32-at5 .ensures) (c .before .before .absent-zero3 .ensures) (c .before .field .ensures) (c .absent-zero4 .ensures)
+
+pub info-head-spec : {M : Type 1} → statement M
+info-head-spec =
+    tie.close
+    (tie.spec
+    u32-at-requires
+    cast-head
+    returns
+    u32-at-requires-2
+    bit-0-requires
+    u32-at-requires-3
+    cast-absent-zero
+    absent-zero-requires
+    u32-at-requires-4
+    cast-absent-zero-2
+    absent-zero-requires-2
+    bit-1-requires
+    u32-at-requires-5
+    cast-absent-zero-3
+    absent-zero-requires-3
+    field-requires
+    absent-zero-requires-4
+    returns-2)

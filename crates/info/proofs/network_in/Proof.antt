@@ -1,0 +1,100 @@
+use Rattle.info.proofs.NetworkLaws.{network-room, four, network-fails, network-read}
+use native.Mathlib.Omega.{arith}
+use borrow.Author.Needs.{needs}
+use Rattle.info.proofs.network_in.Statement.{statement}
+use Rattle.info.proofs.network_in.Tie as tie
+
+network-fixed-requires : tie.Need-network-fixed-requires
+network-fixed-requires c κs = search needs
+
+returns : tie.Need-returns
+returns c = network-fails _ _ (c .before .network-fixed .ensures) (c .if1 .taken)
+
+u32-at-requires : tie.Need-u32-at-requires
+u32-at-requires c κs = search needs
+
+u32-at-requires-2 : tie.Need-u32-at-requires-2
+u32-at-requires-2 c κs = search needs
+
+cast-name : tie.Need-cast-name
+cast-name c = search needs
+
+bit-0-requires : tie.Need-bit-0-requires
+bit-0-requires c κs = search needs
+
+network-head-requires : tie.Need-network-head-requires
+network-head-requires c κs = search needs
+
+text-at-requires : tie.Need-text-at-requires
+text-at-requires c κs = search needs
+
+u32-at-requires-3 : tie.Need-u32-at-requires-3
+u32-at-requires-3 c κs = search needs
+
+cast-text-at : tie.Need-cast-text-at
+cast-text-at c = search needs
+
+text-at-requires-2 : tie.Need-text-at-requires-2
+text-at-requires-2 c κs = search needs
+
+field-requires : tie.Need-field-requires
+field-requires c κs =
+    λ e. omega (arith, network-room _ (c .before .before .before .before .before .before .before .before .network-fixed .ensures) (c .before .before .before .before .before .before .before .if1 .left) (c .before .before .before .before .before .u32-at2 .ensures) e)
+
+text-at-requires-3 : tie.Need-text-at-requires-3
+text-at-requires-3 c κs = c .before .before .before .before .before .before .before .before .before .before .before .pre .1
+
+field-requires-2 : tie.Need-field-requires-2
+field-requires-2 c κs =
+    network-room _ (c .before .before .before .before .before .before .before .before .before .before .network-fixed .ensures) (c .before .before .before .before .before .before .before .before .before .if1 .left) (c .before .before .before .before .before .before .before .u32-at2 .ensures)
+
+text-at-requires-4 : tie.Need-text-at-requires-4
+text-at-requires-4 c κs = c .before .before .before .before .before .before .before .before .before .before .before .before .before .pre .1
+
+apart-four-requires : tie.Need-apart-four-requires
+apart-four-requires c κs =
+    (c .before .before .before .before .before .before .before .before .before .before .text-at .ensures .1, c .before .before .before .before .before .before .before .before .text-at2 .ensures .1, c .before .before .before .before .before .before .text-at3 .ensures .1, c .before .before .before .before .text-at4 .ensures .1)
+
+u32-at-requires-4 : tie.Need-u32-at-requires-4
+u32-at-requires-4 c κs =
+    c .before .before .before .before .before .before .before .before .before .before .before .before .before .before .before .before .before .before .before .pre .0
+
+provider-requires : tie.Need-provider-requires
+provider-requires c κs = search needs
+
+network-if-requires : tie.Need-network-if-requires
+network-if-requires c κs = search needs
+
+returns-2 : tie.Need-returns-2
+returns-2 c =
+    let z = c .before .before .before .before .before .before .before .before .before .before .before .before in
+    let y = z .before .before .before .before .before .before .before in
+    let f = four _ _ (y .before .before .before .u32-at .ensures) (y .before .before .u32-at2 .ensures) (y .before .bit-0 .ensures) (y .network-head .ensures) (z .before .before .before .before .before .before .text-at .ensures .0) (z .before .before .before .before .before .u32-at3 .ensures) (z .before .before .before .before .text-at2 .ensures .0)
+    (z .before .before .before .field .ensures) (z .before .before .text-at3 .ensures .0) (z .before .field2 .ensures) (z .text-at4 .ensures .0) in
+    network-read _ _ (y .before .before .before .before .before .network-fixed .ensures) (y .before .before .before .before .if1 .left) f (c .before .before .before .before .before .before .before .apart-four .ensures) (y .before .before .before .u32-at .ensures) (y .before .before .u32-at2 .ensures) (c .before .before .before .before .before .before .u32-at4 .ensures) (c .before .before .before .before .before .provider .ensures)
+    (c .network-if .ensures)
+
+pub network-in-spec : {M : Type 1} → statement M
+network-in-spec =
+    tie.close
+    (tie.spec
+    network-fixed-requires
+    returns
+    u32-at-requires
+    u32-at-requires-2
+    cast-name
+    bit-0-requires
+    network-head-requires
+    text-at-requires
+    u32-at-requires-3
+    cast-text-at
+    text-at-requires-2
+    field-requires
+    text-at-requires-3
+    field-requires-2
+    text-at-requires-4
+    apart-four-requires
+    u32-at-requires-4
+    provider-requires
+    network-if-requires
+    returns-2)

@@ -1,0 +1,17 @@
+-- What the reader of LinkInfo answers, in terms of reading.
+use Prim.Native.Nat.{ℕ, _+_}
+use mathlib.Core.List.{List}
+use lib.ListN.{drop}
+use Rattle.format.specs.declared.Info.{Info}
+use Rattle.format.specs.Tests.{Outcome, got, refused}
+use Rattle.format.specs.Info.{info}
+use Rattle.info.specs.declared.InfoTaken.{InfoTaken}
+use Rattle.info.specs.declared.InfoTaken.the-variants.{Got, Refused}
+
+-- a refusal is at the section's start
+abbrev pub infoTaken : ℕ → Outcome Info → InfoTaken
+infoTaken p (got i n) = Got i (record { at = p + n })
+infoTaken p (refused f q) = Refused f
+
+unfoldable pub infoAt : List ℕ → ℕ → InfoTaken
+infoAt s p = infoTaken p (info p (drop p s))

@@ -1,0 +1,504 @@
+// LinkInfo, VolumeID and the network link, each read from its own part of the file.
+use format::Fault;
+use format::Info;
+use format::Label;
+use format::Network;
+use format::Place;
+use format::Volume;
+use format::bit_0;
+use format::bit_1;
+use octets::Cursor;
+use octets::Skipped;
+use octets::Took;
+use octets::Zero;
+ghost use mathlib.Core.Path.{_≡_};
+ghost use mathlib.Core.Bool.{true};
+ghost use mathlib.Core.List.{[], _∷_};
+ghost use Prim.Native.Nat.{_+_, _≤_};
+ghost use lib.ListN.{length};
+ghost use Rattle.octets.specs.Characters.{bytesOf, zeroFrom};
+ghost use Rattle.format.specs.Tests.{bit, all, noPlace};
+ghost use Rattle.format.specs.Pieces.{absentZero, apart, allApart};
+ghost use Rattle.format.specs.Volume.{labelLeast, labelOf, noVolume};
+ghost use Rattle.format.specs.Network.{networkHead, noNetwork};
+ghost use Rattle.info.specs.Found.{Near, fieldIf, makeText, textFound, endAt, labelAt, volumeIn, makeVolume, volumeFound};
+ghost use Rattle.info.specs.Found.{networkFixed, networkIf, networkIn, providerOf, makeNetwork, networkFound, infoFixed, piecesFound};
+ghost use Rattle.info.specs.Taken.{infoAt};
+
+// LinkInfo and the cursor after it, or why it is refused.
+pub enum InfoTaken {
+    Got(Info, Cursor),
+    Refused(Fault),
+}
+
+// A string that an offset leads to: whether it passes its tests, the bytes that it takes, and its body in the file. Zeros where it is absent or fails.
+pub struct Text {
+    pub ok: bool,
+    pub span: Place,
+    pub body: Place,
+}
+
+pub struct VolumeFound {
+    pub ok: bool,
+    pub span: Place,
+    pub volume: Volume,
+}
+
+pub struct NetworkFound {
+    pub ok: bool,
+    pub span: Place,
+    pub network: Network,
+}
+
+// The six pieces: whether all pass their tests, and what they say.
+pub struct Pieces {
+    pub ok: bool,
+    pub info: Info,
+}
+
+// Where a structure ends, in the part that holds it; or it does not lie inside.
+pub enum Ends {
+    At(usize),
+    Outside,
+}
+
+// What a VolumeID says, or it breaks a rule.
+pub enum VolumeRead {
+    Good(Volume),
+    Bad,
+}
+
+pub enum NetworkRead {
+    Good(Network),
+    Bad,
+}
+
+// ---- numbers and flags
+
+// A field that only some heads have, or 0.
+fn field(there: bool, l: &[u8], i: usize) -> usize
+    requires { ⌜ (there ≡ true → i + 4 ≤ length (now l)) ⌝ }
+    ensures { λ r. ⌜ r ≡ fieldIf there (now (l .entry)) i ⌝ }
+{
+    if there {
+        return octets::u32_at(l, i) as usize;
+    }
+    0
+}
+
+// An absent part has the offset 0.
+fn absent_zero(present: bool, o: usize) -> bool
+    ensures { λ r. ⌜ r ≡ absentZero present o ⌝ }
+{
+    present | (o == 0)
+}
+
+// ---- strings
+
+fn bytes_of(unicode: bool, n: usize) -> usize
+    requires { ⌜ n ≤ 65536 ⌝ }
+    ensures { λ r. ⌜ r ≡ bytesOf unicode n ⌝ }
+{
+    if unicode { 2 * n } else { n }
+}
+
+// How many characters stand before the first zero one.
+fn scan(unicode: bool, l: &[u8], o: usize) -> Zero
+    ensures { λ r. ⌜ r ≡ zeroFrom unicode (now (l .entry)) o ⌝ }
+{
+    if unicode {
+        octets::zero_unit(l, o)
+    } else {
+        octets::zero_byte(l, o)
+    }
+}
+
+// Zeros for a string that is absent or fails.
+fn no_text(ok: bool) -> Text
+    ensures { λ r. ⌜ r ≡ makeText ok noPlace noPlace ⌝ }
+{
+    Text {
+        ok,
+        span: Place { at: 0, len: 0 },
+        body: Place { at: 0, len: 0 },
+    }
+}
+
+// The string at the offset o of the part l, which starts at start in the file.
+fn text_at(present: bool, unicode: bool, l: &[u8], start: usize, head: usize, o: usize) -> Text
+    requires { ⌜ start + length (now l) ≤ 65536 ⌝ }
+    ensures { λ r. ⌜ (r ≡ textFound present unicode (now (l .entry)) start head o) × Near (r .span) ⌝ }
+{
+    if !present {
+        return no_text(true);
+    }
+    if o < head {
+        return no_text(false);
+    }
+    let Zero::After(n) = scan(unicode, l, o) else {
+        return no_text(false);
+    };
+    let len = bytes_of(unicode, n);
+    let end = bytes_of(unicode, 1);
+    Text {
+        ok: true,
+        span: Place {
+            at: o,
+            len: len + end,
+        },
+        body: Place { at: start + o, len },
+    }
+}
+
+// ---- no two pieces share a byte
+
+fn apart(x: Place, y: Place) -> bool
+    requires { ⌜ Near x × Near y ⌝ }
+    ensures { λ r. ⌜ r ≡ apart x y ⌝ }
+{
+    (x.at + x.len <= y.at) | (y.at + y.len <= x.at)
+}
+
+fn apart_four(a: Place, b: Place, c: Place, d: Place) -> bool
+    requires { ⌜ Near a × Near b × Near c × Near d ⌝ }
+    ensures { λ r. ⌜ r ≡ allApart (a ∷ b ∷ c ∷ d ∷ []) ⌝ }
+{
+    apart(a, b) & apart(a, c) & apart(a, d) & apart(b, c) & apart(b, d) & apart(c, d)
+}
+
+fn apart_six(a: Place, b: Place, c: Place, d: Place, e: Place, f: Place) -> bool
+    requires { ⌜ Near a × Near b × Near c × Near d × Near e × Near f ⌝ }
+    ensures { λ r. ⌜ r ≡ allApart (a ∷ b ∷ c ∷ d ∷ e ∷ f ∷ []) ⌝ }
+{
+    apart(a, b)
+        & apart(a, c)
+        & apart(a, d)
+        & apart(a, e)
+        & apart(a, f)
+        & apart(b, c)
+        & apart(b, d)
+        & apart(b, e)
+        & apart(b, f)
+        & apart_four(c, d, e, f)
+}
+
+// ---- structures
+
+// A structure at the offset o says its size in its first four bytes.
+fn end_of(l: &[u8], head: usize, least: u32, o: usize) -> Ends
+    ensures { λ r. ⌜ r ≡ endAt (now (l .entry)) head least o ⌝ }
+{
+    if o < head {
+        return Ends::Outside;
+    }
+    let c = Cursor { at: o };
+    let Took::Number(size, _) = c.take_u32(l) else {
+        return Ends::Outside;
+    };
+    let Skipped::To(next) = c.skip(l, size as usize) else {
+        return Ends::Outside;
+    };
+    if size < least {
+        return Ends::Outside;
+    }
+    Ends::At(next.at)
+}
+
+// ---- VolumeID
+
+// Where the offset fields end.
+fn label_least(unicode: bool) -> usize
+    ensures { λ r. ⌜ r ≡ labelLeast unicode ⌝ }
+{
+    if unicode { 0x14 } else { 0x10 }
+}
+
+fn label_of(unicode: bool, b: Place) -> Label
+    ensures { λ r. ⌜ r ≡ labelOf unicode b ⌝ }
+{
+    if unicode {
+        Label::Unicode(b)
+    } else {
+        Label::Byte(b)
+    }
+}
+
+// The offset of the label of VolumeID v.
+fn label_offset(v: &[u8], unicode: bool) -> usize
+    requires { ⌜ (0x10 ≤ length (now v)) × (unicode ≡ true → 0x14 ≤ length (now v)) ⌝ }
+    ensures { λ r. ⌜ r ≡ labelAt (now (v .entry)) unicode ⌝ }
+{
+    if unicode {
+        octets::u32_at(v, 16) as usize
+    } else {
+        octets::u32_at(v, 12) as usize
+    }
+}
+
+// VolumeID from its own part of the file, which starts at the place at.
+fn volume_in(v: &[u8], at: usize) -> VolumeRead
+    requires { ⌜ (0x11 ≤ length (now v)) × (at + length (now v) ≤ 65536) ⌝ }
+    ensures { λ r. ⌜ r ≡ volumeIn at (now (v .entry)) ⌝ }
+{
+    let drive = octets::u32_at(v, 4);
+    let unicode = octets::u32_at(v, 12) == 0x14;
+    let least = label_least(unicode);
+    if (6 < drive) | (v.len() < least) {
+        return VolumeRead::Bad;
+    }
+    let t = text_at(true, unicode, v, at, least, label_offset(v, unicode));
+    if !t.ok {
+        return VolumeRead::Bad;
+    }
+    let b = t.body;
+    VolumeRead::Good(Volume {
+        drive,
+        serial: octets::u32_at(v, 8),
+        label: label_of(unicode, b),
+    })
+}
+
+// Zeros for a VolumeID that is absent or fails.
+fn no_volume(ok: bool) -> VolumeFound
+    ensures { λ r. ⌜ r ≡ makeVolume ok noPlace noVolume ⌝ }
+{
+    VolumeFound {
+        ok,
+        span: Place { at: 0, len: 0 },
+        volume: Volume {
+            drive: 0,
+            serial: 0,
+            label: Label::Byte(Place { at: 0, len: 0 }),
+        },
+    }
+}
+
+// VolumeID at the offset o of LinkInfo l, which starts at start in the file.
+fn volume(present: bool, l: &[u8], start: usize, head: usize, o: usize) -> VolumeFound
+    requires { ⌜ start + length (now l) ≤ 65536 ⌝ }
+    ensures { λ r. ⌜ (r ≡ volumeFound present (now (l .entry)) start head o) × Near (r .span) ⌝ }
+{
+    if !present {
+        return no_volume(true);
+    }
+    let Ends::At(e) = end_of(l, head, 0x11, o) else {
+        return no_volume(false);
+    };
+    let v = &l[o..e];
+    let VolumeRead::Good(volume) = volume_in(v, start + o) else {
+        return no_volume(false);
+    };
+    VolumeFound {
+        ok: true,
+        span: Place { at: o, len: e - o },
+        volume,
+    }
+}
+
+// ---- network link
+
+fn network_head(unicode: bool) -> usize
+    ensures { λ r. ⌜ r ≡ networkHead unicode ⌝ }
+{
+    if unicode { 0x1C } else { 0x14 }
+}
+
+// The tests of its head, which come before those of its strings.
+fn network_fixed(v: &[u8]) -> bool
+    requires { ⌜ 0x14 ≤ length (now v) ⌝ }
+    ensures { λ r. ⌜ r ≡ all (networkFixed (now (v .entry))) ⌝ }
+{
+    let flags = octets::u32_at(v, 4);
+    let name = octets::u32_at(v, 8);
+    let unicode = 0x14 < name;
+    if v.len() < network_head(unicode) {
+        return false;
+    }
+    let device = bit_0(flags);
+    (flags <= 3)
+        & (0x14 <= name)
+        & absent_zero(device, octets::u32_at(v, 12) as usize)
+        & absent_zero(device, field(unicode, v, 24))
+}
+
+// The provider type is kept by bit 1.
+fn provider(flags: u32, kept: u32) -> u32
+    ensures { λ r. ⌜ r ≡ providerOf flags kept ⌝ }
+{
+    if bit_1(flags) { kept } else { 0 }
+}
+
+fn network_if(ok: bool, n: Network) -> NetworkRead
+    ensures { λ r. ⌜ r ≡ networkIf ok n ⌝ }
+{
+    if ok {
+        NetworkRead::Good(n)
+    } else {
+        NetworkRead::Bad
+    }
+}
+
+// The network link from its own part of the file, which starts at the place at.
+fn network_in(v: &[u8], at: usize) -> NetworkRead
+    requires { ⌜ (0x14 ≤ length (now v)) × (at + length (now v) ≤ 65536) ⌝ }
+    ensures { λ r. ⌜ r ≡ networkIn at (now (v .entry)) ⌝ }
+{
+    if !network_fixed(v) {
+        return NetworkRead::Bad;
+    }
+    let flags = octets::u32_at(v, 4);
+    let name = octets::u32_at(v, 8) as usize;
+    let device = bit_0(flags);
+    let unicode = 0x14 < name;
+    let head = network_head(unicode);
+    let a = text_at(true, false, v, at, head, name);
+    let b = text_at(device, false, v, at, head, octets::u32_at(v, 12) as usize);
+    let c = text_at(unicode, true, v, at, head, field(unicode, v, 20));
+    let d = text_at(unicode & device, true, v, at, head, field(unicode, v, 24));
+    let ok = a.ok & b.ok & c.ok & d.ok & apart_four(a.span, b.span, c.span, d.span);
+    let provider = provider(flags, octets::u32_at(v, 16));
+    let net = a.body;
+    let device = b.body;
+    let net_unicode = c.body;
+    let device_unicode = d.body;
+    network_if(
+        ok,
+        Network {
+            flags,
+            provider,
+            unicode,
+            net,
+            device,
+            net_unicode,
+            device_unicode,
+        },
+    )
+}
+
+// Zeros for a network link that is absent or fails.
+fn no_network(ok: bool) -> NetworkFound
+    ensures { λ r. ⌜ r ≡ makeNetwork ok noPlace noNetwork ⌝ }
+{
+    NetworkFound {
+        ok,
+        span: Place { at: 0, len: 0 },
+        network: Network {
+            flags: 0,
+            provider: 0,
+            unicode: false,
+            net: Place { at: 0, len: 0 },
+            device: Place { at: 0, len: 0 },
+            net_unicode: Place { at: 0, len: 0 },
+            device_unicode: Place { at: 0, len: 0 },
+        },
+    }
+}
+
+// The network link at the offset o of LinkInfo l, which starts at start in the file.
+fn network(present: bool, l: &[u8], start: usize, head: usize, o: usize) -> NetworkFound
+    requires { ⌜ start + length (now l) ≤ 65536 ⌝ }
+    ensures { λ r. ⌜ (r ≡ networkFound present (now (l .entry)) start head o) × Near (r .span) ⌝ }
+{
+    if !present {
+        return no_network(true);
+    }
+    let Ends::At(e) = end_of(l, head, 0x14, o) else {
+        return no_network(false);
+    };
+    let v = &l[o..e];
+    let NetworkRead::Good(network) = network_in(v, start + o) else {
+        return no_network(false);
+    };
+    NetworkFound {
+        ok: true,
+        span: Place { at: o, len: e - o },
+        network,
+    }
+}
+
+// ---- LinkInfo
+
+// The tests of its fixed head, which come before those of its pieces.
+fn info_head(l: &[u8]) -> bool
+    requires { ⌜ 0x1C ≤ length (now l) ⌝ }
+    ensures { λ r. ⌜ r ≡ all (infoFixed (now (l .entry))) ⌝ }
+{
+    let head = octets::u32_at(l, 4) as usize;
+    let long = 0x24 <= head;
+    if !((head == 0x1C) | (long & (head <= l.len()))) {
+        return false;
+    }
+    let flags = octets::u32_at(l, 8);
+    let local = bit_0(flags);
+    (flags <= 3)
+        & absent_zero(local, octets::u32_at(l, 12) as usize)
+        & absent_zero(local, octets::u32_at(l, 16) as usize)
+        & absent_zero(bit_1(flags), octets::u32_at(l, 20) as usize)
+        & absent_zero(local, field(long, l, 28))
+}
+
+// What the offsets of LinkInfo l lead to; l starts at start in the file.
+fn info_pieces(l: &[u8], start: usize) -> Pieces
+    requires { ⌜ (0x1C ≤ length (now l)) × (start + length (now l) ≤ 65536) × (all (infoFixed (now l)) ≡ true) ⌝ }
+    ensures { λ r. ⌜ r ≡ piecesFound start (now (l .entry)) ⌝ }
+{
+    let head = octets::u32_at(l, 4) as usize;
+    let flags = octets::u32_at(l, 8);
+    let local = bit_0(flags);
+    let long = 0x24 <= head;
+    let a = volume(local, l, start, head, octets::u32_at(l, 12) as usize);
+    let b = text_at(local, false, l, start, head, octets::u32_at(l, 16) as usize);
+    let c = network(bit_1(flags), l, start, head, octets::u32_at(l, 20) as usize);
+    let d = text_at(true, false, l, start, head, octets::u32_at(l, 24) as usize);
+    let e = text_at(long & local, true, l, start, head, field(long, l, 28));
+    let f = text_at(long, true, l, start, head, field(long, l, 32));
+    let whole = a.ok & b.ok & c.ok & d.ok & e.ok & f.ok;
+    let far = apart_six(a.span, b.span, c.span, d.span, e.span, f.span);
+    let volume = a.volume;
+    let local = b.body;
+    let network = c.network;
+    let suffix = d.body;
+    let local_unicode = e.body;
+    let suffix_unicode = f.body;
+    Pieces {
+        ok: whole & far,
+        info: Info {
+            flags,
+            long,
+            volume,
+            local,
+            network,
+            suffix,
+            local_unicode,
+            suffix_unicode,
+        },
+    }
+}
+
+// LinkInfo at the cursor; its readers are given its part of the file, from its start to its declared end.
+pub fn info(s: &[u8], c: Cursor) -> InfoTaken
+    requires { ⌜ length (now s) ≤ 65536 ⌝ }
+    ensures { λ r. ⌜ r ≡ infoAt (now (s .entry)) (c .at) ⌝ }
+{
+    let Took::Number(size, _) = c.take_u32(s) else {
+        return InfoTaken::Refused(Fault::Cut);
+    };
+    if size < 0x1C {
+        return InfoTaken::Refused(Fault::Info);
+    }
+    let Skipped::To(next) = c.skip(s, size as usize) else {
+        return InfoTaken::Refused(Fault::Cut);
+    };
+    let at = c.at;
+    let end = next.at;
+    let l = &s[at..end];
+    if !info_head(l) {
+        return InfoTaken::Refused(Fault::Info);
+    }
+    let f = info_pieces(l, at);
+    if !f.ok {
+        return InfoTaken::Refused(Fault::Piece);
+    }
+    let i = f.info;
+    InfoTaken::Got(i, next)
+}

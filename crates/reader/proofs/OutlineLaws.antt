@@ -1,0 +1,300 @@
+-- The outline is the shortcut's reading.
+use mathlib.Core.Path.{_≡_, refl, sym, ap, _∙_}
+use mathlib.Core.List.{List, [], _∷_}
+use mathlib.Core.Bool.{Bool, true, false, cond}
+use Prim.Native.Nat.{ℕ, _+_, _-_, _≤_, _<_}
+use native.Mathlib.Omega.{arith}
+use lib.ListN.{length, take, drop}
+use lib.Dec.{leb, eqb}
+use borrow.Author.Tests.{le-leb, lt-leb, leb-true, leb-false}
+use Rattle.octets.specs.declared.Cursor.{Cursor}
+use Rattle.format.specs.declared.Fault.{Fault}
+use Rattle.format.specs.declared.Fault.the-variants.{Long as LONG, Cut as CUT, Trail as TRAIL}
+use Rattle.format.specs.declared.Header.{Header}
+use Rattle.format.specs.declared.Record.{Record}
+use Rattle.format.specs.declared.Reading.{Reading}
+use Rattle.format.specs.declared.Place.{Place}
+use Rattle.format.specs.declared.Info.{Info}
+use Rattle.format.specs.declared.Verdict.the-variants.{Accepted}
+use Rattle.format.specs.Tests.{Outcome, got, refused, Test, _else_, tests, bit, place, noPlace}
+use Rattle.format.specs.Header.{headerRules, headerFields, header}
+use Rattle.format.specs.Shortcut.{Section, Tail, Sections, most, found, tail, sections, shortcut, recordOf, verdictOf, heldBy, reading, sum}
+use Rattle.format.proofs.Chains.{tests-elim}
+use Rattle.header.specs.Taken.{headerTaken, headerAt}
+use Rattle.header.specs.declared.HeaderTaken.{HeaderTaken}
+use Rattle.header.specs.declared.HeaderTaken.the-variants.{Got, Refused}
+use Rattle.reader.specs.declared.Next.{Next}
+use Rattle.reader.specs.declared.Next.the-variants.{On, Off}
+use Rattle.reader.specs.declared.Outline.{Outline}
+use Rattle.reader.specs.declared.Ends.{Ends}
+use Rattle.reader.specs.declared.Step.{Step}
+use Rattle.reader.specs.declared.InfoStep.{InfoStep}
+use Rattle.reader.specs.Steps.{itemsStep, stringStep, infoStep, blocksStep, atOf, endsOf, outlineFrom}
+use Rattle.reader.specs.Finish.{refusedAt, finished, outlineOff, outlineAfter, outlineOf}
+use Rattle.reader.proofs.Runs.{Reached, Runs, sectionOf, From, then-from}
+use Rattle.reader.proofs.StepLaws.{position, items-from, string-from, info-from, BlocksFact, blocks-from}
+
+-- ---- the header
+
+header-tests : List ℕ → List Test
+header-tests s = leb 76 (length s) else CUT ∷ headerRules (take 76 s)
+
+header-size : (s : List ℕ) (g : Header) (n : ℕ) → header 0 s ≡ got g n → n ≡ 76
+unfolding header-tests
+header-size s g n e = tests-elim (λ g n. n ≡ 76) 0 (header-tests s) (headerFields (take 76 s)) 76 (λ c. refl) g n e
+
+header-here : (s : List ℕ) (f : Fault) (q : ℕ) → header 0 s ≡ refused f q → q ≡ 0
+unfolding header-tests
+header-here s f q e = position 0 (header-tests s) (headerFields (take 76 s)) 76 f q e
+
+pub record HeaderRead (s : List ℕ) (h : Header) (c : Cursor) : Type 0 where
+  pub is : header 0 s ≡ got h 76
+  pub at : c ≡ record { at = 76 }
+
+pub header-got : (s : List ℕ) {r : HeaderTaken} {h : Header} {c : Cursor} → r ≡ headerAt s → r ≡ Got h c → HeaderRead s h c
+unfolding headerAt
+header-got s {r} {h} {c} e k = go (header 0 s) refl (sym k ∙ e)
+  where
+    go : (o : Outcome Header) → header 0 s ≡ o → Got h c ≡ headerTaken o → HeaderRead s h c
+    go (got g n) i q =
+        let a : h ≡ g = cc in
+        let b : c ≡ record { at = n } = cc in
+        let m : n ≡ 76 = header-size s g n i in
+        record { is = i ∙ rw (a, m); at = b ∙ rw m }
+    go (refused f p) i q = absurd (let z : _≡_ {A = ℕ} 0 1 = cc in omega arith)
+
+pub header-refused : (s : List ℕ) {r : HeaderTaken} {f : Fault} → r ≡ headerAt s → r ≡ Refused f → header 0 s ≡ refused f 0
+unfolding headerAt
+header-refused s {r} {f} e k = go (header 0 s) refl (sym k ∙ e)
+  where
+    go : (o : Outcome Header) → header 0 s ≡ o → Refused f ≡ headerTaken o → header 0 s ≡ refused f 0
+    go (got g n) i q = absurd (let z : _≡_ {A = ℕ} 0 1 = cc in omega arith)
+    go (refused g p) i q =
+        let a : f ≡ g = cc in
+        i ∙ rw (header-here s g p i, a)
+
+-- ---- the sections after it
+
+abbrev Held : {A : Type 0} → Bool → ℕ → ℕ → A → Section A → Type 0
+Held b p e a c = c ≡ sectionOf b p e a
+
+-- each section stands where the outline says, and holds what it holds
+pub record Outlined (s : List ℕ) (h : Header) (o : Outline) (v : Tail) : Type 0 where
+  pub items : v .0 ≡ sectionOf (bit 0 (h .flags)) 76 (o .ends .items) (o .held .items)
+  pub info : v .1 .0 ≡ sectionOf (bit 1 (h .flags)) (o .ends .items) (o .ends .info) (o .held .info)
+  pub name : v .1 .1 .0 ≡ sectionOf (bit 2 (h .flags)) (o .ends .info) (o .ends .name) (o .held .name)
+  pub relative : v .1 .1 .1 .0 ≡ sectionOf (bit 3 (h .flags)) (o .ends .name) (o .ends .relative) (o .held .relative)
+  pub workdir : v .1 .1 .1 .1 .0 ≡ sectionOf (bit 4 (h .flags)) (o .ends .relative) (o .ends .workdir) (o .held .workdir)
+  pub arguments : v .1 .1 .1 .1 .1 .0 ≡ sectionOf (bit 5 (h .flags)) (o .ends .workdir) (o .ends .arguments) (o .held .arguments)
+  pub icon : v .1 .1 .1 .1 .1 .1 .0 ≡ sectionOf (bit 6 (h .flags)) (o .ends .arguments) (o .ends .icon) (o .held .icon)
+  pub blocks : BlocksFact s (o .ends .icon) (o .next) (o .held .blocks) (v .1 .1 .1 .1 .1 .1 .1)
+
+pub outline-runs : (s : List ℕ) (h : Header) → Runs s (tail (h .flags)) 76 (outlineFrom s h (record { at = 76 }) .next) (Outlined s h (outlineFrom s h (record { at = 76 })))
+unfolding outlineFrom atOf endsOf
+outline-runs s h =
+    let f = h .flags in
+    let u = bit 7 f in
+    let start : Next = On (record { at = 76 }) in
+    let items = itemsStep s (bit 0 f) start in
+    let info = infoStep s (bit 1 f) (items .next) in
+    let name = stringStep s (bit 2 f) u (info .next) in
+    let relative = stringStep s (bit 3 f) u (name .next) in
+    let workdir = stringStep s (bit 4 f) u (relative .next) in
+    let arguments = stringStep s (bit 5 f) u (workdir .next) in
+    let icon = stringStep s (bit 6 f) u (arguments .next) in
+    let r =
+    (then-from (items-from s (bit 0 f) start)
+    (then-from (info-from s (bit 1 f) (items .next))
+    (then-from (string-from s (bit 2 f) u (info .next))
+    (then-from (string-from s (bit 3 f) u (name .next))
+    (then-from (string-from s (bit 4 f) u (relative .next))
+    (then-from (string-from s (bit 5 f) u (workdir .next))
+    (then-from (string-from s (bit 6 f) u (arguments .next)) (blocks-from s (icon .next))))))))) .runs (record { at = 76 }) refl in
+    record {
+      on = λ c e.
+          let x = r .on c e in
+          let y = x .fact in
+          record {
+            value = x .value;
+            count = x .count;
+            is = x .is;
+            ends = x .ends;
+            fact = record {
+              items = y .0;
+              info = y .1 .0;
+              name = y .1 .1 .0;
+              relative = y .1 .1 .1 .0;
+              workdir = y .1 .1 .1 .1 .0;
+              arguments = y .1 .1 .1 .1 .1 .0;
+              icon = y .1 .1 .1 .1 .1 .1 .0;
+              blocks = y .1 .1 .1 .1 .1 .1 .1;
+            };
+          };
+      off = r .off;
+    }
+
+-- ---- the whole
+
+abbrev pub headerSection : Header → Section Header
+headerSection h = record { there = true; start = 0; len = 76; read = h }
+
+section-read : {A : Type 0} (b : Bool) (p e : ℕ) (a : A) → sectionOf b p e a .read ≡ a
+section-read true p e a = refl
+section-read false p e a = refl
+
+holds : {A : Type 0} (b : Bool) (p e : ℕ) (a : A) {c : Section A} → c ≡ sectionOf b p e a → c .read ≡ a
+holds b p e a k = ap (λ (x : Section _). x .read) k ∙ section-read b p e a
+
+abbrev pub outline : List ℕ → Header → Outline
+outline s h = outlineFrom s h (record { at = 76 })
+
+pub header-held : (s : List ℕ) (h : Header) → outline s h .held .header ≡ h
+unfolding outlineFrom
+header-held s h = refl
+
+record-held : (s : List ℕ) (h : Header) (v : Tail) → Outlined s h (outline s h) v → recordOf (headerSection h, v) ≡ outline s h .held
+record-held s h v F =
+    let f : ℕ = h .flags in
+    let o : Outline = outline s h in
+    let a : v .0 .read ≡ o .held .items = holds (bit 0 f) 76 (o .ends .items) (o .held .items) (F .items) in
+    let b : v .1 .0 .read ≡ o .held .info = holds (bit 1 f) (o .ends .items) (o .ends .info) (o .held .info) (F .info) in
+    let c : v .1 .1 .0 .read ≡ o .held .name = holds (bit 2 f) (o .ends .info) (o .ends .name) (o .held .name) (F .name) in
+    let d : v .1 .1 .1 .0 .read ≡ o .held .relative = holds (bit 3 f) (o .ends .name) (o .ends .relative) (o .held .relative) (F .relative) in
+    let e : v .1 .1 .1 .1 .0 .read ≡ o .held .workdir = holds (bit 4 f) (o .ends .relative) (o .ends .workdir) (o .held .workdir) (F .workdir) in
+    let g : v .1 .1 .1 .1 .1 .0 .read ≡ o .held .arguments = holds (bit 5 f) (o .ends .workdir) (o .ends .arguments) (o .held .arguments) (F .arguments) in
+    let i : v .1 .1 .1 .1 .1 .1 .0 .read ≡ o .held .icon = holds (bit 6 f) (o .ends .arguments) (o .ends .icon) (o .held .icon) (F .icon) in
+    let j : place (v .1 .1 .1 .1 .1 .1 .1 .start) (sum (v .1 .1 .1 .1 .1 .1 .1 .read)) ≡ o .held .blocks
+    = ap (λ (p : ℕ). place p (sum (v .1 .1 .1 .1 .1 .1 .1 .read))) (F .blocks .start) ∙ sym (F .blocks .body) in
+    same-record h (o .held) (sym (header-held s h)) a b c d e g i j
+  where
+    same-record : (g : Header) (r : Record) {x₁ x₃ x₄ x₅ x₆ x₇ x₈ : Place} {x₂ : Info} → g ≡ r .header → x₁ ≡ r .items → x₂ ≡ r .info → x₃ ≡ r .name → x₄ ≡ r .relative
+        → x₅ ≡ r .workdir → x₆ ≡ r .arguments → x₇ ≡ r .icon → x₈ ≡ r .blocks
+        → record { header = g; items = x₁; info = x₂; name = x₃; relative = x₄; workdir = x₅; arguments = x₆; icon = x₇; blocks = x₈ } ≡ r
+    same-record g r a b c d e f i j k = rw (a, b, c, d, e, f, i, j, k)
+
+pub sections-refused : (s : List ℕ) (h : Header) {f : Fault} {q : ℕ} → header 0 s ≡ got h 76 → tail (h .flags) 76 (drop 76 s) ≡ refused f q → sections 0 s ≡ refused f q
+unfolding sections
+sections-refused s h e k = rw (e, k)
+
+pub sections-got : (s : List ℕ) (h : Header) {v : Tail} {n : ℕ} → header 0 s ≡ got h 76 → tail (h .flags) 76 (drop 76 s) ≡ got v n
+    → sections 0 s ≡ got (headerSection h, v) (76 + n)
+unfolding sections
+sections-got s h e k = rw (e, k)
+
+module _ (s : List ℕ) (small : length s ≤ most) where
+  pub shortcut-refused : {f : Fault} {q : ℕ} → sections 0 s ≡ refused f q → shortcut s ≡ refused f q
+  unfolding shortcut
+  shortcut-refused e = rw (le-leb (length s) most small, e)
+
+  pub shortcut-ends : {c : Sections} {n : ℕ} → sections 0 s ≡ got c n → shortcut s ≡ tests n (eqb n (length s) else TRAIL ∷ []) (got c n)
+  unfolding shortcut
+  shortcut-ends e = rw (le-leb (length s) most small, e)
+
+  -- a refusal as an answer
+  pub refused-reading : {f : Fault} {q : ℕ} → shortcut s ≡ refused f q → refusedAt f q ≡ reading s
+  unfolding reading refusedAt
+  refused-reading e = rw e
+
+  accepted-reading : {c : Sections} {n : ℕ} {r : Record} → shortcut s ≡ got c n → recordOf c ≡ r → record { verdict = Accepted n; held = r } ≡ reading s
+  unfolding reading
+  accepted-reading e k = rw (e, k)
+
+  pub header-refused-shortcut : {f : Fault} → header 0 s ≡ refused f 0 → shortcut s ≡ refused f 0
+  unfolding sections
+  header-refused-shortcut e = shortcut-refused (rw e)
+
+  pub header-refused-reading : {f : Fault} → header 0 s ≡ refused f 0 → refusedAt f 0 ≡ reading s
+  header-refused-reading e = refused-reading (header-refused-shortcut e)
+
+  pub outline-reading : (h : Header) → header 0 s ≡ got h 76
+      → finished (length s) (outlineFrom s h (record { at = 76 }) .next) (outlineFrom s h (record { at = 76 }) .held) ≡ reading s
+  unfolding finished refusedAt
+  outline-reading h e = go (outline s h .next) refl
+    where
+      R : Runs s (tail (h .flags)) 76 (outline s h .next) (Outlined s h (outline s h))
+      R = outline-runs s h
+
+      ended : (c : Cursor) (x : Reached s (tail (h .flags)) 76 (c .at) (Outlined s h (outline s h)))
+          → (b : Bool) → eqb (c .at) (length s) ≡ b → finished (length s) (On c) (outline s h .held) ≡ reading s
+      ended c x true k =
+          let n : 76 + x .count ≡ c .at = x .ends in
+          let q : shortcut s ≡ got (headerSection h, x .value) (c .at) = shortcut-ends (sections-got s h e (x .is)) ∙ rw (n, k) in
+          rw k (accepted-reading q (record-held s h (x .value) (x .fact)))
+      ended c x false k =
+          let n : 76 + x .count ≡ c .at = x .ends in
+          let q : shortcut s ≡ refused TRAIL (c .at) = shortcut-ends (sections-got s h e (x .is)) ∙ rw (n, k) in
+          rw k (refused-reading q)
+
+      go : (t : Next) → outline s h .next ≡ t → finished (length s) t (outline s h .held) ≡ reading s
+      go (On c) k = ended c (R .on c k) (eqb (c .at) (length s)) refl
+      go (Off f q) k = refused-reading (shortcut-refused (sections-refused s h e (R .off f q k)))
+
+pub long-shortcut : (s : List ℕ) → most < length s → shortcut s ≡ refused LONG 65536
+unfolding shortcut
+long-shortcut s h = rw (lt-leb (length s) most h)
+
+pub long-reading : (s : List ℕ) → most < length s → refusedAt LONG 65536 ≡ reading s
+unfolding reading refusedAt
+long-reading s h = rw (long-shortcut s h)
+
+-- ---- for the code
+
+-- the outline from its steps
+pub outline-is : (s : List ℕ) (h : Header) (c : Cursor) {items name relative workdir arguments icon blocks : Step} {info : InfoStep} {e : Ends} {there : Bool}
+    → there ≡ bit 0 (h .flags)
+    → items ≡ itemsStep s there (On c)
+    → info ≡ infoStep s (bit 1 (h .flags)) (items .next)
+    → name ≡ stringStep s (bit 2 (h .flags)) (bit 7 (h .flags)) (info .next)
+    → relative ≡ stringStep s (bit 3 (h .flags)) (bit 7 (h .flags)) (name .next)
+    → workdir ≡ stringStep s (bit 4 (h .flags)) (bit 7 (h .flags)) (relative .next)
+    → arguments ≡ stringStep s (bit 5 (h .flags)) (bit 7 (h .flags)) (workdir .next)
+    → icon ≡ stringStep s (bit 6 (h .flags)) (bit 7 (h .flags)) (arguments .next)
+    → blocks ≡ blocksStep s (icon .next)
+    → e ≡ endsOf (items .next) (info .next) (name .next) (relative .next) (workdir .next) (arguments .next) (icon .next)
+    → record {
+      next = blocks .next;
+      held = record {
+        header = h;
+        items = items .held;
+        info = info .held;
+        name = name .held;
+        relative = relative .held;
+        workdir = workdir .held;
+        arguments = arguments .held;
+        icon = icon .held;
+        blocks = blocks .held;
+      };
+      ends = e;
+    }
+    ≡ outlineFrom s h c
+unfolding outlineFrom
+outline-is s h c p₀ p₁ p₂ p₃ p₄ p₅ p₆ p₇ p₈ q = rw (q, p₈, p₇, p₆, p₅, p₄, p₃, p₂, p₁, p₀)
+
+module _ (s : List ℕ) where
+  pub outline-long : {o : Outline} → most < length s → o ≡ outlineOff LONG 65536 → o ≡ outlineOf s
+  unfolding outlineOf
+  outline-long h e = rw (lt-leb (length s) most h) e
+
+  pub outline-got : {o : Outline} {t : HeaderTaken} {h : Header} {c : Cursor} → length s ≤ most → t ≡ headerAt s → t ≡ Got h c → o ≡ outlineFrom s h c → o ≡ outlineOf s
+  unfolding outlineOf
+  outline-got k e q r = rw (le-leb (length s) most k, ← e, q) r
+
+  pub outline-refused : {o : Outline} {t : HeaderTaken} {f : Fault} → length s ≤ most → t ≡ headerAt s → t ≡ Refused f → o ≡ outlineOff f 0 → o ≡ outlineOf s
+  unfolding outlineOf
+  outline-refused k e q r = rw (le-leb (length s) most k, ← e, q) r
+
+  -- the outline, finished, is the reading
+  pub outline-read : {o : Outline} {r : Reading} → o ≡ outlineOf s → r ≡ finished (length s) (o .next) (o .held) → r ≡ reading s
+  unfolding outlineOf outlineOff finished
+  outline-read {o} {r} e q = go (leb (length s) most) refl e
+    where
+      after : length s ≤ most → (t : HeaderTaken) → t ≡ headerAt s → o ≡ outlineAfter s t → r ≡ reading s
+      after k (Got h c) i x =
+          let g = header-got s i refl in
+          let y : o ≡ outlineFrom s h (record { at = 76 }) = x ∙ ap (outlineFrom s h) (g .at) in
+          q ∙ rw y (outline-reading s k h (g .is))
+      after k (Refused f) i x = q ∙ rw x (header-refused-reading s k (header-refused s i refl))
+
+      go : (b : Bool) → leb (length s) most ≡ b → o ≡ cond b (outlineAfter s (headerAt s)) (outlineOff LONG 65536) → r ≡ reading s
+      go true k x = after (leb-true (length s) most k) (headerAt s) refl x
+      go false k x = q ∙ rw x (long-reading s (leb-false (length s) most k))

@@ -1,0 +1,407 @@
+// Reading a shortcut: its sections one after another, by a cursor that goes on or has been refused.
+use blocks::Walked;
+use format::Fault;
+use format::Header;
+use format::Info;
+use format::Label;
+use format::Network;
+use format::Place;
+use format::Reading;
+use format::Record;
+use format::Verdict;
+use format::Volume;
+use header::HeaderTaken;
+use info::InfoTaken;
+use octets::Cursor;
+use sections::Taken;
+ghost use mathlib.Core.Path.{_≡_};
+ghost use Prim.Native.Nat.{_≤_};
+ghost use lib.ListN.{length};
+ghost use Rattle.format.specs.Info.{noInfo};
+ghost use Rattle.format.specs.Shortcut.{noRecord, reading};
+ghost use Rattle.format.specs.Tests.{noPlace};
+ghost use Rattle.reader.specs.Steps.{step, stepInfo, settled, itemsOn, itemsStep, stringOn, stringStep, infoOn, infoStep, blocksOn, blocksStep, atOf, endsOf, outlineFrom};
+ghost use Rattle.reader.specs.Finish.{refusedAt, finished, outlineOff, outlineOf};
+
+// Going on from the cursor, or refused with a fault at a position.
+pub enum Next {
+    On(Cursor),
+    Off(Fault, usize),
+}
+
+// A section of one body; zeros where it is absent or refused.
+pub struct Step {
+    pub next: Next,
+    pub held: Place,
+}
+
+pub struct InfoStep {
+    pub next: Next,
+    pub held: Info,
+}
+
+// Where each section after the header ends.
+pub struct Ends {
+    pub items: usize,
+    pub info: usize,
+    pub name: usize,
+    pub relative: usize,
+    pub workdir: usize,
+    pub arguments: usize,
+    pub icon: usize,
+}
+
+pub struct Outline {
+    pub next: Next,
+    pub held: Record,
+    pub ends: Ends,
+}
+
+fn none() -> Place
+    ensures { λ r. ⌜ r ≡ record { at = 0; len = 0 } ⌝ }
+{
+    Place { at: 0, len: 0 }
+}
+
+fn no_info() -> Info
+    ensures { λ r. ⌜ r ≡ noInfo ⌝ }
+{
+    Info {
+        flags: 0,
+        long: false,
+        volume: Volume {
+            drive: 0,
+            serial: 0,
+            label: Label::Byte(none()),
+        },
+        local: none(),
+        network: Network {
+            flags: 0,
+            provider: 0,
+            unicode: false,
+            net: none(),
+            device: none(),
+            net_unicode: none(),
+            device_unicode: none(),
+        },
+        suffix: none(),
+        local_unicode: none(),
+        suffix_unicode: none(),
+    }
+}
+
+// A section that starts at `at`.
+fn settle(at: usize, t: Taken) -> Step
+    ensures { λ r. ⌜ r ≡ settled at t ⌝ }
+{
+    match t {
+        Taken::Got(b, c) => Step {
+            next: Next::On(c),
+            held: b,
+        },
+        Taken::Refused(f) => Step {
+            next: Next::Off(f, at),
+            held: none(),
+        },
+    }
+}
+
+// A refusal goes through every later step.
+fn off(f: Fault, at: usize) -> Step
+    ensures { λ r. ⌜ r ≡ step (Next.Off f at) noPlace ⌝ }
+{
+    Step {
+        next: Next::Off(f, at),
+        held: none(),
+    }
+}
+
+fn items_on(s: &[u8], present: bool, c: Cursor) -> Step
+    ensures { λ r. ⌜ r ≡ itemsOn (now (s .entry)) present c ⌝ }
+{
+    if !present {
+        return Step {
+            next: Next::On(c),
+            held: none(),
+        };
+    }
+    settle(c.at, sections::items(s, c))
+}
+
+fn items_step(s: &[u8], present: bool, next: Next) -> Step
+    ensures { λ r. ⌜ r ≡ itemsStep (now (s .entry)) present next ⌝ }
+{
+    match next {
+        Next::On(c) => items_on(s, present, c),
+        Next::Off(f, p) => off(f, p),
+    }
+}
+
+fn string_on(s: &[u8], present: bool, unicode: bool, c: Cursor) -> Step
+    ensures { λ r. ⌜ r ≡ stringOn (now (s .entry)) present unicode c ⌝ }
+{
+    if !present {
+        return Step {
+            next: Next::On(c),
+            held: none(),
+        };
+    }
+    settle(c.at, sections::string(s, c, unicode))
+}
+
+fn string_step(s: &[u8], present: bool, unicode: bool, next: Next) -> Step
+    ensures { λ r. ⌜ r ≡ stringStep (now (s .entry)) present unicode next ⌝ }
+{
+    match next {
+        Next::On(c) => string_on(s, present, unicode, c),
+        Next::Off(f, p) => off(f, p),
+    }
+}
+
+fn info_off(f: Fault, at: usize) -> InfoStep
+    ensures { λ r. ⌜ r ≡ stepInfo (Next.Off f at) noInfo ⌝ }
+{
+    InfoStep {
+        next: Next::Off(f, at),
+        held: no_info(),
+    }
+}
+
+fn info_on(s: &[u8], present: bool, c: Cursor) -> InfoStep
+    requires { ⌜ length (now s) ≤ 65536 ⌝ }
+    ensures { λ r. ⌜ r ≡ infoOn (now (s .entry)) present c ⌝ }
+{
+    if !present {
+        return InfoStep {
+            next: Next::On(c),
+            held: no_info(),
+        };
+    }
+    match info::info(s, c) {
+        InfoTaken::Got(i, d) => InfoStep {
+            next: Next::On(d),
+            held: i,
+        },
+        InfoTaken::Refused(f) => info_off(f, c.at),
+    }
+}
+
+fn info_step(s: &[u8], present: bool, next: Next) -> InfoStep
+    requires { ⌜ length (now s) ≤ 65536 ⌝ }
+    ensures { λ r. ⌜ r ≡ infoStep (now (s .entry)) present next ⌝ }
+{
+    match next {
+        Next::On(c) => info_on(s, present, c),
+        Next::Off(f, p) => info_off(f, p),
+    }
+}
+
+fn blocks_on(s: &[u8], c: Cursor) -> Step
+    ensures { λ r. ⌜ r ≡ blocksOn (now (s .entry)) c ⌝ }
+{
+    match blocks::blocks(s, c) {
+        Walked::Body(b, d) => Step {
+            next: Next::On(d),
+            held: b,
+        },
+        Walked::Refused(f, p) => off(f, p),
+    }
+}
+
+fn blocks_step(s: &[u8], next: Next) -> Step
+    ensures { λ r. ⌜ r ≡ blocksStep (now (s .entry)) next ⌝ }
+{
+    match next {
+        Next::On(c) => blocks_on(s, c),
+        Next::Off(f, p) => off(f, p),
+    }
+}
+
+// Where the cursor stands; 0 after a refusal, where nobody asks.
+fn at_of(next: Next) -> usize
+    ensures { λ r. ⌜ r ≡ atOf next ⌝ }
+{
+    match next {
+        Next::On(c) => c.at,
+        Next::Off(_, _) => 0,
+    }
+}
+
+fn no_record() -> Record
+    ensures { λ r. ⌜ r ≡ noRecord ⌝ }
+{
+    Record {
+        header: Header {
+            flags: 0,
+            attributes: 0,
+            creation: 0,
+            access: 0,
+            write: 0,
+            file_size: 0,
+            icon_index: 0,
+            command: 0,
+            hotkey: 0,
+        },
+        items: none(),
+        info: no_info(),
+        name: none(),
+        relative: none(),
+        workdir: none(),
+        arguments: none(),
+        icon: none(),
+        blocks: none(),
+    }
+}
+
+fn ends_of(
+    items: Next,
+    info: Next,
+    name: Next,
+    relative: Next,
+    workdir: Next,
+    arguments: Next,
+    icon: Next,
+) -> Ends
+    ensures { λ r. ⌜ r ≡ endsOf items info name relative workdir arguments icon ⌝ }
+{
+    Ends {
+        items: at_of(items),
+        info: at_of(info),
+        name: at_of(name),
+        relative: at_of(relative),
+        workdir: at_of(workdir),
+        arguments: at_of(arguments),
+        icon: at_of(icon),
+    }
+}
+
+// The sections after the header, by its flags.
+fn outline_from(s: &[u8], h: Header, c: Cursor) -> Outline
+    requires { ⌜ length (now s) ≤ 65536 ⌝ }
+    ensures { λ r. ⌜ r ≡ outlineFrom (now (s .entry)) h c ⌝ }
+{
+    let f = h.flags;
+    let u = f / 128 % 2 == 1;
+    let Step {
+        next: items,
+        held: b1,
+    } = items_step(s, format::bit_0(f), Next::On(c));
+    let InfoStep {
+        next: info,
+        held: b2,
+    } = info_step(s, f / 2 % 2 == 1, items);
+    let Step {
+        next: name,
+        held: b3,
+    } = string_step(s, f / 4 % 2 == 1, u, info);
+    let Step {
+        next: relative,
+        held: b4,
+    } = string_step(s, f / 8 % 2 == 1, u, name);
+    let Step {
+        next: workdir,
+        held: b5,
+    } = string_step(s, f / 16 % 2 == 1, u, relative);
+    let Step {
+        next: arguments,
+        held: b6,
+    } = string_step(s, f / 32 % 2 == 1, u, workdir);
+    let Step {
+        next: icon,
+        held: b7,
+    } = string_step(s, f / 64 % 2 == 1, u, arguments);
+    let Step { next, held: b8 } = blocks_step(s, icon);
+    Outline {
+        next,
+        held: Record {
+            header: h,
+            items: b1,
+            info: b2,
+            name: b3,
+            relative: b4,
+            workdir: b5,
+            arguments: b6,
+            icon: b7,
+            blocks: b8,
+        },
+        ends: ends_of(items, info, name, relative, workdir, arguments, icon),
+    }
+}
+
+// A refusal before any section after the header is looked at.
+fn outline_off(f: Fault, at: usize) -> Outline
+    ensures { λ r. ⌜ r ≡ outlineOff f at ⌝ }
+{
+    Outline {
+        next: Next::Off(f, at),
+        held: no_record(),
+        ends: Ends {
+            items: 0,
+            info: 0,
+            name: 0,
+            relative: 0,
+            workdir: 0,
+            arguments: 0,
+            icon: 0,
+        },
+    }
+}
+
+// What stands where: every section that was reached, the record, and how it went on.
+pub fn outline_of(s: &[u8]) -> Outline
+    ensures { λ r. ⌜ r ≡ outlineOf (now (s .entry)) ⌝ }
+{
+    if 65536 < s.len() {
+        return outline_off(Fault::Long, 65536);
+    }
+    match header::header(s) {
+        HeaderTaken::Got(h, c) => outline_from(s, h, c),
+        HeaderTaken::Refused(f) => outline_off(f, 0),
+    }
+}
+
+fn refused(f: Fault, at: usize) -> Reading
+    ensures { λ r. ⌜ r ≡ refusedAt f at ⌝ }
+{
+    Reading {
+        verdict: Verdict::Refused(f, at),
+        held: no_record(),
+    }
+}
+
+// n is the shortcut's length.
+pub fn finish(n: usize, next: Next, held: Record) -> Reading
+    ensures { λ r. ⌜ r ≡ finished n next held ⌝ }
+{
+    match next {
+        Next::On(c) => {
+            let at = c.at;
+            if at == n {
+                return Reading {
+                    verdict: Verdict::Accepted(at),
+                    held,
+                };
+            }
+            refused(Fault::Trail, at)
+        }
+        Next::Off(f, p) => refused(f, p),
+    }
+}
+
+// The verdict on a shortcut, beside its record.
+pub fn read(s: &[u8]) -> Reading
+    ensures { λ r. ⌜ r ≡ reading (now (s .entry)) ⌝ }
+{
+    let o = outline_of(s);
+    let next = o.next;
+    let held = o.held;
+    finish(s.len(), next, held)
+}
+
+// The verdict alone.
+pub fn check(s: &[u8]) -> Verdict
+    ensures { λ r. ⌜ r ≡ reading (now (s .entry)) .verdict ⌝ }
+{
+    let g = read(s);
+    g.verdict
+}
