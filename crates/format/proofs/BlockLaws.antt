@@ -7,13 +7,12 @@ use native.Mathlib.Omega.{arith}
 use native.Mathlib.Nat.{add-sub-of-le}
 use lib.ListN.{length, take, drop, length-append, length-take, length-drop}
 use lib.Seq.{length-take-le, take-take, take-at, drop-at, drop-drop}
-use lib.Dec.{leb, ltb, eqb}
 use borrow.Author.Tests.{leb-true, le-leb, lt-leb, lt-ltb, le-ltb, eqb-true, eq-eqb}
 use Rattle.octets.specs.Numbers.{Bytes, little}
 use Rattle.octets.proofs.NumberLaws.{bytes-take, bytes-append, bytes-little, length-little, number-back, number-same}
 use Rattle.format.specs.declared.Fault.{Fault}
 use Rattle.format.specs.declared.Fault.the-variants.{Cut as CUT}
-use Rattle.format.specs.Tests.{Outcome, got, refused, Test, tests, Reader, andThen}
+use Rattle.format.specs.Tests.{Outcome, got, refused, tests, Reader, andThen}
 use Rattle.format.specs.Blocks.{blockSize, blockTests, blocksFrom, blocks}
 use Rattle.format.specs.Shortcut.{sum}
 use Rattle.format.specs.Writing.{blocksBytes, takes, writableBlocks}

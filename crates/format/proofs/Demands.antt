@@ -23,7 +23,7 @@ use Rattle.format.specs.Writing.{endToEnd, canonical, writable, writing}
 use Rattle.format.specs.Listing.{Row, listing, EndToEnd, rowBytes}
 use Rattle.format.specs.Demands.{Accepts, Refuses, ReadsAs, Writes, misplaced, unwritable, no-room, written, CutAt}
 use Rattle.format.proofs.Bools.{clash}
-use Rattle.format.proofs.WholeLaws.{decode, shortest, writes, refuses, beginning, can-valid, canonical-bytes}
+use Rattle.format.proofs.WholeLaws.{shortest, writes, refuses, beginning, can-valid, canonical-bytes}
 use Rattle.format.proofs.FoundLaws.{read-end-to-end}
 use Rattle.format.proofs.TypedLaws.{record-typed}
 use Rattle.format.proofs.AcceptedLaws.{accepted-read, shortcut-whole, accepted-length, accepted-present, accepted-inside, accepted-decode, decode-accepted, decode-refused}

@@ -5,7 +5,7 @@ use mathlib.Core.Bool.{Bool, true, false, cond}
 use Prim.Native.Nat.{ℕ, _-_, _<_, _^_}
 use native.Mathlib.Omega.{arith}
 use lib.ListN.{length, take}
-use lib.Dec.{leb, ltb, eqb}
+use lib.Dec.{leb, eqb}
 use lib.IntN.{ℤ, pos, negsuc}
 use borrow.Author.Tests.{lt-ltb, le-ltb}
 use Rattle.octets.specs.Numbers.{Bytes, number, numberAt, u16At, u32At, u64At, little}
@@ -17,7 +17,7 @@ use Rattle.format.specs.Header.{classIdentifier, magic, flagsOk, attribu
 use Rattle.format.specs.Ranges.{FitsSigned, FitsHeader}
 use Rattle.format.specs.Writing.{bits, headerBytes, writableHeader}
 use Rattle.format.proofs.Bools.{by-order, every-out, every-in}
-use Rattle.format.proofs.Chains.{Ok, Fits, Law, law-same}
+use Rattle.format.proofs.Chains.{Ok, Law, law-same}
 use Rattle.format.proofs.Sized.{SizedBack, Sized, sizedR, sized-law}
 
 -- ---- signed numbers

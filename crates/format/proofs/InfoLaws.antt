@@ -1,5 +1,5 @@
 -- The laws of LinkInfo.
-use mathlib.Core.Path.{_≡_, refl, sym, ap, _∙_}
+use mathlib.Core.Path.{_≡_, refl, sym, _∙_}
 use mathlib.Core.List.{List, [], _∷_, _++_, map}
 use mathlib.Core.Bool.{Bool, true, false, _&&_, _||_, cond}
 use Prim.Native.Nat.{ℕ, _+_, _≤_}
@@ -10,7 +10,7 @@ use borrow.Author.Tests.{leb-true, le-leb, lt-leb, eqb-true}
 use Rattle.octets.specs.Numbers.{Bytes, number, numberAt, u32At, little}
 use Rattle.octets.proofs.NumberLaws.{bytes-append, bytes-nil, bytes-little, length-little, number-back, number-little, number-same}
 use Rattle.format.specs.declared.Fault.the-variants.{Info as INFO}
-use Rattle.format.specs.Tests.{Test, _else_, all, bit}
+use Rattle.format.specs.Tests.{_else_, all, bit}
 use Rattle.format.specs.Pieces.{textEnds, textSize, textPiece, span}
 use Rattle.format.specs.Volume.{volumeRules, volumePiece}
 use Rattle.format.specs.Network.{networkRules, networkPiece}

@@ -8,7 +8,7 @@ use lib.ListN.{length, take, drop, length-append, length-drop}
 use lib.Seq.{take-at}
 use lib.Dec.{leb, ltb, eqb}
 use borrow.Author.Tests.{eqb-true, ltb-true, lt-ltb}
-use Rattle.octets.specs.Numbers.{Bytes, number, numberAt, u16At, little}
+use Rattle.octets.specs.Numbers.{Bytes, numberAt, u16At, little}
 use Rattle.octets.proofs.NumberLaws.{bytes-append, bytes-drop, bytes-take, bytes-nil, bytes-cons, bytes-little, length-little, number-back, number-below, number-same}
 use Rattle.format.specs.Items.{walk, itemList, itemsLength, itemsRules}
 use Rattle.format.specs.Writing.{itemsBytes, writableItems}

@@ -4,7 +4,7 @@ use mathlib.Core.List.{List, [], _∷_}
 use mathlib.Core.Bool.{Bool, true, false, _&&_, cond}
 use Prim.Native.Nat.{ℕ, _+_, _-_}
 use native.Mathlib.Omega.{arith}
-use lib.ListN.{length, take, drop, length-take}
+use lib.ListN.{length, take, drop}
 use lib.Seq.{drop-drop, length-take-le}
 use lib.Dec.{leb, eqb}
 use borrow.Author.Tests.{leb-true}
@@ -12,13 +12,12 @@ use Rattle.octets.specs.Numbers.{u16At, u32At}
 use Rattle.octets.specs.Characters.{bytesOf}
 use Rattle.octets.proofs.NumberLaws.{part-inside}
 use Rattle.format.specs.declared.Place.{Place}
-use Rattle.format.specs.declared.Info.{Info}
 use Rattle.format.specs.declared.Header.{Header}
 use Rattle.format.specs.declared.Fault.the-variants.{Long as LONG, Trail as TRAIL, Info as INFO}
 use Rattle.format.specs.Tests.{Outcome, got, refused, bit, place, noPlace, _else_, tests, andThen, optional}
 use Rattle.format.specs.Header.{header}
 use Rattle.format.specs.Items.{itemsLength, itemsRules, items}
-use Rattle.format.specs.Volume.{labelUnicode, labelOffset, labelOf, noVolume, volumeAt}
+use Rattle.format.specs.Volume.{labelUnicode, labelOffset, labelOf, volumeAt}
 use Rattle.format.specs.Network.{hasDevice, networkUnicode, networkAt}
 use Rattle.format.specs.Info.{infoSize, longHead, hasLocal, hasNetwork, infoRules, infoFields, info, noInfo}
 use Rattle.format.specs.Strings.{stringLength, string}

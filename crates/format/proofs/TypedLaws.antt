@@ -4,7 +4,7 @@ use mathlib.Core.List.{List, []}
 use mathlib.Core.Bool.{Bool, true, false, _&&_, cond}
 use Prim.Native.Nat.{ℕ, _<_, _^_}
 use native.Mathlib.Omega.{arith}
-use lib.ListN.{take, drop}
+use lib.ListN.{drop}
 use Rattle.octets.specs.Numbers.{Bytes}
 use Rattle.octets.proofs.NumberLaws.{bytes-take, bytes-drop}
 use Rattle.format.specs.declared.Place.{Place}

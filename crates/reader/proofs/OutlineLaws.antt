@@ -2,7 +2,7 @@
 use mathlib.Core.Path.{_≡_, refl, sym, ap, _∙_}
 use mathlib.Core.List.{List, [], _∷_}
 use mathlib.Core.Bool.{Bool, true, false, cond}
-use Prim.Native.Nat.{ℕ, _+_, _-_, _≤_, _<_}
+use Prim.Native.Nat.{ℕ, _+_, _≤_, _<_}
 use native.Mathlib.Omega.{arith}
 use lib.ListN.{length, take, drop}
 use lib.Dec.{leb, eqb}
@@ -16,9 +16,9 @@ use Rattle.format.specs.declared.Reading.{Reading}
 use Rattle.format.specs.declared.Place.{Place}
 use Rattle.format.specs.declared.Info.{Info}
 use Rattle.format.specs.declared.Verdict.the-variants.{Accepted}
-use Rattle.format.specs.Tests.{Outcome, got, refused, Test, _else_, tests, bit, place, noPlace}
+use Rattle.format.specs.Tests.{Outcome, got, refused, Test, _else_, tests, bit, place}
 use Rattle.format.specs.Header.{headerRules, headerFields, header}
-use Rattle.format.specs.Shortcut.{Section, Tail, Sections, most, found, tail, sections, shortcut, recordOf, verdictOf, heldBy, reading, sum}
+use Rattle.format.specs.Shortcut.{Section, Tail, Sections, most, tail, sections, shortcut, recordOf, reading, sum}
 use Rattle.format.proofs.Chains.{tests-elim}
 use Rattle.header.specs.Taken.{headerTaken, headerAt}
 use Rattle.header.specs.declared.HeaderTaken.{HeaderTaken}
@@ -31,7 +31,7 @@ use Rattle.reader.specs.declared.Step.{Step}
 use Rattle.reader.specs.declared.InfoStep.{InfoStep}
 use Rattle.reader.specs.Steps.{itemsStep, stringStep, infoStep, blocksStep, atOf, endsOf, outlineFrom}
 use Rattle.reader.specs.Finish.{refusedAt, finished, outlineOff, outlineAfter, outlineOf}
-use Rattle.reader.proofs.Runs.{Reached, Runs, sectionOf, From, then-from}
+use Rattle.reader.proofs.Runs.{Reached, Runs, sectionOf, then-from}
 use Rattle.reader.proofs.StepLaws.{position, items-from, string-from, info-from, BlocksFact, blocks-from}
 
 -- ---- the header

@@ -1,20 +1,16 @@
 -- The reader's steps follow the sections as they are defined: what a step leads to is what the section's reader says.
 use mathlib.Core.Path.{_≡_, refl, sym, ap, _∙_}
-use mathlib.Core.List.{List, [], _∷_, _++_}
-use mathlib.Core.Bool.{Bool, true, false, cond}
-use Prim.Native.Nat.{ℕ, _+_, _-_, _≤_}
+use mathlib.Core.List.{List}
+use mathlib.Core.Bool.{Bool, true, false}
+use Prim.Native.Nat.{ℕ, _+_, _-_}
 use native.Mathlib.Omega.{arith}
 use native.Mathlib.Nat.{add-assoc}
-use lib.ListN.{length, drop}
+use lib.ListN.{drop}
 use lib.Seq.{drop-drop}
 use Rattle.octets.specs.declared.Cursor.{Cursor}
 use Rattle.format.specs.declared.Fault.{Fault}
-use Rattle.format.specs.declared.Place.{Place}
-use Rattle.format.specs.declared.Info.{Info}
-use Rattle.format.specs.Tests.{Outcome, got, refused, Test, tests, place, noPlace, Reader, andThen, chain, _then_}
-use Rattle.format.specs.Info.{noInfo}
+use Rattle.format.specs.Tests.{got, refused, Reader, _then_}
 use Rattle.format.specs.Shortcut.{Section, found, sectionIf, absent}
-use Rattle.format.proofs.Chains.{no-value}
 use Rattle.reader.specs.declared.Next.{Next}
 use Rattle.reader.specs.declared.Next.the-variants.{On, Off}
 use Rattle.reader.specs.Steps.{atOf}

@@ -18,11 +18,10 @@ use Rattle.format.specs.Items.{itemsLength, itemsRules, items}
 use Rattle.format.specs.Info.{infoSize, infoRules, infoFields, info, noInfo}
 use Rattle.format.specs.Strings.{stringLength, string}
 use Rattle.format.specs.Blocks.{blocks}
-use Rattle.format.specs.Shortcut.{Section, found, sectionIf, stringSection, sum}
+use Rattle.format.specs.Shortcut.{Section, found, sectionIf, sum}
 use Rattle.format.proofs.Sized.{sizedTests}
 use Rattle.format.proofs.ItemsLaws.{itemsValue}
 use Rattle.format.proofs.InfoLaws.{infoValue}
-use Rattle.sections.specs.declared.Taken.{Taken}
 use Rattle.sections.specs.Taken.{placeTaken, stringAt, itemsAt}
 use Rattle.info.specs.Taken.{infoTaken, infoAt}
 use Rattle.blocks.specs.Walk.{walkedFrom, blocksAt}
@@ -31,7 +30,7 @@ use Rattle.reader.specs.declared.Next.the-variants.{On, Off}
 use Rattle.reader.specs.declared.Step.{Step}
 use Rattle.reader.specs.declared.InfoStep.{InfoStep}
 use Rattle.reader.specs.Steps.{step, stepInfo, settled, itemsOn, itemsStep, stringOn, stringStep, settledInfo, infoOn, infoStep, settledBlocks, blocksOn, blocksStep, atOf}
-use Rattle.reader.proofs.Runs.{Reached, Runs, on-not-off, sectionOf, Stepped, section-runs, From}
+use Rattle.reader.proofs.Runs.{Runs, on-not-off, sectionOf, Stepped, section-runs, From}
 
 -- a refusal by tests stands where the section starts
 pub position : {A : Type 0} (p : ℕ) (ts : List Test) (a : A) (n : ℕ) (f : Fault) (q : ℕ) → tests p ts (got a n) ≡ refused f q → q ≡ p

@@ -2,14 +2,10 @@
 use Prim.Native.Nat.{ℕ}
 use mathlib.Core.List.{List}
 use mathlib.Core.Bool.{Bool, cond}
-use lib.ListN.{length}
-use lib.Dec.{eqb}
 use Rattle.octets.specs.declared.Cursor.{Cursor}
 use Rattle.format.specs.declared.Place.{Place}
 use Rattle.format.specs.declared.Header.{Header}
 use Rattle.format.specs.declared.Info.{Info}
-use Rattle.format.specs.declared.Record.{Record}
-use Rattle.format.specs.declared.Fault.{Fault}
 use Rattle.format.specs.Tests.{bit, noPlace}
 use Rattle.format.specs.Info.{noInfo}
 use Rattle.sections.specs.declared.Taken.{Taken}

@@ -2,33 +2,23 @@ use Rattle.reader.specs.Steps.{blocksOn, settledBlocks}
 use borrow.Author.Needs.{needs}
 use Rattle.reader.proofs.blocks_on.Statement.{statement}
 use Rattle.reader.proofs.blocks_on.Tie as tie
-use Rattle.reader.proofs.blocks_on.Reads as reads
-use Rattle.reader.proofs.blocks_on.Lts as lts
-use Rattle.blocks.proofs.blocks.Reads as blocks-reads
-use Rattle.reader.proofs.off.Reads as off-reads
 
--- src/lib.rt:172:11
 blocks-requires : tie.Need-blocks-requires
 blocks-requires c κs = search needs
 
--- src/lib.rt:173:22
 enum-known-b : tie.Need-enum-known-b
 enum-known-b c = search needs
 
--- src/lib.rt:177:25
 enum-known-f : tie.Need-enum-known-f
 enum-known-f c = search needs
 
--- src/lib.rt:177:34
 off-requires : tie.Need-off-requires
 off-requires c κs = search needs
 
--- src/lib.rt:169:1
 returns : tie.Need-returns
 unfolding blocksOn settledBlocks
 returns c = rw (← (c .before .before .before .blocks2 .ensures), c .before .b .given .1)
 
--- src/lib.rt:169:1
 returns-2 : tie.Need-returns-2
 unfolding blocksOn settledBlocks
 returns-2 c = rw (← (c .before .before .before .before .blocks2 .ensures), c .before .before .f .given .1) (c .off .ensures)

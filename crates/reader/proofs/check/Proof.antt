@@ -3,15 +3,10 @@ use mathlib.Core.Path.{ap}
 use borrow.Author.Needs.{needs}
 use Rattle.reader.proofs.check.Statement.{statement}
 use Rattle.reader.proofs.check.Tie as tie
-use Rattle.reader.proofs.check.Reads as reads
-use Rattle.reader.proofs.check.Lts as lts
-use Rattle.reader.proofs.read.Reads as read-reads
 
--- src/lib.rt:375:9
 read-requires : tie.Need-read-requires
 read-requires c κs = search needs
 
--- src/lib.rt:372:1
 returns : tie.Need-returns
 returns c = ap (λ (x : Reading). x .verdict) (c .read .ensures)
 

@@ -2,39 +2,28 @@ use Rattle.reader.specs.Steps.{endsOf}
 use borrow.Author.Needs.{needs}
 use Rattle.reader.proofs.ends_of.Statement.{statement}
 use Rattle.reader.proofs.ends_of.Tie as tie
-use Rattle.reader.proofs.ends_of.Reads as reads
-use Rattle.reader.proofs.ends_of.Lts as lts
-use Rattle.reader.proofs.at_of.Reads as at-of-reads
 
--- src/lib.rt:259:16
 at-of-requires : tie.Need-at-of-requires
 at-of-requires c κs = search needs
 
--- src/lib.rt:260:15
 at-of-requires-2 : tie.Need-at-of-requires-2
 at-of-requires-2 c κs = search needs
 
--- src/lib.rt:261:15
 at-of-requires-3 : tie.Need-at-of-requires-3
 at-of-requires-3 c κs = search needs
 
--- src/lib.rt:262:19
 at-of-requires-4 : tie.Need-at-of-requires-4
 at-of-requires-4 c κs = search needs
 
--- src/lib.rt:263:18
 at-of-requires-5 : tie.Need-at-of-requires-5
 at-of-requires-5 c κs = search needs
 
--- src/lib.rt:264:20
 at-of-requires-6 : tie.Need-at-of-requires-6
 at-of-requires-6 c κs = search needs
 
--- src/lib.rt:265:15
 at-of-requires-7 : tie.Need-at-of-requires-7
 at-of-requires-7 c κs = search needs
 
--- src/lib.rt:255:1
 returns : tie.Need-returns
 unfolding endsOf
 returns c =

@@ -3,37 +3,27 @@ use borrow.Author.Tests.{eq-eqb, ne-eqb}
 use borrow.Author.Needs.{needs}
 use Rattle.reader.proofs.finish.Statement.{statement}
 use Rattle.reader.proofs.finish.Tie as tie
-use Rattle.reader.proofs.finish.Reads as reads
-use Rattle.reader.proofs.finish.Lts as lts
-use Rattle.reader.proofs.refused.Reads as refused-reads
 
--- src/lib.rt:341:18
 enum-known-next : tie.Need-enum-known-next
 enum-known-next c = search needs
 
--- src/lib.rt:344:17
 returns : tie.Need-returns
 unfolding finished
 returns c = rw (c .before .before .next .given .1, eq-eqb _ _ (c .if1 .taken))
 
--- src/lib.rt:349:13
 refused-requires : tie.Need-refused-requires
 refused-requires c κs = search needs
 
--- src/lib.rt:351:19
 enum-known-next-2 : tie.Need-enum-known-next-2
 enum-known-next-2 c = search needs
 
--- src/lib.rt:351:28
 refused-requires-2 : tie.Need-refused-requires-2
 refused-requires-2 c κs = search needs
 
--- src/lib.rt:337:1
 returns-2 : tie.Need-returns-2
 unfolding finished
 returns-2 c = rw (c .before .before .before .next .given .1, ne-eqb _ _ (c .before .if1 .left)) (c .refused .ensures)
 
--- src/lib.rt:337:1
 returns-3 : tie.Need-returns-3
 unfolding finished
 returns-3 c = rw (c .before .before .next2 .given .1) (c .refused2 .ensures)

@@ -3,44 +3,31 @@ use borrow.Author.Tests.{not-true, not-false}
 use borrow.Author.Needs.{needs}
 use Rattle.reader.proofs.info_on.Statement.{statement}
 use Rattle.reader.proofs.info_on.Tie as tie
-use Rattle.reader.proofs.info_on.Reads as reads
-use Rattle.reader.proofs.info_on.Lts as lts
-use Rattle.info.proofs.info.Reads as info-reads
-use Rattle.reader.proofs.info_off.Reads as info-off-reads
-use Rattle.reader.proofs.no_info.Reads as no-info-reads
 
--- src/lib.rt:177:19
 no-info-requires : tie.Need-no-info-requires
 no-info-requires c κs = search needs
 
--- src/lib.rt:175:9
 returns : tie.Need-returns
 unfolding infoOn
 returns c = rw (not-true (c .before .before .before .args .present) (c .before .if1 .taken), c .no-info .ensures)
 
--- src/lib.rt:180:11
 info-requires : tie.Need-info-requires
 info-requires c κs = search needs
 
--- src/lib.rt:181:24
 enum-known-i : tie.Need-enum-known-i
 enum-known-i c = search needs
 
--- src/lib.rt:185:28
 enum-known-f : tie.Need-enum-known-f
 enum-known-f c = search needs
 
--- src/lib.rt:185:34
 info-off-requires : tie.Need-info-off-requires
 info-off-requires c κs = search needs
 
--- src/lib.rt:170:1
 returns-2 : tie.Need-returns-2
 unfolding infoOn settledInfo
 returns-2 c =
     rw (not-false (c .before .before .before .before .before .before .args .present) (c .before .before .before .before .if1 .left), ← (c .before .before .before .info .ensures), c .before .i .given .1)
 
--- src/lib.rt:170:1
 returns-3 : tie.Need-returns-3
 unfolding infoOn settledInfo
 returns-3 c =

@@ -2,33 +2,23 @@ use Rattle.reader.specs.Steps.{infoStep}
 use borrow.Author.Needs.{needs}
 use Rattle.reader.proofs.info_step.Statement.{statement}
 use Rattle.reader.proofs.info_step.Tie as tie
-use Rattle.reader.proofs.info_step.Reads as reads
-use Rattle.reader.proofs.info_step.Lts as lts
-use Rattle.reader.proofs.info_off.Reads as info-off-reads
-use Rattle.reader.proofs.info_on.Reads as info-on-reads
 
--- src/lib.rt:194:18
 enum-known-next : tie.Need-enum-known-next
 enum-known-next c = search needs
 
--- src/lib.rt:194:24
 info-on-requires : tie.Need-info-on-requires
 info-on-requires c κs = search needs
 
--- src/lib.rt:195:19
 enum-known-next-2 : tie.Need-enum-known-next-2
 enum-known-next-2 c = search needs
 
--- src/lib.rt:195:28
 info-off-requires : tie.Need-info-off-requires
 info-off-requires c κs = search needs
 
--- src/lib.rt:189:1
 returns : tie.Need-returns
 unfolding infoStep
 returns c = rw (c .before .before .next .given .1) (c .info-on .ensures)
 
--- src/lib.rt:189:1
 returns-2 : tie.Need-returns-2
 unfolding infoStep
 returns-2 c = rw (c .before .before .next2 .given .1) (c .info-off .ensures)

@@ -3,30 +3,20 @@ use borrow.Author.Tests.{not-true, not-false}
 use borrow.Author.Needs.{needs}
 use Rattle.reader.proofs.items_on.Statement.{statement}
 use Rattle.reader.proofs.items_on.Tie as tie
-use Rattle.reader.proofs.items_on.Reads as reads
-use Rattle.reader.proofs.items_on.Lts as lts
-use Rattle.reader.proofs.none.Reads as none-reads
-use Rattle.reader.proofs.settle.Reads as settle-reads
-use Rattle.sections.proofs.items.Reads as items-reads
 
--- src/lib.rt:124:19
 none-requires : tie.Need-none-requires
 none-requires c κs = search needs
 
--- src/lib.rt:122:9
 returns : tie.Need-returns
 unfolding itemsOn
 returns c = rw (not-true (c .before .before .before .args .present) (c .before .if1 .taken), c .none .ensures)
 
--- src/lib.rt:127:18
 items-requires : tie.Need-items-requires
 items-requires c κs = search needs
 
--- src/lib.rt:127:5
 settle-requires : tie.Need-settle-requires
 settle-requires c κs = search needs
 
--- src/lib.rt:118:1
 returns-2 : tie.Need-returns-2
 unfolding itemsOn
 returns-2 c = rw (not-false (c .before .before .before .before .args .present) (c .before .before .if1 .left), c .settle .ensures, c .before .items .ensures)

@@ -2,33 +2,23 @@ use Rattle.reader.specs.Steps.{itemsStep}
 use borrow.Author.Needs.{needs}
 use Rattle.reader.proofs.items_step.Statement.{statement}
 use Rattle.reader.proofs.items_step.Tie as tie
-use Rattle.reader.proofs.items_step.Reads as reads
-use Rattle.reader.proofs.items_step.Lts as lts
-use Rattle.reader.proofs.items_on.Reads as items-on-reads
-use Rattle.reader.proofs.off.Reads as off-reads
 
--- src/lib.rt:134:18
 enum-known-next : tie.Need-enum-known-next
 enum-known-next c = search needs
 
--- src/lib.rt:134:24
 items-on-requires : tie.Need-items-on-requires
 items-on-requires c κs = search needs
 
--- src/lib.rt:135:19
 enum-known-next-2 : tie.Need-enum-known-next-2
 enum-known-next-2 c = search needs
 
--- src/lib.rt:135:28
 off-requires : tie.Need-off-requires
 off-requires c κs = search needs
 
--- src/lib.rt:130:1
 returns : tie.Need-returns
 unfolding itemsStep
 returns c = rw (c .before .before .next .given .1) (c .items-on .ensures)
 
--- src/lib.rt:130:1
 returns-2 : tie.Need-returns-2
 unfolding itemsStep
 returns-2 c = rw (c .before .before .next2 .given .1) (c .off .ensures)

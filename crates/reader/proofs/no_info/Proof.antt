@@ -1,47 +1,34 @@
 use borrow.Author.Needs.{needs}
 use Rattle.reader.proofs.no_info.Statement.{statement}
 use Rattle.reader.proofs.no_info.Tie as tie
-use Rattle.reader.proofs.no_info.Reads as reads
-use Rattle.reader.proofs.no_info.Lts as lts
-use Rattle.reader.proofs.none.Reads as none-reads
 
--- src/lib.rt:74:32
 none-requires : tie.Need-none-requires
 none-requires c κs = search needs
 
--- src/lib.rt:76:16
 none-requires-2 : tie.Need-none-requires-2
 none-requires-2 c κs = search needs
 
--- src/lib.rt:81:18
 none-requires-3 : tie.Need-none-requires-3
 none-requires-3 c κs = search needs
 
--- src/lib.rt:82:21
 none-requires-4 : tie.Need-none-requires-4
 none-requires-4 c κs = search needs
 
--- src/lib.rt:83:26
 none-requires-5 : tie.Need-none-requires-5
 none-requires-5 c κs = search needs
 
--- src/lib.rt:84:29
 none-requires-6 : tie.Need-none-requires-6
 none-requires-6 c κs = search needs
 
--- src/lib.rt:86:17
 none-requires-7 : tie.Need-none-requires-7
 none-requires-7 c κs = search needs
 
--- src/lib.rt:87:24
 none-requires-8 : tie.Need-none-requires-8
 none-requires-8 c κs = search needs
 
--- src/lib.rt:88:25
 none-requires-9 : tie.Need-none-requires-9
 none-requires-9 c κs = search needs
 
--- src/lib.rt:65:1
 returns : tie.Need-returns
 returns c = cc
 

@@ -1,44 +1,31 @@
 use borrow.Author.Needs.{needs}
 use Rattle.reader.proofs.no_record.Statement.{statement}
 use Rattle.reader.proofs.no_record.Tie as tie
-use Rattle.reader.proofs.no_record.Reads as reads
-use Rattle.reader.proofs.no_record.Lts as lts
-use Rattle.reader.proofs.no_info.Reads as no-info-reads
-use Rattle.reader.proofs.none.Reads as none-reads
 
--- src/lib.rt:244:16
 none-requires : tie.Need-none-requires
 none-requires c κs = search needs
 
--- src/lib.rt:245:15
 no-info-requires : tie.Need-no-info-requires
 no-info-requires c κs = search needs
 
--- src/lib.rt:246:15
 none-requires-2 : tie.Need-none-requires-2
 none-requires-2 c κs = search needs
 
--- src/lib.rt:247:19
 none-requires-3 : tie.Need-none-requires-3
 none-requires-3 c κs = search needs
 
--- src/lib.rt:248:18
 none-requires-4 : tie.Need-none-requires-4
 none-requires-4 c κs = search needs
 
--- src/lib.rt:249:20
 none-requires-5 : tie.Need-none-requires-5
 none-requires-5 c κs = search needs
 
--- src/lib.rt:250:15
 none-requires-6 : tie.Need-none-requires-6
 none-requires-6 c κs = search needs
 
--- src/lib.rt:251:17
 none-requires-7 : tie.Need-none-requires-7
 none-requires-7 c κs = search needs
 
--- src/lib.rt:229:1
 returns : tie.Need-returns
 returns c =
     rw (c .before .before .before .before .before .before .before .none .ensures, c .before .before .before .before .before .before .no-info .ensures, c .before .before .before .before .before .none2 .ensures, c .before .before .before .before .none3 .ensures, c .before .before .before .none4 .ensures, c .before .before .none5 .ensures, c .before .none6 .ensures, c .none7 .ensures)

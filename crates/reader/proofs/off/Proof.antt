@@ -5,15 +5,10 @@ use mathlib.Core.Path.{ap}
 use borrow.Author.Needs.{needs}
 use Rattle.reader.proofs.off.Statement.{statement}
 use Rattle.reader.proofs.off.Tie as tie
-use Rattle.reader.proofs.off.Reads as reads
-use Rattle.reader.proofs.off.Lts as lts
-use Rattle.reader.proofs.none.Reads as none-reads
 
--- src/lib.rt:114:15
 none-requires : tie.Need-none-requires
 none-requires c κs = search needs
 
--- src/lib.rt:109:1
 returns : tie.Need-returns
 returns c = ap (λ (b : Place). step (Off (c .before .args .f) (c .before .args .at)) b) (c .none .ensures)
 

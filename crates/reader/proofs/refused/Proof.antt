@@ -2,15 +2,10 @@ use Rattle.reader.specs.Finish.{refusedAt}
 use borrow.Author.Needs.{needs}
 use Rattle.reader.proofs.refused.Statement.{statement}
 use Rattle.reader.proofs.refused.Tie as tie
-use Rattle.reader.proofs.refused.Reads as reads
-use Rattle.reader.proofs.refused.Lts as lts
-use Rattle.reader.proofs.no_record.Reads as no-record-reads
 
--- src/lib.rt:332:15
 no-record-requires : tie.Need-no-record-requires
 no-record-requires c κs = search needs
 
--- src/lib.rt:327:1
 returns : tie.Need-returns
 unfolding refusedAt
 returns c = rw (c .no-record .ensures)

@@ -2,28 +2,20 @@ use Rattle.reader.specs.Steps.{settled}
 use borrow.Author.Needs.{needs}
 use Rattle.reader.proofs.settle.Statement.{statement}
 use Rattle.reader.proofs.settle.Tie as tie
-use Rattle.reader.proofs.settle.Reads as reads
-use Rattle.reader.proofs.settle.Lts as lts
-use Rattle.reader.proofs.none.Reads as none-reads
 
--- src/lib.rt:97:20
 enum-known-t : tie.Need-enum-known-t
 enum-known-t c = search needs
 
--- src/lib.rt:101:24
 enum-known-t-2 : tie.Need-enum-known-t-2
 enum-known-t-2 c = search needs
 
--- src/lib.rt:103:19
 none-requires : tie.Need-none-requires
 none-requires c κs = search needs
 
--- src/lib.rt:93:1
 returns : tie.Need-returns
 unfolding settled
 returns c = rw (c .before .t .given .1)
 
--- src/lib.rt:93:1
 returns-2 : tie.Need-returns-2
 unfolding settled
 returns-2 c = rw (c .before .before .t2 .given .1, c .none .ensures)

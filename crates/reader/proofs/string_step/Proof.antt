@@ -2,33 +2,23 @@ use Rattle.reader.specs.Steps.{stringStep}
 use borrow.Author.Needs.{needs}
 use Rattle.reader.proofs.string_step.Statement.{statement}
 use Rattle.reader.proofs.string_step.Tie as tie
-use Rattle.reader.proofs.string_step.Reads as reads
-use Rattle.reader.proofs.string_step.Lts as lts
-use Rattle.reader.proofs.off.Reads as off-reads
-use Rattle.reader.proofs.string_on.Reads as string-on-reads
 
--- src/lib.rt:155:18
 enum-known-next : tie.Need-enum-known-next
 enum-known-next c = search needs
 
--- src/lib.rt:155:24
 string-on-requires : tie.Need-string-on-requires
 string-on-requires c κs = search needs
 
--- src/lib.rt:156:19
 enum-known-next-2 : tie.Need-enum-known-next-2
 enum-known-next-2 c = search needs
 
--- src/lib.rt:156:28
 off-requires : tie.Need-off-requires
 off-requires c κs = search needs
 
--- src/lib.rt:151:1
 returns : tie.Need-returns
 unfolding stringStep
 returns c = rw (c .before .before .next .given .1) (c .string-on .ensures)
 
--- src/lib.rt:151:1
 returns-2 : tie.Need-returns-2
 unfolding stringStep
 returns-2 c = rw (c .before .before .next2 .given .1) (c .off .ensures)
