@@ -1,0 +1,19 @@
+use Rattle.target.specs.Text.{firstText}
+use mathlib.Core.Path.{sym, _∙_}
+use borrow.Author.Needs.{needs}
+use Rattle.target.proofs.first_text.Statement.{statement}
+use Rattle.target.proofs.first_text.Tie as tie
+
+bit-0-requires : tie.Need-bit-0-requires
+bit-0-requires c κs = search needs
+
+returns : tie.Need-returns
+unfolding firstText
+returns c = rw (sym (c .before .before .bit-0 .ensures) ∙ c .before .if1 .taken)
+
+returns-2 : tie.Need-returns-2
+unfolding firstText
+returns-2 c = rw (sym (c .before .before .bit-0 .ensures) ∙ c .before .if1 .left)
+
+pub first-text-spec : {M : Type 1} → statement M
+first-text-spec = tie.close (tie.spec bit-0-requires returns returns-2)
