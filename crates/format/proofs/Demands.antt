@@ -75,7 +75,7 @@ sections-end-to-end s r e =
     let w = shortcut-whole s (x .sections) (length s) (x .is) in
     rw (x .is) (read-end-to-end s (x .sections) (length s) (w .read))
 
-ahead : (p q : ℕ) (rows : List Row) → EndToEnd p rows q → p ≤ q
+pub ahead : (p q : ℕ) (rows : List Row) → EndToEnd p rows q → p ≤ q
 ahead p q [] e = omega arith
 ahead p q (x ∷ xs) e = omega (arith, ahead (p + x .len) q xs (e .1))
 

@@ -1,0 +1,289 @@
+-- A section asked for by name: where the outline says that it stands.
+use mathlib.Core.Path.{_≡_, refl, sym, ap, _∙_}
+use mathlib.Core.List.{List, [], _∷_, _++_, append-nil}
+use mathlib.Core.Bool.{Bool, true, false, cond}
+use Prim.Native.Nat.{ℕ, zero, suc, _+_, _-_, _≤_, _<_}
+use native.Mathlib.Omega.{arith}
+use lib.ListN.{length, drop}
+use lib.Dec.{leb, eqb}
+use borrow.Author.Tests.{leb-true, leb-false, eq-eqb, ne-eqb}
+use Rattle.octets.specs.Parts.{part}
+use Rattle.octets.specs.declared.Cursor.{Cursor}
+use Rattle.octets.proofs.PartLaws.{part-in}
+use Rattle.format.specs.declared.Fault.{Fault}
+use Rattle.format.specs.declared.Fault.the-variants.{Long as LONG, Trail as TRAIL}
+use Rattle.format.specs.declared.Header.{Header}
+use Rattle.format.specs.declared.Place.{Place}
+use Rattle.format.specs.Tests.{Outcome, got, refused, bit, place, noPlace}
+use Rattle.format.specs.Header.{header}
+use Rattle.format.specs.Blocks.{blocks}
+use Rattle.format.specs.Shortcut.{Section, Tail, Sections, most, shortcut, sum}
+use Rattle.format.specs.Listing.{Row, EndToEnd, row, blockRows, rowsOf, rowsBy, listing, named, nth, sectionPlace, shown}
+use Rattle.header.specs.Taken.{headerAt}
+use Rattle.header.specs.declared.HeaderTaken.{HeaderTaken}
+use Rattle.header.specs.declared.HeaderTaken.the-variants.{Got, Refused}
+use Rattle.blocks.specs.Walk.{nthPlace, NthOf}
+use Rattle.format.proofs.BlockLaws.{blocks-walked}
+use Rattle.format.proofs.AcceptedLaws.{shortcut-whole}
+use Rattle.format.proofs.FoundLaws.{read-end-to-end}
+use Rattle.format.proofs.Demands.{ahead}
+use Rattle.reader.specs.declared.Next.the-variants.{On, Off}
+use Rattle.reader.specs.declared.Outline.{Outline}
+use Rattle.reader.specs.Steps.{atOf, outlineFrom}
+use Rattle.reader.specs.Finish.{outlineOff, outlineAfter, outlineOf}
+use Rattle.shown.specs.Asked.{between}
+use Rattle.reader.proofs.Runs.{sectionOf, on-not-off}
+use Rattle.reader.proofs.OutlineLaws.{outline, Outlined, header-got, header-refused, headerSection, header-held, outline-runs, sections-refused, sections-got, shortcut-refused, shortcut-ends, header-refused-shortcut, long-shortcut}
+
+-- ---- rows by name
+
+named-append : (k : ℕ) (xs ys : List Row) → named k (xs ++ ys) ≡ named k xs ++ named k ys
+named-append k [] ys = refl
+named-append k (x ∷ xs) ys = go (eqb (x .name) k) (named-append k xs ys)
+  where
+    go : (b : Bool) → named k (xs ++ ys) ≡ named k xs ++ named k ys → cond b (x ∷ named k (xs ++ ys)) (named k (xs ++ ys)) ≡ cond b (x ∷ named k xs) (named k xs) ++ named k ys
+    go true e = ap (λ (l : List Row). x ∷ l) e
+    go false e = e
+
+pick-row : (x : Row) (t b : Bool) → cond b (cond t (x ∷ []) []) [] ≡ cond t (cond b (x ∷ []) []) []
+pick-row x true true = refl
+pick-row x true false = refl
+pick-row x false true = refl
+pick-row x false false = refl
+
+named-row : {A : Type 0} (k j : ℕ) (c : Section A) → named k (row j c) ≡ cond (eqb j k) (row j c) []
+named-row k j c = go (c .there) ∙ sym (pick-row (record { name = j; start = c .start; len = c .len }) (c .there) (eqb j k))
+  where
+    go : (t : Bool) → named k (cond t (record { name = j; start = c .start; len = c .len } ∷ []) []) ≡ cond t (cond (eqb j k) (record { name = j; start = c .start; len = c .len } ∷ []) []) []
+    go true = refl
+    go false = refl
+
+-- blocks have names 8 and 9 only
+no-blocks : (k p : ℕ) (ns : List ℕ) → (8 ≡ k → ⊥) → (9 ≡ k → ⊥) → named k (blockRows p ns) ≡ []
+no-blocks k p [] a b = rw (ne-eqb 9 k b)
+no-blocks k p (n ∷ ns) a b = rw (ne-eqb 8 k a) (no-blocks k (p + n) ns a b)
+
+nth-block : (j p : ℕ) (ns : List ℕ) → nth j (named 8 (blockRows p ns)) ≡ nthPlace p ns j
+nth-block j p [] = refl
+nth-block zero p (n ∷ ns) = refl
+nth-block (suc j) p (n ∷ ns) = nth-block j (p + n) ns
+
+the-terminal : (p : ℕ) (ns : List ℕ) → named 9 (blockRows p ns) ≡ record { name = 9; start = p + sum ns; len = 4 } ∷ []
+the-terminal p [] = let z : p ≡ p + 0 = omega arith in rw (← z)
+the-terminal p (n ∷ ns) = let z : p + n + sum ns ≡ p + (n + sum ns) = omega arith in the-terminal (p + n) ns ∙ rw z
+
+-- ---- what the outline says of the listing
+
+data Cases (s : List ℕ) (o : Outline) : Type 0 where
+  stopped : (f : Fault) (q : ℕ) → o .next ≡ Off f q → shortcut s ≡ refused f q → Cases s o
+  went : (h : Header) → length s ≤ most → header 0 s ≡ got h 76 → o ≡ outline s h → Cases s o
+
+cases : (s : List ℕ) (o : Outline) → o ≡ outlineOf s → Cases s o
+unfolding outlineOf outlineOff
+cases s o e = go (leb (length s) most) refl e
+  where
+    after : length s ≤ most → (t : HeaderTaken) → t ≡ headerAt s → o ≡ outlineAfter s t → Cases s o
+    after k (Got h c) i x = let g = header-got s i refl in went h k (g .is) (x ∙ ap (outlineFrom s h) (g .at))
+    after k (Refused f) i x = stopped f 0 (ap (λ (y : Outline). y .next) x) (header-refused-shortcut s k (header-refused s i refl))
+
+    go : (b : Bool) → leb (length s) most ≡ b → o ≡ cond b (outlineAfter s (headerAt s)) (outlineOff LONG 65536) → Cases s o
+    go true k x = after (leb-true (length s) most k) (headerAt s) refl x
+    go false k x = stopped LONG 65536 (ap (λ (y : Outline). y .next) x) (long-shortcut s (leb-false (length s) most k))
+
+refused-listing : (s : List ℕ) {f : Fault} {q : ℕ} → shortcut s ≡ refused f q → listing s ≡ []
+unfolding listing
+refused-listing s e = rw e
+
+pub off-listing : (s : List ℕ) (o : Outline) {f : Fault} {q : ℕ} → o ≡ outlineOf s → o .next ≡ Off f q → listing s ≡ []
+off-listing s o {f} {q} e k = go (cases s o e)
+  where
+    go : Cases s o → listing s ≡ []
+    go (stopped g p i j) = refused-listing s j
+    go (went h l i x) = refused-listing s (shortcut-refused s l (sections-refused s h i ((outline-runs s h) .off f q (ap (λ (y : Outline). y .next) (sym x) ∙ k))))
+
+pub trail-listing : (s : List ℕ) (o : Outline) (c : Cursor) → o ≡ outlineOf s → o .next ≡ On c → (c .at ≡ length s → ⊥) → listing s ≡ []
+trail-listing s o c e k d = go (cases s o e)
+  where
+    go : Cases s o → listing s ≡ []
+    go (stopped g p i j) = refused-listing s j
+    go (went h l i x) =
+        let r = (outline-runs s h) .on c (ap (λ (y : Outline). y .next) (sym x) ∙ k) in
+        let n : 76 + r .count ≡ c .at = r .ends in
+        let z : shortcut s ≡ refused TRAIL (c .at) = shortcut-ends s l (sections-got s h i (r .is)) ∙ rw (n, ne-eqb (c .at) (length s) d) in
+        refused-listing s z
+
+-- the rows of an accepted shortcut
+abbrev rowsFrom : Outline → List ℕ → List Row
+rowsFrom o ns =
+    let f = o .held .header .flags in
+    row 0 (headerSection (o .held .header))
+    ++ (row 1 (sectionOf (bit 0 f) 76 (o .ends .items) (o .held .items))
+    ++ (row 2 (sectionOf (bit 1 f) (o .ends .items) (o .ends .info) (o .held .info))
+    ++ (row 3 (sectionOf (bit 2 f) (o .ends .info) (o .ends .name) (o .held .name))
+    ++ (row 4 (sectionOf (bit 3 f) (o .ends .name) (o .ends .relative) (o .held .relative))
+    ++ (row 5 (sectionOf (bit 4 f) (o .ends .relative) (o .ends .workdir) (o .held .workdir))
+    ++ (row 6 (sectionOf (bit 5 f) (o .ends .workdir) (o .ends .arguments) (o .held .arguments))
+    ++ (row 7 (sectionOf (bit 6 f) (o .ends .arguments) (o .ends .icon) (o .held .icon)) ++ blockRows (o .ends .icon) ns)))))))
+
+pub record AllRows (s : List ℕ) (o : Outline) : Type 0 where
+  pub lengths : List ℕ
+  pub count : ℕ
+  pub is : blocks (o .ends .icon) (drop (o .ends .icon) s) ≡ got lengths count
+  pub last : o .ends .icon + count ≡ length s
+  pub rows : listing s ≡ rowsFrom o lengths
+
+accepted-listing : (s : List ℕ) {c : Sections} {n : ℕ} → shortcut s ≡ got c n → listing s ≡ rowsOf c
+unfolding listing
+accepted-listing s e = rw e
+
+outlined-rows : (s : List ℕ) (h : Header) (v : Tail) → Outlined s h (outline s h) v → rowsOf (headerSection h, v) ≡ rowsFrom (outline s h) (v .1 .1 .1 .1 .1 .1 .1 .read)
+outlined-rows s h v F =
+    let e = header-held s h in
+    rw (e, F .items, F .info, F .name, F .relative, F .workdir, F .arguments, F .icon, F .blocks .start)
+
+pub all-rows : (s : List ℕ) (o : Outline) (c : Cursor) → o ≡ outlineOf s → o .next ≡ On c → c .at ≡ length s → AllRows s o
+unfolding atOf
+all-rows s o c e k d = go (cases s o e)
+  where
+    go : Cases s o → AllRows s o
+    go (stopped g p i j) = absurd (on-not-off k i)
+    go (went h l i x) =
+        let y : outline s h .next ≡ On c = ap (λ (y : Outline). y .next) (sym x) ∙ k in
+        let r = (outline-runs s h) .on c y in
+        let n : 76 + r .count ≡ c .at = r .ends in
+        let F = r .fact in
+        let z : shortcut s ≡ got (headerSection h, r .value) (c .at) = shortcut-ends s l (sections-got s h i (r .is)) ∙ rw (n, eq-eqb (c .at) (length s) d) in
+        rw x
+        (record {
+          lengths = r .value .1 .1 .1 .1 .1 .1 .1 .read;
+          count = r .value .1 .1 .1 .1 .1 .1 .1 .len;
+          is = F .blocks .is;
+          last = F .blocks .last ∙ ap atOf y ∙ d;
+          rows = accepted-listing s z ∙ outlined-rows s h (r .value) F;
+        })
+
+-- ---- the place of each name
+
+-- none of the ten
+abbrev Other : ℕ → Type 0
+Other n = (((((((((Unit {0} × (n ≡ 0 → ⊥)) × (n ≡ 1 → ⊥)) × (n ≡ 2 → ⊥)) × (n ≡ 3 → ⊥)) × (n ≡ 4 → ⊥)) × (n ≡ 5 → ⊥)) × (n ≡ 6 → ⊥)) × (n ≡ 7 → ⊥)) × (n ≡ 8 → ⊥)) × (n ≡ 9 → ⊥)
+
+nth-section : {A : Type 0} (j : ℕ) (b : Bool) (p e : ℕ) (a : A) → nth 0 (row j (sectionOf b p e a)) ≡ between b p e
+unfolding between
+nth-section j true p e a = refl
+nth-section j false p e a = refl
+
+module _ (s : List ℕ) (block : ℕ) where
+  pub none-place : (name : ℕ) → listing s ≡ [] → noPlace ≡ sectionPlace s name block
+  unfolding sectionPlace
+  none-place name e = rw e
+
+  module _ (o : Outline) (R : AllRows s o) where
+    abbrev f : ℕ
+    f = o .held .header .flags
+
+    low : (k : ℕ) → k < 8 → named k (blockRows (o .ends .icon) (R .lengths)) ≡ []
+    low k h = no-blocks k (o .ends .icon) (R .lengths) (λ e. omega arith) (λ e. omega arith)
+
+    pub place-0 : place 0 76 ≡ sectionPlace s 0 block
+    unfolding sectionPlace
+    place-0 = rw (R .rows)
+
+    pub place-1 : between (bit 0 f) 76 (o .ends .items) ≡ sectionPlace s 1 block
+    unfolding sectionPlace
+    place-1 = rw (R .rows) (simp (named-append, named-row, low 1 (omega arith), append-nil) (sym (nth-section 1 (bit 0 f) 76 (o .ends .items) (o .held .items))))
+
+    pub place-2 : between (bit 1 f) (o .ends .items) (o .ends .info) ≡ sectionPlace s 2 block
+    unfolding sectionPlace
+    place-2 =
+        rw (R .rows)
+        (simp (named-append, named-row, low 2 (omega arith), append-nil) (sym (nth-section 2 (bit 1 f) (o .ends .items) (o .ends .info) (o .held .info))))
+
+    pub place-3 : between (bit 2 f) (o .ends .info) (o .ends .name) ≡ sectionPlace s 3 block
+    unfolding sectionPlace
+    place-3 =
+        rw (R .rows)
+        (simp (named-append, named-row, low 3 (omega arith), append-nil) (sym (nth-section 3 (bit 2 f) (o .ends .info) (o .ends .name) (o .held .name))))
+
+    pub place-4 : between (bit 3 f) (o .ends .name) (o .ends .relative) ≡ sectionPlace s 4 block
+    unfolding sectionPlace
+    place-4 =
+        rw (R .rows)
+        (simp (named-append, named-row, low 4 (omega arith), append-nil) (sym (nth-section 4 (bit 3 f) (o .ends .name) (o .ends .relative) (o .held .relative))))
+
+    pub place-5 : between (bit 4 f) (o .ends .relative) (o .ends .workdir) ≡ sectionPlace s 5 block
+    unfolding sectionPlace
+    place-5 =
+        rw (R .rows)
+        (simp (named-append, named-row, low 5 (omega arith), append-nil) (sym (nth-section 5 (bit 4 f) (o .ends .relative) (o .ends .workdir) (o .held .workdir))))
+
+    pub place-6 : between (bit 5 f) (o .ends .workdir) (o .ends .arguments) ≡ sectionPlace s 6 block
+    unfolding sectionPlace
+    place-6 =
+        rw (R .rows)
+        (simp (named-append, named-row, low 6 (omega arith), append-nil) (sym (nth-section 6 (bit 5 f) (o .ends .workdir) (o .ends .arguments) (o .held .arguments))))
+
+    pub place-7 : between (bit 6 f) (o .ends .arguments) (o .ends .icon) ≡ sectionPlace s 7 block
+    unfolding sectionPlace
+    place-7 =
+        rw (R .rows)
+        (simp (named-append, named-row, low 7 (omega arith), append-nil) (sym (nth-section 7 (bit 6 f) (o .ends .arguments) (o .ends .icon) (o .held .icon))))
+
+    pub place-8 : {b : Place} → NthOf s (o .ends .icon) block b → b ≡ sectionPlace s 8 block
+    unfolding sectionPlace
+    place-8 N =
+        rw (R .rows) (N .is (R .lengths) (R .count) (R .is) ∙ simp (named-append, named-row) (sym (nth-block block (o .ends .icon) (R .lengths))))
+
+    pub place-9 : place (length s - 4) 4 ≡ sectionPlace s 9 block
+    unfolding sectionPlace
+    place-9 =
+        let w = blocks-walked (o .ends .icon) (drop (o .ends .icon) s) (R .lengths) (R .count) (R .is) in
+        let z : length s - 4 ≡ o .ends .icon + sum (R .lengths) = omega (arith, w .adds, R .last) in
+        rw (R .rows, z) (simp (named-append, named-row, the-terminal))
+
+    pub place-more : (name : ℕ) → Other name → noPlace ≡ sectionPlace s name block
+    unfolding sectionPlace
+    place-more name n =
+        let e : named name (rowsFrom o (R .lengths)) ≡ []
+        = simp (
+          named-append,
+          named-row,
+          no-blocks name (o .ends .icon) (R .lengths) (λ e. n .0 .1 (sym e)) (λ e. n .1 (sym e)),
+          ne-eqb 0 name (λ e. n .0 .0 .0 .0 .0 .0 .0 .0 .0 .1 (sym e)),
+          ne-eqb 1 name (λ e. n .0 .0 .0 .0 .0 .0 .0 .0 .1 (sym e)),
+          ne-eqb 2 name (λ e. n .0 .0 .0 .0 .0 .0 .0 .1 (sym e)),
+          ne-eqb 3 name (λ e. n .0 .0 .0 .0 .0 .0 .1 (sym e)),
+          ne-eqb 4 name (λ e. n .0 .0 .0 .0 .0 .1 (sym e)),
+          ne-eqb 5 name (λ e. n .0 .0 .0 .0 .1 (sym e)),
+          ne-eqb 6 name (λ e. n .0 .0 .0 .1 (sym e)),
+          ne-eqb 7 name (λ e. n .0 .0 .1 (sym e)),
+        ) in
+        rw (R .rows, e)
+
+-- ---- the section lies inside
+
+abbrev Ends≤ : ℕ → Place → Type 0
+Ends≤ q b = b .at + b .len ≤ q
+
+nth-inside : (j k p q : ℕ) (rows : List Row) → EndToEnd p rows q → Ends≤ q (nth j (named k rows))
+nth-inside j k p q [] e = omega arith
+nth-inside j k p q (x ∷ xs) e = go (λ i. nth-inside i k (p + x .len) q xs (e .1)) (eqb (x .name) k) j
+  where
+    go : ((i : ℕ) → Ends≤ q (nth i (named k xs))) → (b : Bool) (j : ℕ) → Ends≤ q (nth j (cond b (x ∷ named k xs) (named k xs)))
+    go rest true zero = omega (arith, e .0, ahead (p + x .len) q xs (e .1))
+    go rest true (suc i) = rest i
+    go rest false i = rest i
+
+section-inside : (s : List ℕ) (name block : ℕ) → Ends≤ (length s) (sectionPlace s name block)
+unfolding sectionPlace listing
+section-inside s name block = go (shortcut s) refl
+  where
+    go : (o : Outcome Sections) → shortcut s ≡ o → Ends≤ (length s) (nth (cond (eqb name 8) block 0) (named name (rowsBy (shortcut s))))
+    go (got c n) i =
+        let w = shortcut-whole s c n i in
+        rw i (nth-inside (cond (eqb name 8) block 0) name 0 (length s) (rowsOf c) (rw (w .all) at (read-end-to-end s c n (w .read))))
+    go (refused f p) i = rw i (omega arith)
+
+pub section-shown : (s : List ℕ) (name block : ℕ) {b : Place} {r : List ℕ} → b ≡ sectionPlace s name block → r ≡ part s (b .at) (b .len) → r ≡ shown s name block
+unfolding shown
+section-shown s name block {b} e p = p ∙ sym (part-in s (b .at) (b .len) (rw e (section-inside s name block))) ∙ rw e

@@ -1,0 +1,135 @@
+use Rattle.shown.proofs.Laws.{off-listing, trail-listing, all-rows, none-place, place-0, place-1, place-2, place-3, place-4, place-5, place-6, place-7, place-8, place-9, place-more}
+use mathlib.Core.Path.{_∙_}
+use borrow.Author.Needs.{needs}
+use Rattle.shown.proofs.place_in.Statement.{statement}
+use Rattle.shown.proofs.place_in.Tie as tie
+
+enum-known-next : tie.Need-enum-known-next
+enum-known-next c = search needs
+
+enum-told : tie.Need-enum-told
+enum-told c = search needs
+
+none-requires : tie.Need-none-requires
+none-requires c κs = search needs
+
+returns : tie.Need-returns
+returns c =
+    c .none .ensures ∙ none-place _ _ _ (off-listing _ _ (c .before .before .before .before .pre) (c .before .enum-told .given .1))
+
+none-requires-2 : tie.Need-none-requires-2
+none-requires-2 c κs = search needs
+
+returns-2 : tie.Need-returns-2
+returns-2 c =
+    c .none2 .ensures ∙ none-place _ _ _ (trail-listing _ _ _ (c .before .before .before .before .before .before .before .pre) (c .before .before .before .before .next .given .1) (c .before .if1 .taken))
+
+bit-0-requires : tie.Need-bit-0-requires
+bit-0-requires c κs = search needs
+
+between-requires : tie.Need-between-requires
+between-requires c κs = search needs
+
+between-requires-2 : tie.Need-between-requires-2
+between-requires-2 c κs = search needs
+
+between-requires-3 : tie.Need-between-requires-3
+between-requires-3 c κs = search needs
+
+between-requires-4 : tie.Need-between-requires-4
+between-requires-4 c κs = search needs
+
+between-requires-5 : tie.Need-between-requires-5
+between-requires-5 c κs = search needs
+
+between-requires-6 : tie.Need-between-requires-6
+between-requires-6 c κs = search needs
+
+between-requires-7 : tie.Need-between-requires-7
+between-requires-7 c κs = search needs
+
+nth-block-requires : tie.Need-nth-block-requires
+nth-block-requires c κs = search needs
+
+less-requires : tie.Need-less-requires
+less-requires c κs = search needs
+
+none-requires-3 : tie.Need-none-requires-3
+none-requires-3 c κs = search needs
+
+returns-3 : tie.Need-returns-3
+returns-3 c =
+    rw (c .match2 .keys1) (place-0 _ _ _ (all-rows _ _ _ (c .before .before .before .before .before .before .before .before .pre) (c .before .before .before .before .before .next .given .1) (c .before .before .if1 .left)))
+
+returns-4 : tie.Need-returns-4
+returns-4 c =
+    rw (c .before .before .match2 .keys2) (c .between .ensures ∙ rw (c .before .bit-0 .ensures) (place-1 _ _ _ (all-rows _ _ _ (c .before .before .before .before .before .before .before .before .before .before .pre) (c .before .before .before .before .before .before .before .next .given .1) (c .before .before .before .before .if1 .left))))
+
+returns-5 : tie.Need-returns-5
+returns-5 c =
+    rw (c .before .match2 .keys3) (c .between2 .ensures ∙ place-2 _ _ _ (all-rows _ _ _ (c .before .before .before .before .before .before .before .before .before .pre) (c .before .before .before .before .before .before .next .given .1) (c .before .before .before .if1 .left)))
+
+returns-6 : tie.Need-returns-6
+returns-6 c =
+    rw (c .before .match2 .keys4) (c .between3 .ensures ∙ place-3 _ _ _ (all-rows _ _ _ (c .before .before .before .before .before .before .before .before .before .pre) (c .before .before .before .before .before .before .next .given .1) (c .before .before .before .if1 .left)))
+
+returns-7 : tie.Need-returns-7
+returns-7 c =
+    rw (c .before .match2 .keys5) (c .between4 .ensures ∙ place-4 _ _ _ (all-rows _ _ _ (c .before .before .before .before .before .before .before .before .before .pre) (c .before .before .before .before .before .before .next .given .1) (c .before .before .before .if1 .left)))
+
+returns-8 : tie.Need-returns-8
+returns-8 c =
+    rw (c .before .match2 .keys6) (c .between5 .ensures ∙ place-5 _ _ _ (all-rows _ _ _ (c .before .before .before .before .before .before .before .before .before .pre) (c .before .before .before .before .before .before .next .given .1) (c .before .before .before .if1 .left)))
+
+returns-9 : tie.Need-returns-9
+returns-9 c =
+    rw (c .before .match2 .keys7) (c .between6 .ensures ∙ place-6 _ _ _ (all-rows _ _ _ (c .before .before .before .before .before .before .before .before .before .pre) (c .before .before .before .before .before .before .next .given .1) (c .before .before .before .if1 .left)))
+
+returns-10 : tie.Need-returns-10
+returns-10 c =
+    rw (c .before .match2 .keys8) (c .between7 .ensures ∙ place-7 _ _ _ (all-rows _ _ _ (c .before .before .before .before .before .before .before .before .before .pre) (c .before .before .before .before .before .before .next .given .1) (c .before .before .before .if1 .left)))
+
+returns-11 : tie.Need-returns-11
+returns-11 c =
+    rw (c .before .match2 .keys9) (place-8 _ _ _ (all-rows _ _ _ (c .before .before .before .before .before .before .before .before .before .pre) (c .before .before .before .before .before .before .next .given .1) (c .before .before .before .if1 .left)) (c .nth-block .ensures))
+
+returns-12 : tie.Need-returns-12
+returns-12 c =
+    rw (c .before .match2 .keys10) (rw (c .less .ensures) (place-9 _ _ _ (all-rows _ _ _ (c .before .before .before .before .before .before .before .before .before .pre) (c .before .before .before .before .before .before .next .given .1) (c .before .before .before .if1 .left))))
+
+returns-13 : tie.Need-returns-13
+returns-13 c =
+    c .none3 .ensures ∙ place-more _ _ _ (all-rows _ _ _ (c .before .before .before .before .before .before .before .before .before .pre) (c .before .before .before .before .before .before .next .given .1) (c .before .before .before .if1 .left)) _ (c .before .match2 .rest)
+
+pub place-in-spec : {M : Type 1} → statement M
+place-in-spec =
+    tie.close
+    (tie.spec
+    enum-known-next
+    enum-told
+    none-requires
+    returns
+    none-requires-2
+    returns-2
+    bit-0-requires
+    between-requires
+    between-requires-2
+    between-requires-3
+    between-requires-4
+    between-requires-5
+    between-requires-6
+    between-requires-7
+    nth-block-requires
+    less-requires
+    none-requires-3
+    returns-3
+    returns-4
+    returns-5
+    returns-6
+    returns-7
+    returns-8
+    returns-9
+    returns-10
+    returns-11
+    returns-12
+    returns-13)

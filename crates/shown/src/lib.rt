@@ -1,0 +1,84 @@
+// A section asked for by name, shown as the caller's own bytes.
+use format::Place;
+use reader::Ends;
+use reader::Next;
+use reader::Outline;
+ghost use mathlib.Core.Path.{_≡_};
+ghost use Prim.Native.Nat.{_-_};
+ghost use Rattle.format.specs.Listing.{sectionPlace, shown};
+ghost use Rattle.reader.specs.Finish.{outlineOf};
+ghost use Rattle.shown.specs.Asked.{between};
+
+fn none() -> Place
+    ensures { λ r. ⌜ r ≡ record { at = 0; len = 0 } ⌝ }
+{
+    Place { at: 0, len: 0 }
+}
+
+// a - b, or 0.
+fn less(a: usize, b: usize) -> usize
+    ensures { λ r. ⌜ r ≡ a - b ⌝ }
+{
+    if a < b {
+        return 0;
+    }
+    a - b
+}
+
+fn between(there: bool, p: usize, e: usize) -> Place
+    ensures { λ r. ⌜ r ≡ between there p e ⌝ }
+{
+    if there {
+        return Place {
+            at: p,
+            len: less(e, p),
+        };
+    }
+    none()
+}
+
+// Of an accepted shortcut, whose flags are f.
+fn place_in(s: &[u8], o: Outline, name: u32, block: usize) -> Place
+    requires { ⌜ o ≡ outlineOf (now s) ⌝ }
+    ensures { λ r. ⌜ r ≡ sectionPlace (now (s .entry)) name block ⌝ }
+{
+    let next = o.next;
+    let Next::On(c) = next else {
+        return none();
+    };
+    if c.at != s.len() {
+        return none();
+    }
+    let f = o.held.header.flags;
+    let e = o.ends;
+    match name {
+        0 => Place { at: 0, len: 76 },
+        1 => between(format::bit_0(f), 76, e.items),
+        2 => between(f / 2 % 2 == 1, e.items, e.info),
+        3 => between(f / 4 % 2 == 1, e.info, e.name),
+        4 => between(f / 8 % 2 == 1, e.name, e.relative),
+        5 => between(f / 16 % 2 == 1, e.relative, e.workdir),
+        6 => between(f / 32 % 2 == 1, e.workdir, e.arguments),
+        7 => between(f / 64 % 2 == 1, e.arguments, e.icon),
+        8 => blocks::nth_block(s, e.icon, block),
+        9 => Place {
+            at: less(s.len(), 4),
+            len: 4,
+        },
+        _ => none(),
+    }
+}
+
+// Where the section stands, all of it, as listed; the empty place where it is absent, refused or unknown.
+pub fn section_place(s: &[u8], name: u32, block: usize) -> Place
+    ensures { λ r. ⌜ r ≡ sectionPlace (now (s .entry)) name block ⌝ }
+{
+    place_in(s, reader::outline_of(s), name, block)
+}
+
+pub fn section(s: &[u8], name: u32, block: usize) -> &[u8]
+    ensures { λ r. ⌜ now r ≡ shown (now (s .entry)) name block ⌝ }
+{
+    let b = section_place(s, name, block);
+    octets::part(s, b.at, b.len)
+}
