@@ -1,0 +1,84 @@
+// The lines that the listing program writes, on standard output.
+use format::Fault;
+use format::Verdict;
+use reader::Ends;
+use reader::Next;
+
+fn line(name: &[u8], start: usize, len: usize) {
+    io::write_all(1, name);
+    io::write_all(1, b" ");
+    io::print_decimal(1, start as u64);
+    io::write_all(1, b" ");
+    io::print_decimal(1, len as u64);
+    io::write_all(1, b"\n");
+}
+
+// A section that is there, from p to e.
+fn line_if(there: bool, name: &[u8], p: usize, e: usize) {
+    if there {
+        if p <= e {
+            line(name, p, e - p);
+        }
+    }
+}
+
+// The blocks of an accepted shortcut and its terminal, which starts at `from`.
+fn block_lines(s: &[u8], from: usize) {
+    let n = s.len();
+    if n < from {
+        return;
+    }
+    let mut p = from;
+    while 4 <= n - p {
+        let size = octets::u32_at(s, p) as usize;
+        if size < 4 {
+            line(b"end", p, 4);
+            return;
+        }
+        if n - p < size {
+            return;
+        }
+        line(b"block", p, size);
+        p += size;
+    }
+}
+
+fn section_lines(f: u32, e: Ends) {
+    line(b"header", 0, 76);
+    line_if(format::bit_0(f), b"items", 76, e.items);
+    line_if(f / 2 % 2 == 1, b"info", e.items, e.info);
+    line_if(f / 4 % 2 == 1, b"name", e.info, e.name);
+    line_if(f / 8 % 2 == 1, b"relative", e.name, e.relative);
+    line_if(f / 16 % 2 == 1, b"workdir", e.relative, e.workdir);
+    line_if(f / 32 % 2 == 1, b"arguments", e.workdir, e.arguments);
+    line_if(f / 64 % 2 == 1, b"icon", e.arguments, e.icon);
+}
+
+fn refused_line(f: Fault, p: usize) {
+    io::write_all(1, b"refused ");
+    io::print_decimal(1, format::number_of(f) as u64);
+    io::write_all(1, b" ");
+    io::print_decimal(1, p as u64);
+    io::write_all(1, b"\n");
+}
+
+// `ok` and the length, then a line for each section; or one line with number and position.
+pub fn listing(s: &[u8]) {
+    let o = reader::outline_of(s);
+    let next = o.next;
+    let held = o.held;
+    let flags = o.held.header.flags;
+    let ends = o.ends;
+    let g = reader::finish(s.len(), next, held);
+    let v = g.verdict;
+    match v {
+        Verdict::Accepted(n) => {
+            io::write_all(1, b"ok ");
+            io::print_decimal(1, n as u64);
+            io::write_all(1, b"\n");
+            section_lines(flags, ends);
+            block_lines(s, ends.icon);
+        }
+        Verdict::Refused(f, p) => refused_line(f, p),
+    }
+}

@@ -1,0 +1,8 @@
+// Lists one shortcut, read from standard input.
+
+fn main() {
+    // One byte more than a shortcut may have: what lies beyond it is not looked at.
+    let mut room = [0u8; 65537];
+    let n = io::read_full(0, &mut room);
+    lines::listing(&room[..n]);
+}
