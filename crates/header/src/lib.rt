@@ -27,19 +27,19 @@ fn magic(l: &[u8]) -> bool
         & (octets::u32_at(l, 16) == 0x4600_0000)
 }
 
-fn flags_ok(f: u32) -> bool
+pub fn flags_ok(f: u32) -> bool
     ensures { λ r. ⌜ r ≡ flagsOk f ⌝ }
 {
     f / 0x0800_0000 == 0
 }
 
-fn attributes_ok(a: u32) -> bool
+pub fn attributes_ok(a: u32) -> bool
     ensures { λ r. ⌜ r ≡ attributesOk a ⌝ }
 {
     !(a / 8 % 2 == 1) & !(a / 64 % 2 == 1) & (a / 32768 == 0)
 }
 
-fn hotkey_ok(h: u16) -> bool
+pub fn hotkey_ok(h: u16) -> bool
     ensures { λ r. ⌜ r ≡ hotkeyOk h ⌝ }
 {
     let key = h % 256;

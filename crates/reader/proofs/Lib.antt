@@ -1,3 +1,4 @@
 pub mod Runs
 pub mod StepLaws
 pub mod OutlineLaws
+pub mod Once

@@ -1,0 +1,8 @@
+pub mod TestLaws
+pub mod PlacedLaws
+pub mod PresentLaws
+pub mod TextLaws
+pub mod WalkLaws
+pub mod SectionLaws
+pub mod LengthLaws
+pub mod SpanLaws

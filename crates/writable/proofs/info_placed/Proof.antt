@@ -1,0 +1,42 @@
+use Rattle.writable.proofs.PlacedLaws.{info-placed}
+use borrow.Author.Needs.{needs}
+use Rattle.writable.proofs.info_placed.Statement.{statement}
+use Rattle.writable.proofs.info_placed.Tie as tie
+
+label-place-requires : tie.Need-label-place-requires
+label-place-requires c κs = search needs
+
+inside-requires : tie.Need-inside-requires
+inside-requires c κs = search needs
+
+inside-requires-2 : tie.Need-inside-requires-2
+inside-requires-2 c κs = search needs
+
+network-placed-requires : tie.Need-network-placed-requires
+network-placed-requires c κs = search needs
+
+inside-requires-3 : tie.Need-inside-requires-3
+inside-requires-3 c κs = search needs
+
+inside-requires-4 : tie.Need-inside-requires-4
+inside-requires-4 c κs = search needs
+
+inside-requires-5 : tie.Need-inside-requires-5
+inside-requires-5 c κs = search needs
+
+returns : tie.Need-returns
+returns c =
+    info-placed (c .before .before .before .before .before .before .before .before .args .n) (c .before .before .before .before .before .before .before .before .args .i) (c .before .before .before .before .before .before .label-place .ensures) (c .before .before .before .before .before .inside .ensures) (c .before .before .before .before .inside2 .ensures) (c .before .before .before .network-placed .ensures) (c .before .before .inside3 .ensures) (c .before .inside4 .ensures) (c .inside5 .ensures)
+
+pub info-placed-spec : {M : Type 1} → statement M
+info-placed-spec =
+    tie.close
+    (tie.spec
+    label-place-requires
+    inside-requires
+    inside-requires-2
+    network-placed-requires
+    inside-requires-3
+    inside-requires-4
+    inside-requires-5
+    returns)

@@ -1,0 +1,40 @@
+use borrow.Author.Needs.{needs}
+use Rattle.writable.proofs.present_info.Statement.{statement}
+use Rattle.writable.proofs.present_info.Tie as tie
+
+flag-requires : tie.Need-flag-requires
+flag-requires c κs = search needs
+
+kept-volume-requires : tie.Need-kept-volume-requires
+kept-volume-requires c κs = search needs
+
+kept-requires : tie.Need-kept-requires
+kept-requires c κs = search needs
+
+flag-requires-2 : tie.Need-flag-requires-2
+flag-requires-2 c κs = search needs
+
+kept-network-requires : tie.Need-kept-network-requires
+kept-network-requires c κs = search needs
+
+kept-requires-2 : tie.Need-kept-requires-2
+kept-requires-2 c κs = search needs
+
+kept-requires-3 : tie.Need-kept-requires-3
+kept-requires-3 c κs = search needs
+
+returns : tie.Need-returns
+returns c = cc
+
+pub present-info-spec : {M : Type 1} → statement M
+present-info-spec =
+    tie.close
+    (tie.spec
+    flag-requires
+    kept-volume-requires
+    kept-requires
+    flag-requires-2
+    kept-network-requires
+    kept-requires-2
+    kept-requires-3
+    returns)
