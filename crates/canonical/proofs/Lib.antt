@@ -1,0 +1,6 @@
+pub mod SignedLaws
+pub mod WroteLaws
+pub mod SizeLaws
+pub mod LayoutLaws
+pub mod FitsLaws
+pub mod LimitLaws

@@ -1,0 +1,20 @@
+use Rattle.canonical.proofs.WroteLaws.{wrote-none}
+use native.Mathlib.Omega.{arith}
+use borrow.Author.Needs.{needs}
+use Rattle.canonical.proofs.info.put_info_if.Statement.{statement}
+use Rattle.canonical.proofs.info.put_info_if.Tie as tie
+
+put-info-requires : tie.Need-put-info-requires
+put-info-requires c κs = (c .before .before .before .before .pre .0, rw (c .before .if1 .taken) at (c .before .before .before .before .pre .1))
+
+same-length : tie.Need-same-length
+same-length c = search needs
+
+returns : tie.Need-returns
+returns c = rw (c .before .before .before .before .if1 .taken) (c .before .before .put-info .ensures)
+
+returns-2 : tie.Need-returns-2
+returns-2 c = rw (c .if1 .left) (wrote-none _ _ (omega arith))
+
+pub put-info-if-spec : {M : Type 1} → statement M
+put-info-if-spec = tie.close (tie.spec put-info-requires same-length returns returns-2)

@@ -1,0 +1,20 @@
+use Rattle.canonical.proofs.WroteLaws.{wrote-number}
+use native.Mathlib.Omega.{arith}
+use borrow.Author.Needs.{needs}
+use Rattle.canonical.proofs.numbers.add_u64.Statement.{statement}
+use Rattle.canonical.proofs.numbers.add_u64.Tie as tie
+
+put-u64-requires : tie.Need-put-u64-requires
+put-u64-requires c κs = search needs
+
+add-result : tie.Need-add-result
+add-result c = search needs
+
+same-length : tie.Need-same-length
+same-length c = search needs
+
+returns : tie.Need-returns
+returns c = wrote-number 8 _ _ _ (c .before .before .put-u64 .ensures) (omega arith)
+
+pub add-u64-spec : {M : Type 1} → statement M
+add-u64-spec = tie.close (tie.spec put-u64-requires add-result same-length returns)

@@ -1,0 +1,27 @@
+use Rattle.canonical.proofs.LayoutLaws.{string-is}
+use Rattle.canonical.proofs.WroteLaws.{join, reword}
+use mathlib.Core.Path.{refl}
+use borrow.Author.Needs.{needs}
+use Rattle.canonical.proofs.put_string.Statement.{statement}
+use Rattle.canonical.proofs.put_string.Tie as tie
+
+characters-in-requires : tie.Need-characters-in-requires
+characters-in-requires c κs = search needs
+
+add-u16-requires : tie.Need-add-u16-requires
+add-u16-requires c κs = search needs
+
+put-body-requires : tie.Need-put-body-requires
+put-body-requires c κs = search needs
+
+same-length : tie.Need-same-length
+same-length c = search needs
+
+returns : tie.Need-returns
+returns c =
+    reword (join (c .before .before .before .before .before .before .add-u16 .ensures) (c .before .before .put-body .ensures)) (string-is (c .before .before .before .before .before .before .before .before .before .before .before .pre .0) _ (c .before .before .before .before .before .before .before .before .characters-in .ensures)) refl
+
+pub put-string-spec : {M : Type 1} → statement M
+put-string-spec =
+    tie.close
+    (tie.spec characters-in-requires add-u16-requires put-body-requires same-length returns)

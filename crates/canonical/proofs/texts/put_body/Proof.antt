@@ -1,0 +1,28 @@
+use Rattle.canonical.proofs.WroteLaws.{length-body, body-part, wrote-body}
+use lib.ListN.{length}
+use mathlib.Core.Path.{ap}
+use native.Mathlib.Omega.{arith}
+use borrow.Author.Needs.{needs}
+use Rattle.canonical.proofs.texts.put_body.Statement.{statement}
+use Rattle.canonical.proofs.texts.put_body.Tie as tie
+
+part-requires : tie.Need-part-requires
+part-requires c κs = search needs
+
+put-bytes-requires : tie.Need-put-bytes-requires
+put-bytes-requires c κs =
+    omega (arith, ap length (c .part .ensures), ap length (body-part (c .before .before .before .before .pre .0)), length-body (c .before .before .before .before .pre .0))
+
+add-result : tie.Need-add-result
+add-result c = search needs
+
+same-length : tie.Need-same-length
+same-length c = search needs
+
+returns : tie.Need-returns
+returns c =
+    wrote-body (c .before .before .before .before .before .before .before .pre .0) (c .before .before .before .part .ensures) (c .before .before .put-bytes .ensures) (omega arith)
+
+pub put-body-spec : {M : Type 1} → statement M
+put-body-spec =
+    tie.close (tie.spec part-requires put-bytes-requires add-result same-length returns)

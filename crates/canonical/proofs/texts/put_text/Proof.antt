@@ -1,0 +1,19 @@
+use Rattle.canonical.proofs.WroteLaws.{join}
+use borrow.Author.Needs.{needs}
+use Rattle.canonical.proofs.texts.put_text.Statement.{statement}
+use Rattle.canonical.proofs.texts.put_text.Tie as tie
+
+put-body-requires : tie.Need-put-body-requires
+put-body-requires c κs = search needs
+
+put-end-requires : tie.Need-put-end-requires
+put-end-requires c κs = search needs
+
+same-length : tie.Need-same-length
+same-length c = search needs
+
+returns : tie.Need-returns
+returns c = join (c .before .before .before .before .before .before .put-body .ensures) (c .before .before .put-end .ensures)
+
+pub put-text-spec : {M : Type 1} → statement M
+put-text-spec = tie.close (tie.spec put-body-requires put-end-requires same-length returns)

@@ -1,0 +1,5 @@
+pub mod Inside
+pub mod Sizes
+pub mod Puts
+pub mod Layout
+pub mod Limits

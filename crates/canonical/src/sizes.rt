@@ -1,0 +1,249 @@
+// How many bytes each part of the canonical form has, and where the pieces of LinkInfo start.
+use format::Info;
+use format::Label;
+use format::Network;
+use format::Place;
+use format::Record;
+use format::Volume;
+ghost use mathlib.Core.Path.{_≡_};
+ghost use mathlib.Core.Bool.{cond};
+ghost use Prim.Native.Nat.{_≤_};
+ghost use Rattle.octets.specs.Characters.{bytesOf};
+ghost use Rattle.format.specs.Volume.{labelLeast};
+ghost use Rattle.format.specs.Network.{networkHead};
+ghost use Rattle.format.specs.Contents.{labelPlace, labelKind};
+ghost use Rattle.canonical.specs.Sizes.{charactersIn, textSize, textSizeIf, volumeSize, deviceOffset, netUnicodeOffset, deviceUnicodeOffset, networkSize, infoHead, localOffset, networkOffset, suffixOffset, localUnicodeOffset, suffixUnicodeOffset, infoSize, sizedIf, stringsSize, canonicalSize};
+
+// Where the names of the network link start, and where the last one ends.
+pub struct NetworkStarts {
+    pub device: u32,
+    pub net_unicode: u32,
+    pub device_unicode: u32,
+    pub end: u32,
+}
+
+// Where the pieces of LinkInfo start, and where the last one ends.
+pub struct InfoStarts {
+    pub local: u32,
+    pub network: u32,
+    pub suffix: u32,
+    pub local_unicode: u32,
+    pub suffix_unicode: u32,
+    pub end: u32,
+}
+
+// ---- characters and strings
+
+// How many characters stand in n bytes.
+pub fn characters_in(unicode: bool, n: usize) -> u16
+    requires { ⌜ n ≤ 65535 ⌝ }
+    ensures { λ r. ⌜ r ≡ charactersIn unicode n ⌝ }
+{
+    if unicode {
+        return (n / 2) as u16;
+    }
+    n as u16
+}
+
+// How many bytes a character has.
+pub fn width(unicode: bool) -> usize
+    ensures { λ r. ⌜ r ≡ bytesOf unicode 1 ⌝ }
+{
+    if unicode {
+        return 2;
+    }
+    1
+}
+
+pub fn text_size(unicode: bool, b: Place) -> u32
+    requires { ⌜ textSize unicode b ≤ 4294967295 ⌝ }
+    ensures { λ r. ⌜ r ≡ textSize unicode b ⌝ }
+{
+    (b.len + width(unicode)) as u32
+}
+
+pub fn text_size_if(there: bool, unicode: bool, b: Place) -> u32
+    requires { ⌜ textSizeIf there unicode b ≤ 4294967295 ⌝ }
+    ensures { λ r. ⌜ r ≡ textSizeIf there unicode b ⌝ }
+{
+    if there {
+        return text_size(unicode, b);
+    }
+    0
+}
+
+// ---- VolumeID
+
+pub fn label_unicode(l: Label) -> bool
+    ensures { λ r. ⌜ r ≡ labelKind l ⌝ }
+{
+    match l {
+        Label::Byte(_) => false,
+        Label::Unicode(_) => true,
+    }
+}
+
+pub fn label_place(l: Label) -> Place
+    ensures { λ r. ⌜ r ≡ labelPlace l ⌝ }
+{
+    match l {
+        Label::Byte(b) => b,
+        Label::Unicode(b) => b,
+    }
+}
+
+// Where the label starts.
+pub fn label_start(unicode: bool) -> u32
+    ensures { λ r. ⌜ r ≡ labelLeast unicode ⌝ }
+{
+    if unicode {
+        return 0x14;
+    }
+    0x10
+}
+
+pub fn volume_size(v: Volume) -> u32
+    requires { ⌜ volumeSize v ≤ 4294967295 ⌝ }
+    ensures { λ r. ⌜ r ≡ volumeSize v ⌝ }
+{
+    let l = v.label;
+    let unicode = label_unicode(l);
+    let b = label_place(l);
+    label_start(unicode) + text_size(unicode, b)
+}
+
+pub fn volume_size_if(there: bool, v: Volume) -> u32
+    requires { ⌜ cond there (volumeSize v) 0 ≤ 4294967295 ⌝ }
+    ensures { λ r. ⌜ r ≡ cond there (volumeSize v) 0 ⌝ }
+{
+    if there {
+        return volume_size(v);
+    }
+    0
+}
+
+// ---- the network link
+
+// Where the net name starts.
+pub fn network_head(unicode: bool) -> u32
+    ensures { λ r. ⌜ r ≡ networkHead unicode ⌝ }
+{
+    if unicode {
+        return 0x1C;
+    }
+    0x14
+}
+
+pub fn network_starts(n: Network) -> NetworkStarts
+    requires { ⌜ networkSize n ≤ 4294967295 ⌝ }
+    ensures { λ r. ⌜ (r .device ≡ deviceOffset n) × (r .«net_unicode» ≡ netUnicodeOffset n) × (r .«device_unicode» ≡ deviceUnicodeOffset n) × (r .end ≡ networkSize n) ⌝ }
+{
+    let named = n.flags / 1 % 2 == 1;
+    let wide = n.unicode;
+    let device = network_head(wide) + text_size(false, n.net);
+    let net_unicode = device + text_size_if(named, false, n.device);
+    let device_unicode = net_unicode + text_size_if(wide, true, n.net_unicode);
+    let end = device_unicode + text_size_if(wide & named, true, n.device_unicode);
+    NetworkStarts {
+        device,
+        net_unicode,
+        device_unicode,
+        end,
+    }
+}
+
+pub fn network_size_if(there: bool, n: Network) -> u32
+    requires { ⌜ cond there (networkSize n) 0 ≤ 4294967295 ⌝ }
+    ensures { λ r. ⌜ r ≡ cond there (networkSize n) 0 ⌝ }
+{
+    if there {
+        let s = network_starts(n);
+        return s.end;
+    }
+    0
+}
+
+// ---- LinkInfo
+
+// Where the first piece starts.
+pub fn info_head(long: bool) -> u32
+    ensures { λ r. ⌜ r ≡ infoHead long ⌝ }
+{
+    if long {
+        return 0x24;
+    }
+    0x1C
+}
+
+pub fn info_starts(i: Info) -> InfoStarts
+    requires { ⌜ infoSize i ≤ 4294967295 ⌝ }
+    ensures { λ r. ⌜ (r .local ≡ localOffset i) × (r .network ≡ networkOffset i) × (r .suffix ≡ suffixOffset i) × (r .«local_unicode» ≡ localUnicodeOffset i) × (r .«suffix_unicode» ≡ suffixUnicodeOffset i) × (r .end ≡ infoSize i) ⌝ }
+{
+    let here = i.flags / 1 % 2 == 1;
+    let away = i.flags / 2 % 2 == 1;
+    let long = i.long;
+    let local = info_head(long) + volume_size_if(here, i.volume);
+    let network = local + text_size_if(here, false, i.local);
+    let suffix = network + network_size_if(away, i.network);
+    let local_unicode = suffix + text_size(false, i.suffix);
+    let suffix_unicode = local_unicode + text_size_if(long & here, true, i.local_unicode);
+    let end = suffix_unicode + text_size_if(long, true, i.suffix_unicode);
+    InfoStarts {
+        local,
+        network,
+        suffix,
+        local_unicode,
+        suffix_unicode,
+        end,
+    }
+}
+
+pub fn info_size_if(there: bool, i: Info) -> u32
+    requires { ⌜ cond there (infoSize i) 0 ≤ 4294967295 ⌝ }
+    ensures { λ r. ⌜ r ≡ cond there (infoSize i) 0 ⌝ }
+{
+    if there {
+        let s = info_starts(i);
+        return s.end;
+    }
+    0
+}
+
+// ---- the whole
+
+// A body with so many bytes beside it.
+pub fn sized_if(there: bool, beside: usize, b: Place) -> u32
+    requires { ⌜ sizedIf there beside b ≤ 4294967295 ⌝ }
+    ensures { λ r. ⌜ r ≡ sizedIf there beside b ⌝ }
+{
+    if there {
+        return (beside + b.len) as u32;
+    }
+    0
+}
+
+// The five strings with their counts.
+pub fn strings_size(q: Record) -> u32
+    requires { ⌜ stringsSize q ≤ 4294967295 ⌝ }
+    ensures { λ r. ⌜ r ≡ stringsSize q ⌝ }
+{
+    let flags = q.header.flags;
+    sized_if(flags / 4 % 2 == 1, 2, q.name)
+        + sized_if(flags / 8 % 2 == 1, 2, q.relative)
+        + sized_if(flags / 16 % 2 == 1, 2, q.workdir)
+        + sized_if(flags / 32 % 2 == 1, 2, q.arguments)
+        + sized_if(flags / 64 % 2 == 1, 2, q.icon)
+}
+
+// The length of the canonical form.
+pub fn canonical_size(q: Record) -> usize
+    requires { ⌜ canonicalSize q ≤ 4294967295 ⌝ }
+    ensures { λ r. ⌜ r ≡ canonicalSize q ⌝ }
+{
+    let flags = q.header.flags;
+    let items = sized_if(flags / 1 % 2 == 1, 4, q.items);
+    let info = info_size_if(flags / 2 % 2 == 1, q.info);
+    let strings = strings_size(q);
+    let blocks = sized_if(true, 4, q.blocks);
+    (76 + items + info + strings + blocks) as usize
+}

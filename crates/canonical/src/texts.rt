@@ -1,0 +1,63 @@
+// A body, and a string with its terminator.
+use crate::numbers::add_u16;
+use format::Place;
+ghost use Prim.Native.Nat.{_+_, _≤_};
+ghost use lib.ListN.{length, replicate};
+ghost use Rattle.octets.specs.Characters.{bytesOf};
+ghost use Rattle.format.specs.Contents.{bytesAt};
+ghost use Rattle.format.specs.Writing.{ifThere, textBytes};
+ghost use Rattle.canonical.specs.Inside.{Inside};
+ghost use Rattle.canonical.specs.Sizes.{textSize, textSizeIf};
+ghost use Rattle.canonical.specs.Puts.{Room, Wrote};
+
+// The bytes of the body at its place in the body buffer d.
+pub fn put_body(out: &mut [u8], at: usize, d: &[u8], b: Place) -> usize
+    requires { ⌜ Inside (now d) b ⌝ }
+    requires { ⌜ Room (now out) at (b .len) ⌝ }
+    ensures { λ r. ⌜ Wrote (now (out .entry)) at (bytesAt (now (d .entry)) b) (b .len) (now (out .exit)) r ⌝ }
+{
+    let from = b.at;
+    let n = b.len;
+    octets::put_bytes(out, at, octets::part(d, from, n));
+    at + n
+}
+
+// One zero character.
+pub fn put_end(out: &mut [u8], at: usize, unicode: bool) -> usize
+    requires { ⌜ at + bytesOf unicode 1 ≤ length (now out) ⌝ }
+    ensures { λ r. ⌜ Wrote (now (out .entry)) at (replicate (bytesOf unicode 1) 0) (bytesOf unicode 1) (now (out .exit)) r ⌝ }
+{
+    if unicode {
+        return add_u16(out, at, 0);
+    }
+    out[at] = 0;
+    at + 1
+}
+
+pub fn put_text(out: &mut [u8], at: usize, d: &[u8], unicode: bool, b: Place) -> usize
+    requires { ⌜ Inside (now d) b ⌝ }
+    requires { ⌜ Room (now out) at (textSize unicode b) ⌝ }
+    ensures { λ r. ⌜ Wrote (now (out .entry)) at (textBytes unicode (bytesAt (now (d .entry)) b)) (textSize unicode b) (now (out .exit)) r ⌝ }
+{
+    let p = put_body(out, at, d, b);
+    put_end(out, p, unicode)
+}
+
+// A string that is there or not.
+pub fn put_text_if(
+    there: bool,
+    out: &mut [u8],
+    at: usize,
+    d: &[u8],
+    unicode: bool,
+    b: Place,
+) -> usize
+    requires { ⌜ Inside (now d) b ⌝ }
+    requires { ⌜ Room (now out) at (textSizeIf there unicode b) ⌝ }
+    ensures { λ r. ⌜ Wrote (now (out .entry)) at (ifThere there (textBytes unicode) (bytesAt (now (d .entry)) b)) (textSizeIf there unicode b) (now (out .exit)) r ⌝ }
+{
+    if there {
+        return put_text(out, at, d, unicode, b);
+    }
+    at
+}
