@@ -1,0 +1,23 @@
+// Writes a record and the bytes of its bodies as the shortest shortcut that reads as the record.
+use format::Fault;
+use format::Record;
+use format::Verdict;
+ghost use mathlib.Core.Path.{_≡_};
+ghost use Rattle.format.specs.Writing.{writeAnswer, writeOutput};
+
+pub fn write(r: Record, d: &[u8], out: &mut [u8]) -> Verdict
+    ensures answer { λ v. ⌜ v ≡ writeAnswer r (now (d .entry)) (now (out .entry)) ⌝ }
+    ensures output { λ _. ⌜ now (out .exit) ≡ writeOutput r (now (d .entry)) (now (out .entry)) ⌝ }
+{
+    let q = writable::present(r);
+    if !writable::placed(q, d.len()) {
+        return Verdict::Refused(Fault::Place, 0);
+    }
+    if !writable::writable(q, d) {
+        return Verdict::Refused(Fault::Unwritable, 0);
+    }
+    if out.len() < writable::length(q) {
+        return Verdict::Refused(Fault::Room, 0);
+    }
+    Verdict::Accepted(canonical::put_canonical(out, q, d))
+}
