@@ -54,7 +54,7 @@ fn section_lines(f: u32, e: Ends) {
     line_if(f / 64 % 2 == 1, b"icon", e.arguments, e.icon);
 }
 
-fn refused_line(f: Fault, p: usize) {
+pub fn refused_line(f: Fault, p: usize) {
     io::write_all(1, b"refused ");
     io::print_decimal(1, format::number_of(f) as u64);
     io::write_all(1, b" ");

@@ -1,0 +1,36 @@
+// Rewrites shortcuts that stand one after another on standard input, each after its length in four bytes.
+use format::Verdict;
+
+// The listing of the canonical form and its bytes, or the refusal line.
+fn show(s: &[u8]) {
+    let mut out = [0u8; 65536];
+    let v = rewriting::rewrite(s, &mut out);
+    match v {
+        Verdict::Accepted(m) => {
+            let w = octets::part(&out, 0, m);
+            lines::listing(w);
+            io::write_all(1, w);
+        }
+        Verdict::Refused(f, p) => lines::refused_line(f, p),
+    }
+}
+
+fn each(s: &[u8]) {
+    let n = s.len();
+    let mut p = 0;
+    while 4 <= n - p {
+        let size = octets::u32_at(s, p) as usize;
+        p += 4;
+        if n - p < size {
+            return;
+        }
+        show(octets::part(s, p, size));
+        p += size;
+    }
+}
+
+fn main() {
+    let mut room = [0u8; 524288];
+    let n = io::read_full(0, &mut room);
+    each(&room[..n]);
+}
