@@ -108,10 +108,6 @@ module _ {d out : List ℕ} {q : Record} (f : Fits d out q) where
       record { room = omega arith; few = omega arith }
 
 -- by the size that the record tells
-pub fits-of : (d out : List ℕ) (q : Record) → allInside (length d) (bodies q) ≡ true → canonicalSize q ≤ most → canonicalSize q ≤ length out → Fits d out q
-fits-of d out q i h k =
-    let e = canonical-size (record-inside d q i) in
-    record { inside = i; few = omega arith; room = omega arith }
 
 -- what was written from the start on
 pub wrote-whole : {out w x : List ℕ} {n r : ℕ} → Wrote out 0 w n x r → (r ≡ length w) × (x ≡ put out 0 w)

@@ -3,4 +3,3 @@ pub mod WroteLaws
 pub mod SizeLaws
 pub mod LayoutLaws
 pub mod FitsLaws
-pub mod LimitLaws

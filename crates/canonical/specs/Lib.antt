@@ -2,4 +2,3 @@ pub mod Inside
 pub mod Sizes
 pub mod Puts
 pub mod Layout
-pub mod Limits

@@ -1,6 +1,5 @@
 // Puts the canonical bytes of a record into a lent buffer. A function that puts answers the place after what it put.
 pub mod info;
-pub mod limits;
 pub mod numbers;
 pub mod sizes;
 pub mod texts;

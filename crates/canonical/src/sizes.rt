@@ -3,7 +3,6 @@ use format::Info;
 use format::Label;
 use format::Network;
 use format::Place;
-use format::Record;
 use format::Volume;
 ghost use mathlib.Core.Path.{_≡_};
 ghost use mathlib.Core.Bool.{cond};
@@ -12,7 +11,7 @@ ghost use Rattle.octets.specs.Characters.{bytesOf};
 ghost use Rattle.format.specs.Volume.{labelLeast};
 ghost use Rattle.format.specs.Network.{networkHead};
 ghost use Rattle.format.specs.Contents.{labelPlace, labelKind};
-ghost use Rattle.canonical.specs.Sizes.{charactersIn, textSize, textSizeIf, volumeSize, deviceOffset, netUnicodeOffset, deviceUnicodeOffset, networkSize, infoHead, localOffset, networkOffset, suffixOffset, localUnicodeOffset, suffixUnicodeOffset, infoSize, sizedIf, stringsSize, canonicalSize};
+ghost use Rattle.canonical.specs.Sizes.{charactersIn, textSize, textSizeIf, volumeSize, deviceOffset, netUnicodeOffset, deviceUnicodeOffset, networkSize, infoHead, localOffset, networkOffset, suffixOffset, localUnicodeOffset, suffixUnicodeOffset, infoSize};
 
 // Where the names of the network link start, and where the last one ends.
 pub struct NetworkStarts {
@@ -196,54 +195,4 @@ pub fn info_starts(i: Info) -> InfoStarts
         suffix_unicode,
         end,
     }
-}
-
-pub fn info_size_if(there: bool, i: Info) -> u32
-    requires { ⌜ cond there (infoSize i) 0 ≤ 4294967295 ⌝ }
-    ensures { λ r. ⌜ r ≡ cond there (infoSize i) 0 ⌝ }
-{
-    if there {
-        let s = info_starts(i);
-        return s.end;
-    }
-    0
-}
-
-// ---- the whole
-
-// A body with so many bytes beside it.
-pub fn sized_if(there: bool, beside: usize, b: Place) -> u32
-    requires { ⌜ sizedIf there beside b ≤ 4294967295 ⌝ }
-    ensures { λ r. ⌜ r ≡ sizedIf there beside b ⌝ }
-{
-    if there {
-        return (beside + b.len) as u32;
-    }
-    0
-}
-
-// The five strings with their counts.
-pub fn strings_size(q: Record) -> u32
-    requires { ⌜ stringsSize q ≤ 4294967295 ⌝ }
-    ensures { λ r. ⌜ r ≡ stringsSize q ⌝ }
-{
-    let flags = q.header.flags;
-    sized_if(flags / 4 % 2 == 1, 2, q.name)
-        + sized_if(flags / 8 % 2 == 1, 2, q.relative)
-        + sized_if(flags / 16 % 2 == 1, 2, q.workdir)
-        + sized_if(flags / 32 % 2 == 1, 2, q.arguments)
-        + sized_if(flags / 64 % 2 == 1, 2, q.icon)
-}
-
-// The length of the canonical form.
-pub fn canonical_size(q: Record) -> usize
-    requires { ⌜ canonicalSize q ≤ 4294967295 ⌝ }
-    ensures { λ r. ⌜ r ≡ canonicalSize q ⌝ }
-{
-    let flags = q.header.flags;
-    let items = sized_if(flags / 1 % 2 == 1, 4, q.items);
-    let info = info_size_if(flags / 2 % 2 == 1, q.info);
-    let strings = strings_size(q);
-    let blocks = sized_if(true, 4, q.blocks);
-    (76 + items + info + strings + blocks) as usize
 }

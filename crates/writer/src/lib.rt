@@ -19,5 +19,6 @@ pub fn write(r: Record, d: &[u8], out: &mut [u8]) -> Verdict
     if out.len() < writable::length(q) {
         return Verdict::Refused(Fault::Room, 0);
     }
-    Verdict::Accepted(canonical::put_canonical(out, q, d))
+    let n = canonical::put_canonical(out, q, d);
+    Verdict::Accepted(n)
 }

@@ -1,0 +1,20 @@
+-- What rewriting an accepted shortcut keeps.
+use Prim.Native.Nat.{ℕ, _≤_}
+use mathlib.Core.Path.{_≡_}
+use mathlib.Core.List.{List}
+use lib.ListN.{length}
+use Rattle.octets.specs.Parts.{put}
+use Rattle.format.specs.declared.Record.{Record}
+use Rattle.format.specs.declared.Verdict.{Verdict}
+use Rattle.format.specs.declared.Verdict.the-variants.{Accepted}
+use Rattle.format.specs.Demands.{ReadsAs}
+
+-- the shortcut s with the record r, rewritten into the lent buffer out: the answer v, and the buffer x at the end
+pub record Kept (s : List ℕ) (r : Record) (out : List ℕ) (v : Verdict) (x : List ℕ) : Type 0 where
+  -- it is accepted and reads as the same record
+  pub form : List ℕ
+  pub reads : ReadsAs form r s
+  -- and is not longer
+  pub short : length form ≤ length s
+  pub answer : v ≡ Accepted (length form)
+  pub output : x ≡ put out 0 form
