@@ -4,8 +4,6 @@ use crate::numbers::add_u32;
 use crate::numbers::number_if;
 use crate::sizes::info_head;
 use crate::sizes::info_starts;
-use crate::sizes::label_place;
-use crate::sizes::label_unicode;
 use crate::sizes::network_head;
 use crate::sizes::network_starts;
 use crate::sizes::volume_size;
@@ -44,8 +42,8 @@ pub fn put_volume(out: &mut [u8], at: usize, v: Volume, d: &[u8]) -> usize
     ensures { λ r. ⌜ Wrote (now (out .entry)) at (volumeBytes (volumeContents (now (d .entry)) v)) (volumeSize v) (now (out .exit)) r ⌝ }
 {
     let l = v.label;
-    let unicode = label_unicode(l);
-    let b = label_place(l);
+    let unicode = format::label_unicode(l);
+    let b = format::label_place(l);
     let size = volume_size(v);
     let p = add_u32(out, at, size);
     let p = add_u32(out, p, v.drive);

@@ -1,6 +1,5 @@
 // How many bytes each part of the canonical form has, and where the pieces of LinkInfo start.
 use format::Info;
-use format::Label;
 use format::Network;
 use format::Place;
 use format::Volume;
@@ -10,7 +9,6 @@ ghost use Prim.Native.Nat.{_≤_};
 ghost use Rattle.octets.specs.Characters.{bytesOf};
 ghost use Rattle.format.specs.Volume.{labelLeast};
 ghost use Rattle.format.specs.Network.{networkHead};
-ghost use Rattle.format.specs.Contents.{labelPlace, labelKind};
 ghost use Rattle.canonical.specs.Sizes.{charactersIn, textSize, textSizeIf, volumeSize, deviceOffset, netUnicodeOffset, deviceUnicodeOffset, networkSize, infoHead, localOffset, networkOffset, suffixOffset, localUnicodeOffset, suffixUnicodeOffset, infoSize};
 
 // Where the names of the network link start, and where the last one ends.
@@ -73,24 +71,6 @@ pub fn text_size_if(there: bool, unicode: bool, b: Place) -> u32
 
 // ---- VolumeID
 
-pub fn label_unicode(l: Label) -> bool
-    ensures { λ r. ⌜ r ≡ labelKind l ⌝ }
-{
-    match l {
-        Label::Byte(_) => false,
-        Label::Unicode(_) => true,
-    }
-}
-
-pub fn label_place(l: Label) -> Place
-    ensures { λ r. ⌜ r ≡ labelPlace l ⌝ }
-{
-    match l {
-        Label::Byte(b) => b,
-        Label::Unicode(b) => b,
-    }
-}
-
 // Where the label starts.
 pub fn label_start(unicode: bool) -> u32
     ensures { λ r. ⌜ r ≡ labelLeast unicode ⌝ }
@@ -106,8 +86,8 @@ pub fn volume_size(v: Volume) -> u32
     ensures { λ r. ⌜ r ≡ volumeSize v ⌝ }
 {
     let l = v.label;
-    let unicode = label_unicode(l);
-    let b = label_place(l);
+    let unicode = format::label_unicode(l);
+    let b = format::label_place(l);
     label_start(unicode) + text_size(unicode, b)
 }
 

@@ -2,6 +2,7 @@
 ghost use mathlib.Core.Path.{_≡_};
 ghost use Rattle.format.specs.Numbers.{numberOf};
 ghost use Rattle.format.specs.Tests.{bit};
+ghost use Rattle.format.specs.Contents.{labelPlace, labelKind};
 
 // Where a body stands in the body buffer, and how many bytes it has.
 pub struct Place {
@@ -127,4 +128,22 @@ pub fn bit_1(n: u32) -> bool
     ensures { λ r. ⌜ r ≡ bit 1 n ⌝ }
 {
     n / 2 % 2 == 1
+}
+
+pub fn label_unicode(l: Label) -> bool
+    ensures { λ r. ⌜ r ≡ labelKind l ⌝ }
+{
+    match l {
+        Label::Byte(_) => false,
+        Label::Unicode(_) => true,
+    }
+}
+
+pub fn label_place(l: Label) -> Place
+    ensures { λ r. ⌜ r ≡ labelPlace l ⌝ }
+{
+    match l {
+        Label::Byte(b) => b,
+        Label::Unicode(b) => b,
+    }
 }

@@ -16,7 +16,7 @@ ghost use Rattle.format.specs.Tests.{noPlace};
 ghost use Rattle.format.specs.Volume.{noVolume};
 ghost use Rattle.format.specs.Network.{networkHead, noNetwork};
 ghost use Rattle.format.specs.Info.{noInfo};
-ghost use Rattle.format.specs.Contents.{presentNetwork, presentInfo, present, labelPlace, labelKind, bodies, allInside, bytesAt, volumeContents, networkContents, infoContents, bodiesOf};
+ghost use Rattle.format.specs.Contents.{presentNetwork, presentInfo, present, bodies, allInside, bytesAt, volumeContents, networkContents, infoContents, bodiesOf};
 ghost use Rattle.format.specs.Writing.{writableIf, writableHeader, writableItems, writableText, writableVolume, writableNetwork, writableInfo, writableString, writableBlocks, writable};
 ghost use Rattle.octets.specs.Characters.{characters, hasZero};
 ghost use Rattle.blocks.specs.Walk.{isFound};
@@ -180,24 +180,6 @@ fn inside(b: Place, n: usize) -> bool
     b.at <= n - b.len
 }
 
-pub fn label_place(l: Label) -> Place
-    ensures { λ r. ⌜ r ≡ labelPlace l ⌝ }
-{
-    match l {
-        Label::Byte(b) => b,
-        Label::Unicode(b) => b,
-    }
-}
-
-pub fn label_unicode(l: Label) -> bool
-    ensures { λ r. ⌜ r ≡ labelKind l ⌝ }
-{
-    match l {
-        Label::Byte(_) => false,
-        Label::Unicode(_) => true,
-    }
-}
-
 fn network_placed(x: Network, n: usize) -> bool
     ensures { λ r. ⌜ r ≡ allInside n (networkBodies x) ⌝ }
 {
@@ -209,7 +191,7 @@ fn info_placed(i: Info, n: usize) -> bool
 {
     let v = i.volume;
     let l = v.label;
-    inside(label_place(l), n)
+    inside(format::label_place(l), n)
         & inside(i.local, n)
         & network_placed(i.network, n)
         & inside(i.suffix, n)
@@ -377,7 +359,7 @@ pub fn volume_ok(v: Volume, d: &[u8]) -> bool
     ensures { λ r. ⌜ r ≡ writableVolume (volumeContents (now (d .entry)) v) ⌝ }
 {
     let l = v.label;
-    (v.drive <= 6) & text_if(true, label_unicode(l), label_place(l), d)
+    (v.drive <= 6) & text_if(true, format::label_unicode(l), format::label_place(l), d)
 }
 
 fn volume_if(there: bool, v: Volume, d: &[u8]) -> bool
@@ -466,8 +448,8 @@ pub fn volume_length(v: Volume) -> usize
     ensures { λ r. ⌜ r ≡ capped (volumeSpan v) ⌝ }
 {
     let l = v.label;
-    let b = label_place(l);
-    if label_unicode(l) {
+    let b = format::label_place(l);
+    if format::label_unicode(l) {
         plus(0x14, body_length(true, b, 2))
     } else {
         plus(0x10, body_length(true, b, 1))
