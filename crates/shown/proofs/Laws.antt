@@ -287,3 +287,11 @@ section-inside s name block = go (shortcut s) refl
 pub section-shown : (s : List ℕ) (name block : ℕ) {b : Place} {r : List ℕ} → b ≡ sectionPlace s name block → r ≡ part s (b .at) (b .len) → r ≡ shown s name block
 unfolding shown
 section-shown s name block {b} e p = p ∙ sym (part-in s (b .at) (b .len) (rw e (section-inside s name block))) ∙ rw e
+
+-- for a caller that puts place and length in one number
+pub section-small : (s : List ℕ) (name block : ℕ) {b : Place} → b ≡ sectionPlace s name block → b .at + b .len ≤ 65536
+section-small s name block {b} e = go (shortcut s) refl
+  where
+    go : (o : Outcome Sections) → shortcut s ≡ o → b .at + b .len ≤ 65536
+    go (got c n) i = let h = section-inside s name block in let l = (shortcut-whole s c n i) .limit in rw e (omega (arith, h, l))
+    go (refused f p) i = rw (e, ← (none-place s block name (refused-listing s i))) (omega arith)

@@ -1,0 +1,3 @@
+pub mod PositionLaws
+pub mod CodeLaws
+pub mod Once

@@ -1,0 +1,22 @@
+-- What the contract of a public call allows is one outcome.
+use mathlib.Core.Path.{_≡_, sym, _∙_}
+use borrow.Fn.World.{ArgsD, ResD}
+use contract.Lifetimes.{Lfts}
+use denote.Ref.{now}
+use denote.Triple.Clauses.{AtExit}
+use Rattle.scheduler.proofs.herringnet_check as herringnet-check
+use Rattle.scheduler.proofs.herringnet_check.Reads as herringnet-check-reads
+use Rattle.scheduler.proofs.herringnet_target as herringnet-target
+use Rattle.scheduler.proofs.herringnet_target.Reads as herringnet-target-reads
+use Rattle.scheduler.proofs.herringnet_section as herringnet-section
+use Rattle.scheduler.proofs.herringnet_section.Reads as herringnet-section-reads
+
+pub herringnet-check-once : (κs : Lfts 1) (a : ArgsD herringnet-check.signature κs) (r q : ResD herringnet-check.signature κs) (s t : AtExit herringnet-check.ended κs) → herringnet-check-reads.Post κs a r s → herringnet-check-reads.Post κs a q t → r ≡ q
+herringnet-check-once κs a r q s t p o = p ∙ sym o
+
+pub herringnet-section-once : (κs : Lfts 1) (a : ArgsD herringnet-section.signature κs) (r q : ResD herringnet-section.signature κs) (s t : AtExit herringnet-section.ended κs) → herringnet-section-reads.Post κs a r s → herringnet-section-reads.Post κs a q t → r ≡ q
+herringnet-section-once κs a r q s t p o = p ∙ sym o
+
+-- one answer, and one content of the buffer
+pub herringnet-target-once : (κs : Lfts 2) (a : ArgsD herringnet-target.signature κs) (r q : ResD herringnet-target.signature κs) (s t : AtExit herringnet-target.ended κs) → herringnet-target-reads.Post κs a r s → herringnet-target-reads.Post κs a q t → (r ≡ q) × (now (s .1 .0) ≡ now (t .1 .0))
+herringnet-target-once κs a r q s t p o = (p .0 ∙ sym (o .0), p .1 ∙ sym (o .1))

@@ -1,0 +1,26 @@
+use Rattle.scheduler.specs.Code.{sectionCode}
+use Rattle.shown.proofs.Laws.{section-small}
+use native.Mathlib.Omega.{arith}
+use borrow.Author.Needs.{needs}
+use Rattle.scheduler.proofs.herringnet_section.Statement.{statement}
+use Rattle.scheduler.proofs.herringnet_section.Tie as tie
+
+section-place-requires : tie.Need-section-place-requires
+section-place-requires c κs = search needs
+
+mul-result : tie.Need-mul-result
+mul-result c = let h = section-small _ _ _ (c .section-place .ensures) in omega (arith, h)
+
+add-result : tie.Need-add-result
+add-result c = let h = section-small _ _ _ (c .section-place .ensures) in omega (arith, h)
+
+mul-result-2 : tie.Need-mul-result-2
+mul-result-2 c = let h = section-small _ _ _ (c .section-place .ensures) in omega (arith, h)
+
+returns : tie.Need-returns
+unfolding sectionCode
+returns c = rw (← (c .section-place .ensures))
+
+pub herringnet-section-spec : {M : Type 1} → statement M
+herringnet-section-spec =
+    tie.close (tie.spec section-place-requires mul-result add-result mul-result-2 returns)
