@@ -25,7 +25,7 @@ ghost use Rattle.canonical.specs.Layout.{networkFieldBytes, networkNameB
 // ---- VolumeID
 
 // The label follows its offset fields.
-pub fn put_label_fields(out: &mut [u8], at: usize, unicode: bool) -> usize
+fn put_label_fields(out: &mut [u8], at: usize, unicode: bool) -> usize
     requires { ⌜ at + cond unicode 8 4 ≤ length (now out) ⌝ }
     ensures { λ r. ⌜ Wrote (now (out .entry)) at (labelFields unicode) (cond unicode 8 4) (now (out .exit)) r ⌝ }
 {
@@ -36,7 +36,7 @@ pub fn put_label_fields(out: &mut [u8], at: usize, unicode: bool) -> usize
     add_u32(out, at, 0x10)
 }
 
-pub fn put_volume(out: &mut [u8], at: usize, v: Volume, d: &[u8]) -> usize
+fn put_volume(out: &mut [u8], at: usize, v: Volume, d: &[u8]) -> usize
     requires { ⌜ Inside (now d) (labelPlace (v .label)) ⌝ }
     requires { ⌜ Room (now out) at (volumeSize v) ⌝ }
     ensures { λ r. ⌜ Wrote (now (out .entry)) at (volumeBytes (volumeContents (now (d .entry)) v)) (volumeSize v) (now (out .exit)) r ⌝ }
@@ -52,7 +52,7 @@ pub fn put_volume(out: &mut [u8], at: usize, v: Volume, d: &[u8]) -> usize
     put_text(out, p, d, unicode, b)
 }
 
-pub fn put_volume_if(there: bool, out: &mut [u8], at: usize, v: Volume, d: &[u8]) -> usize
+fn put_volume_if(there: bool, out: &mut [u8], at: usize, v: Volume, d: &[u8]) -> usize
     requires { ⌜ Inside (now d) (labelPlace (v .label)) ⌝ }
     requires { ⌜ Room (now out) at (cond there (volumeSize v) 0) ⌝ }
     ensures { λ r. ⌜ Wrote (now (out .entry)) at (ifThere there volumeBytes (volumeContents (now (d .entry)) v)) (cond there (volumeSize v) 0) (now (out .exit)) r ⌝ }
@@ -66,7 +66,7 @@ pub fn put_volume_if(there: bool, out: &mut [u8], at: usize, v: Volume, d: &[u8]
 // ---- the network link
 
 // Its size, flags, offsets and provider.
-pub fn put_network_fields(out: &mut [u8], at: usize, n: Network) -> usize
+fn put_network_fields(out: &mut [u8], at: usize, n: Network) -> usize
     requires { ⌜ networkSize n ≤ 4294967295 ⌝ }
     requires { ⌜ at + (20 + cond (n .unicode) 8 0) ≤ length (now out) ⌝ }
     ensures { λ r. ⌜ Wrote (now (out .entry)) at (networkFieldBytes n) (20 + cond (n .unicode) 8 0) (now (out .exit)) r ⌝ }
@@ -87,7 +87,7 @@ pub fn put_network_fields(out: &mut [u8], at: usize, n: Network) -> usize
 }
 
 // Net name, device name, then the Unicode ones.
-pub fn put_network_names(out: &mut [u8], at: usize, n: Network, d: &[u8]) -> usize
+fn put_network_names(out: &mut [u8], at: usize, n: Network, d: &[u8]) -> usize
     requires { ⌜ NetworkInside (now d) n ⌝ }
     requires { ⌜ Room (now out) at (namesSize n) ⌝ }
     ensures { λ r. ⌜ Wrote (now (out .entry)) at (networkNameBytes (now (d .entry)) n) (namesSize n) (now (out .exit)) r ⌝ }
@@ -100,7 +100,7 @@ pub fn put_network_names(out: &mut [u8], at: usize, n: Network, d: &[u8]) -> usi
     put_text_if(wide & named, out, p, d, true, n.device_unicode)
 }
 
-pub fn put_network(out: &mut [u8], at: usize, n: Network, d: &[u8]) -> usize
+fn put_network(out: &mut [u8], at: usize, n: Network, d: &[u8]) -> usize
     requires { ⌜ NetworkInside (now d) n ⌝ }
     requires { ⌜ Room (now out) at (networkSize n) ⌝ }
     ensures { λ r. ⌜ Wrote (now (out .entry)) at (networkBytes (networkContents (now (d .entry)) n)) (networkSize n) (now (out .exit)) r ⌝ }
@@ -109,7 +109,7 @@ pub fn put_network(out: &mut [u8], at: usize, n: Network, d: &[u8]) -> usize
     put_network_names(out, p, n, d)
 }
 
-pub fn put_network_if(there: bool, out: &mut [u8], at: usize, n: Network, d: &[u8]) -> usize
+fn put_network_if(there: bool, out: &mut [u8], at: usize, n: Network, d: &[u8]) -> usize
     requires { ⌜ NetworkInside (now d) n ⌝ }
     requires { ⌜ Room (now out) at (cond there (networkSize n) 0) ⌝ }
     ensures { λ r. ⌜ Wrote (now (out .entry)) at (ifThere there networkBytes (networkContents (now (d .entry)) n)) (cond there (networkSize n) 0) (now (out .exit)) r ⌝ }
@@ -123,7 +123,7 @@ pub fn put_network_if(there: bool, out: &mut [u8], at: usize, n: Network, d: &[u
 // ---- LinkInfo
 
 // Its size, head size, flags and offsets.
-pub fn put_info_fields(out: &mut [u8], at: usize, i: Info) -> usize
+fn put_info_fields(out: &mut [u8], at: usize, i: Info) -> usize
     requires { ⌜ infoSize i ≤ 4294967295 ⌝ }
     requires { ⌜ at + (28 + cond (i .long) 8 0) ≤ length (now out) ⌝ }
     ensures { λ r. ⌜ Wrote (now (out .entry)) at (infoFieldBytes i) (28 + cond (i .long) 8 0) (now (out .exit)) r ⌝ }
@@ -146,7 +146,7 @@ pub fn put_info_fields(out: &mut [u8], at: usize, i: Info) -> usize
 }
 
 // VolumeID, local path, network link, suffix, Unicode local path, Unicode suffix.
-pub fn put_info_pieces(out: &mut [u8], at: usize, i: Info, d: &[u8]) -> usize
+fn put_info_pieces(out: &mut [u8], at: usize, i: Info, d: &[u8]) -> usize
     requires { ⌜ InfoInside (now d) i ⌝ }
     requires { ⌜ Room (now out) at (piecesSize i) ⌝ }
     ensures { λ r. ⌜ Wrote (now (out .entry)) at (infoPieceBytes (now (d .entry)) i) (piecesSize i) (now (out .exit)) r ⌝ }
@@ -162,7 +162,7 @@ pub fn put_info_pieces(out: &mut [u8], at: usize, i: Info, d: &[u8]) -> usize
     put_text_if(long, out, p, d, true, i.suffix_unicode)
 }
 
-pub fn put_info(out: &mut [u8], at: usize, i: Info, d: &[u8]) -> usize
+fn put_info(out: &mut [u8], at: usize, i: Info, d: &[u8]) -> usize
     requires { ⌜ InfoInside (now d) i ⌝ }
     requires { ⌜ Room (now out) at (infoSize i) ⌝ }
     ensures { λ r. ⌜ Wrote (now (out .entry)) at (infoBytes (infoContents (now (d .entry)) i)) (infoSize i) (now (out .exit)) r ⌝ }

@@ -1,8 +1,8 @@
 // Puts the canonical bytes of a record into a lent buffer. A function that puts answers the place after what it put.
-pub mod info;
-pub mod numbers;
-pub mod sizes;
-pub mod texts;
+mod info;
+mod numbers;
+mod sizes;
+mod texts;
 
 use crate::info::put_info_if;
 use crate::numbers::add_u16;
@@ -28,7 +28,7 @@ ghost use Rattle.canonical.specs.Layout.{magicBytes, markBytes, shownByt
 // ---- the header
 
 // The header's size and the class identifier, in five numbers.
-pub fn put_magic(out: &mut [u8], at: usize) -> usize
+fn put_magic(out: &mut [u8], at: usize) -> usize
     requires { ⌜ at + 20 ≤ length (now out) ⌝ }
     ensures { λ r. ⌜ Wrote (now (out .entry)) at magicBytes 20 (now (out .exit)) r ⌝ }
 {
@@ -40,7 +40,7 @@ pub fn put_magic(out: &mut [u8], at: usize) -> usize
 }
 
 // The flags, the attributes and the three times.
-pub fn put_marks(out: &mut [u8], at: usize, h: Header) -> usize
+fn put_marks(out: &mut [u8], at: usize, h: Header) -> usize
     requires { ⌜ at + 32 ≤ length (now out) ⌝ }
     ensures { λ r. ⌜ Wrote (now (out .entry)) at (markBytes h) 32 (now (out .exit)) r ⌝ }
 {
@@ -52,7 +52,7 @@ pub fn put_marks(out: &mut [u8], at: usize, h: Header) -> usize
 }
 
 // From the file's size to the ten zero bytes.
-pub fn put_shown(out: &mut [u8], at: usize, h: Header) -> usize
+fn put_shown(out: &mut [u8], at: usize, h: Header) -> usize
     requires { ⌜ at + 24 ≤ length (now out) ⌝ }
     ensures { λ r. ⌜ Wrote (now (out .entry)) at (shownBytes h) 24 (now (out .exit)) r ⌝ }
 {
@@ -65,7 +65,7 @@ pub fn put_shown(out: &mut [u8], at: usize, h: Header) -> usize
     add_u16(out, p, 0)
 }
 
-pub fn put_header(out: &mut [u8], at: usize, h: Header) -> usize
+fn put_header(out: &mut [u8], at: usize, h: Header) -> usize
     requires { ⌜ at + 76 ≤ length (now out) ⌝ }
     ensures { λ r. ⌜ Wrote (now (out .entry)) at (headerBytes h) 76 (now (out .exit)) r ⌝ }
 {
@@ -77,7 +77,7 @@ pub fn put_header(out: &mut [u8], at: usize, h: Header) -> usize
 // ---- the item list
 
 // Its size, the items, and two zero bytes.
-pub fn put_items(out: &mut [u8], at: usize, d: &[u8], b: Place) -> usize
+fn put_items(out: &mut [u8], at: usize, d: &[u8], b: Place) -> usize
     requires { ⌜ Inside (now d) b ⌝ }
     requires { ⌜ Room (now out) at (4 + b .len) ⌝ }
     ensures { λ r. ⌜ Wrote (now (out .entry)) at (itemsBytes (bytesAt (now (d .entry)) b)) (4 + b .len) (now (out .exit)) r ⌝ }
@@ -88,7 +88,7 @@ pub fn put_items(out: &mut [u8], at: usize, d: &[u8], b: Place) -> usize
     add_u16(out, p, 0)
 }
 
-pub fn put_items_if(there: bool, out: &mut [u8], at: usize, d: &[u8], b: Place) -> usize
+fn put_items_if(there: bool, out: &mut [u8], at: usize, d: &[u8], b: Place) -> usize
     requires { ⌜ Inside (now d) b ⌝ }
     requires { ⌜ Room (now out) at (sizedIf there 4 b) ⌝ }
     ensures { λ r. ⌜ Wrote (now (out .entry)) at (ifThere there itemsBytes (bytesAt (now (d .entry)) b)) (sizedIf there 4 b) (now (out .exit)) r ⌝ }
@@ -102,7 +102,7 @@ pub fn put_items_if(there: bool, out: &mut [u8], at: usize, d: &[u8], b: Place) 
 // ---- the strings
 
 // A count of characters, and the characters.
-pub fn put_string(out: &mut [u8], at: usize, d: &[u8], unicode: bool, b: Place) -> usize
+fn put_string(out: &mut [u8], at: usize, d: &[u8], unicode: bool, b: Place) -> usize
     requires { ⌜ Inside (now d) b ⌝ }
     requires { ⌜ Room (now out) at (2 + b .len) ⌝ }
     ensures { λ r. ⌜ Wrote (now (out .entry)) at (stringBytes unicode (bytesAt (now (d .entry)) b)) (2 + b .len) (now (out .exit)) r ⌝ }
@@ -113,14 +113,7 @@ pub fn put_string(out: &mut [u8], at: usize, d: &[u8], unicode: bool, b: Place) 
     put_body(out, p, d, b)
 }
 
-pub fn put_string_if(
-    there: bool,
-    out: &mut [u8],
-    at: usize,
-    d: &[u8],
-    unicode: bool,
-    b: Place,
-) -> usize
+fn put_string_if(there: bool, out: &mut [u8], at: usize, d: &[u8], unicode: bool, b: Place) -> usize
     requires { ⌜ Inside (now d) b ⌝ }
     requires { ⌜ Room (now out) at (sizedIf there 2 b) ⌝ }
     ensures { λ r. ⌜ Wrote (now (out .entry)) at (ifThere there (stringBytes unicode) (bytesAt (now (d .entry)) b)) (sizedIf there 2 b) (now (out .exit)) r ⌝ }
@@ -132,7 +125,7 @@ pub fn put_string_if(
 }
 
 // Name, relative path, working directory, arguments, icon.
-pub fn put_strings(out: &mut [u8], at: usize, q: Record, d: &[u8]) -> usize
+fn put_strings(out: &mut [u8], at: usize, q: Record, d: &[u8]) -> usize
     requires { ⌜ StringsInside (now d) q ⌝ }
     requires { ⌜ Room (now out) at (stringsSize q) ⌝ }
     ensures { λ r. ⌜ Wrote (now (out .entry)) at (stringsBytes (now (d .entry)) q) (stringsSize q) (now (out .exit)) r ⌝ }
@@ -149,7 +142,7 @@ pub fn put_strings(out: &mut [u8], at: usize, q: Record, d: &[u8]) -> usize
 // ---- the blocks, and the whole
 
 // The blocks, and a zero terminal block.
-pub fn put_blocks(out: &mut [u8], at: usize, d: &[u8], b: Place) -> usize
+fn put_blocks(out: &mut [u8], at: usize, d: &[u8], b: Place) -> usize
     requires { ⌜ Inside (now d) b ⌝ }
     requires { ⌜ Room (now out) at (4 + b .len) ⌝ }
     ensures { λ r. ⌜ Wrote (now (out .entry)) at (blocksBytes (bytesAt (now (d .entry)) b)) (4 + b .len) (now (out .exit)) r ⌝ }

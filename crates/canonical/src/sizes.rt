@@ -43,7 +43,7 @@ pub fn characters_in(unicode: bool, n: usize) -> u16
 }
 
 // How many bytes a character has.
-pub fn width(unicode: bool) -> usize
+fn width(unicode: bool) -> usize
     ensures { λ r. ⌜ r ≡ bytesOf unicode 1 ⌝ }
 {
     if unicode {
@@ -52,14 +52,14 @@ pub fn width(unicode: bool) -> usize
     1
 }
 
-pub fn text_size(unicode: bool, b: Place) -> u32
+fn text_size(unicode: bool, b: Place) -> u32
     requires { ⌜ textSize unicode b ≤ 4294967295 ⌝ }
     ensures { λ r. ⌜ r ≡ textSize unicode b ⌝ }
 {
     (b.len + width(unicode)) as u32
 }
 
-pub fn text_size_if(there: bool, unicode: bool, b: Place) -> u32
+fn text_size_if(there: bool, unicode: bool, b: Place) -> u32
     requires { ⌜ textSizeIf there unicode b ≤ 4294967295 ⌝ }
     ensures { λ r. ⌜ r ≡ textSizeIf there unicode b ⌝ }
 {
@@ -72,7 +72,7 @@ pub fn text_size_if(there: bool, unicode: bool, b: Place) -> u32
 // ---- VolumeID
 
 // Where the label starts.
-pub fn label_start(unicode: bool) -> u32
+fn label_start(unicode: bool) -> u32
     ensures { λ r. ⌜ r ≡ labelLeast unicode ⌝ }
 {
     if unicode {
@@ -91,7 +91,7 @@ pub fn volume_size(v: Volume) -> u32
     label_start(unicode) + text_size(unicode, b)
 }
 
-pub fn volume_size_if(there: bool, v: Volume) -> u32
+fn volume_size_if(there: bool, v: Volume) -> u32
     requires { ⌜ cond there (volumeSize v) 0 ≤ 4294967295 ⌝ }
     ensures { λ r. ⌜ r ≡ cond there (volumeSize v) 0 ⌝ }
 {
@@ -131,7 +131,7 @@ pub fn network_starts(n: Network) -> NetworkStarts
     }
 }
 
-pub fn network_size_if(there: bool, n: Network) -> u32
+fn network_size_if(there: bool, n: Network) -> u32
     requires { ⌜ cond there (networkSize n) 0 ≤ 4294967295 ⌝ }
     ensures { λ r. ⌜ r ≡ cond there (networkSize n) 0 ⌝ }
 {

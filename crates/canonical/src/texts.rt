@@ -23,7 +23,7 @@ pub fn put_body(out: &mut [u8], at: usize, d: &[u8], b: Place) -> usize
 }
 
 // One zero character.
-pub fn put_end(out: &mut [u8], at: usize, unicode: bool) -> usize
+fn put_end(out: &mut [u8], at: usize, unicode: bool) -> usize
     requires { ⌜ at + bytesOf unicode 1 ≤ length (now out) ⌝ }
     ensures { λ r. ⌜ Wrote (now (out .entry)) at (replicate (bytesOf unicode 1) 0) (bytesOf unicode 1) (now (out .exit)) r ⌝ }
 {

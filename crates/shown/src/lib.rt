@@ -37,7 +37,7 @@ fn between(there: bool, p: usize, e: usize) -> Place
     none()
 }
 
-// Of an accepted shortcut, whose flags are f.
+// By the outline, which is all that the sections' places need.
 fn place_in(s: &[u8], o: Outline, name: u32, block: usize) -> Place
     requires { ⌜ o ≡ outlineOf (now s) ⌝ }
     ensures { λ r. ⌜ r ≡ sectionPlace (now (s .entry)) name block ⌝ }

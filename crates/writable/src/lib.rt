@@ -25,7 +25,7 @@ ghost use Rattle.writable.specs.Sections.{sectionsWritable};
 ghost use Rattle.writable.specs.Lengths.{capped, bodySpan, volumeSpan, networkSpan, infoSpan, recordSpan};
 
 // One bit of the flags, by its power of two.
-pub fn flag(flags: u32, power: u32) -> bool
+fn flag(flags: u32, power: u32) -> bool
     requires { ⌜ 0 < power ⌝ }
     ensures { λ r. ⌜ r ≡ eqb (flags / power % 2) 1 ⌝ }
 {
@@ -216,7 +216,7 @@ pub fn placed(q: Record, n: usize) -> bool
 // ---- whether a body can be written
 
 // The bytes at a place, as far as the buffer reaches.
-pub fn body(d: &[u8], b: Place) -> &[u8]
+fn body(d: &[u8], b: Place) -> &[u8]
     ensures { λ r. ⌜ now r ≡ bytesAt (now (d .entry)) b ⌝ }
 {
     let at = b.at;
@@ -232,7 +232,7 @@ pub fn body(d: &[u8], b: Place) -> &[u8]
 }
 
 // How many whole characters n bytes are.
-pub fn count(unicode: bool, n: usize) -> usize
+fn count(unicode: bool, n: usize) -> usize
     ensures { λ r. ⌜ r ≡ cond unicode (n / 2) n ⌝ }
 {
     if unicode { n / 2 } else { n }
@@ -323,7 +323,7 @@ fn blocks_ok(x: &[u8]) -> bool
 
 // ---- whether a section can be written
 
-pub fn header_ok(h: Header) -> bool
+fn header_ok(h: Header) -> bool
     ensures { λ r. ⌜ r ≡ writableHeader h ⌝ }
 {
     header::flags_ok(h.flags) & header::attributes_ok(h.attributes) & header::hotkey_ok(h.hotkey)
@@ -355,7 +355,7 @@ fn items_if(there: bool, b: Place, d: &[u8]) -> bool
     if there { items_ok(body(d, b)) } else { true }
 }
 
-pub fn volume_ok(v: Volume, d: &[u8]) -> bool
+fn volume_ok(v: Volume, d: &[u8]) -> bool
     ensures { λ r. ⌜ r ≡ writableVolume (volumeContents (now (d .entry)) v) ⌝ }
 {
     let l = v.label;
@@ -368,7 +368,7 @@ fn volume_if(there: bool, v: Volume, d: &[u8]) -> bool
     if there { volume_ok(v, d) } else { true }
 }
 
-pub fn network_ok(n: Network, d: &[u8]) -> bool
+fn network_ok(n: Network, d: &[u8]) -> bool
     ensures { λ r. ⌜ r ≡ writableNetwork (networkContents (now (d .entry)) n) ⌝ }
 {
     let device = flag(n.flags, 1);
@@ -385,7 +385,7 @@ fn network_if(there: bool, n: Network, d: &[u8]) -> bool
     if there { network_ok(n, d) } else { true }
 }
 
-pub fn info_ok(i: Info, d: &[u8]) -> bool
+fn info_ok(i: Info, d: &[u8]) -> bool
     ensures { λ r. ⌜ r ≡ writableInfo (infoContents (now (d .entry)) i) ⌝ }
 {
     let local = flag(i.flags, 1);
@@ -438,13 +438,13 @@ fn plus(a: usize, b: usize) -> usize
 }
 
 // A body with some bytes around it, if it is there.
-pub fn body_length(there: bool, b: Place, around: usize) -> usize
+fn body_length(there: bool, b: Place, around: usize) -> usize
     ensures { λ r. ⌜ r ≡ capped (bodySpan there b around) ⌝ }
 {
     if there { plus(b.len, around) } else { 0 }
 }
 
-pub fn volume_length(v: Volume) -> usize
+fn volume_length(v: Volume) -> usize
     ensures { λ r. ⌜ r ≡ capped (volumeSpan v) ⌝ }
 {
     let l = v.label;
@@ -462,13 +462,13 @@ fn volume_length_if(there: bool, v: Volume) -> usize
     if there { volume_length(v) } else { 0 }
 }
 
-pub fn network_head(unicode: bool) -> usize
+fn network_head(unicode: bool) -> usize
     ensures { λ r. ⌜ r ≡ networkHead unicode ⌝ }
 {
     if unicode { 0x1C } else { 0x14 }
 }
 
-pub fn network_length(n: Network) -> usize
+fn network_length(n: Network) -> usize
     ensures { λ r. ⌜ r ≡ capped (networkSpan n) ⌝ }
 {
     let device = flag(n.flags, 1);
@@ -484,13 +484,13 @@ fn network_length_if(there: bool, n: Network) -> usize
     if there { network_length(n) } else { 0 }
 }
 
-pub fn info_head(long: bool) -> usize
+fn info_head(long: bool) -> usize
     ensures { λ r. ⌜ r ≡ cond long 0x24 0x1C ⌝ }
 {
     if long { 0x24 } else { 0x1C }
 }
 
-pub fn info_length(i: Info) -> usize
+fn info_length(i: Info) -> usize
     ensures { λ r. ⌜ r ≡ capped (infoSpan i) ⌝ }
 {
     let local = flag(i.flags, 1);
