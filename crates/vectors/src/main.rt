@@ -1,4 +1,18 @@
-// Lists shortcuts that stand one after another on standard input, each after its length in four bytes.
+// Lists shortcuts that stand one after another on standard input, each after its length in four bytes; an accepted one is also rewritten.
+use format::Verdict;
+
+// The listing; then, of an accepted one, the listing of its canonical form and the form's bytes.
+fn show(s: &[u8]) {
+    lines::listing(s);
+    let mut out = [0u8; 65536];
+    let v = rewriting::rewrite(s, &mut out);
+    let Verdict::Accepted(m) = v else {
+        return;
+    };
+    let w = octets::part(&out, 0, m);
+    lines::listing(w);
+    io::write_all(1, w);
+}
 
 fn each(s: &[u8]) {
     let n = s.len();
@@ -9,7 +23,7 @@ fn each(s: &[u8]) {
         if n - p < size {
             return;
         }
-        lines::listing(octets::part(s, p, size));
+        show(octets::part(s, p, size));
         p += size;
     }
 }

@@ -35,8 +35,8 @@ returns c = search needs
 part-requires : tie.Need-part-requires Inv-loop μ-loop
 part-requires c κs = search needs
 
-listing-requires : tie.Need-listing-requires Inv-loop μ-loop
-listing-requires c κs = search needs
+show-requires : tie.Need-show-requires Inv-loop μ-loop
+show-requires c κs = search needs
 
 add-p-2 : tie.Need-add-p-2 Inv-loop μ-loop
 add-p-2 c = omega arith
@@ -64,7 +64,7 @@ each-spec =
     sub-if1
     returns
     part-requires
-    listing-requires
+    show-requires
     add-p-2
     loop-less
     loop-again
