@@ -1,5 +1,5 @@
 -- Lengths up to the most that a shortcut has, and their sums.
-use mathlib.Core.Path.{_≡_, sym, _∙_}
+use mathlib.Core.Path.{_≡_, refl, sym, ap, _∙_}
 use mathlib.Core.Bool.{Bool, true, false, _&&_, cond}
 use Prim.Native.Nat.{ℕ, _+_, _≤_, _<_}
 use native.Mathlib.Omega.{arith}
@@ -15,7 +15,8 @@ use Rattle.format.specs.Network.{networkHead}
 use Rattle.format.specs.Shortcut.{most}
 use Rattle.format.specs.Contents.{labelPlace, labelKind}
 use Rattle.format.proofs.Bools.{by-order}
-use Rattle.writable.specs.Lengths.{capped, bodySpan, textSpan, volumeSpan, networkSpan, infoSpan, recordSpan}
+use Rattle.canonical.specs.Sizes.{textSizeIf, volumeSize, networkSize, infoSize, sizedIf, stringsSize, canonicalSize}
+use Rattle.writable.specs.Lengths.{capped, bodySpan}
 
 -- ---- a length and its count
 
@@ -73,30 +74,30 @@ small-long : (u : Bool) → cond u 0x24 0x1C ≤ most
 small-long true = omega arith
 small-long false = omega arith
 
-pub volume-length : (v : Volume) (u : Bool) {l : Place} {a r : ℕ} → u ≡ labelKind (v .label) → l ≡ labelPlace (v .label) → a ≡ capped (textSpan true u l) → r ≡ capped (labelLeast u + a)
-    → r ≡ capped (volumeSpan v)
-unfolding volumeSpan
+pub volume-length : (v : Volume) (u : Bool) {l : Place} {a r : ℕ} → u ≡ labelKind (v .label) → l ≡ labelPlace (v .label) → a ≡ capped (textSizeIf true u l) → r ≡ capped (labelLeast u + a)
+    → r ≡ capped (volumeSize v)
+unfolding volumeSize
 volume-length v u eu el ea er = rw (← eu, ← el) (sum-is _ _ (count-exact (labelLeast u) (small-least u)) ea er)
 
 pub network-length : (n : Network) {t : Bool} {h a b c e x y z r : ℕ} → t ≡ bit 0 (n .flags) → h ≡ networkHead (n .unicode)
-    → a ≡ capped (textSpan true false (n .net)) → x ≡ capped (h + a)
-    → b ≡ capped (textSpan t false (n .device)) → y ≡ capped (x + b)
-    → c ≡ capped (textSpan (n .unicode) true (n .«net_unicode»)) → z ≡ capped (y + c)
-    → e ≡ capped (textSpan (n .unicode && t) true (n .«device_unicode»)) → r ≡ capped (z + e)
-    → r ≡ capped (networkSpan n)
-unfolding networkSpan
+    → a ≡ capped (textSizeIf true false (n .net)) → x ≡ capped (h + a)
+    → b ≡ capped (textSizeIf t false (n .device)) → y ≡ capped (x + b)
+    → c ≡ capped (textSizeIf (n .unicode) true (n .«net_unicode»)) → z ≡ capped (y + c)
+    → e ≡ capped (textSizeIf (n .unicode && t) true (n .«device_unicode»)) → r ≡ capped (z + e)
+    → r ≡ capped (networkSize n)
+unfolding networkSize
 network-length n et eh ea ex eb ey ec ez ee er =
     rw (← et) (sum-is _ _ (sum-is _ _ (sum-is _ _ (sum-is _ _ (eh ∙ count-exact (networkHead (n .unicode)) (small-head (n .unicode))) ea ex) eb ey) ec ez) ee er)
 
 pub info-length : (i : Info) {t w : Bool} {h a b c e f g u v x y z r : ℕ} → t ≡ bit 0 (i .flags) → w ≡ bit 1 (i .flags) → h ≡ cond (i .long) 0x24 0x1C
-    → a ≡ capped (cond t (volumeSpan (i .volume)) 0) → u ≡ capped (h + a)
-    → b ≡ capped (textSpan t false (i .local)) → v ≡ capped (u + b)
-    → c ≡ capped (cond w (networkSpan (i .network)) 0) → x ≡ capped (v + c)
-    → e ≡ capped (textSpan true false (i .suffix)) → y ≡ capped (x + e)
-    → f ≡ capped (textSpan (i .long && t) true (i .«local_unicode»)) → z ≡ capped (y + f)
-    → g ≡ capped (textSpan (i .long) true (i .«suffix_unicode»)) → r ≡ capped (z + g)
-    → r ≡ capped (infoSpan i)
-unfolding infoSpan
+    → a ≡ capped (cond t (volumeSize (i .volume)) 0) → u ≡ capped (h + a)
+    → b ≡ capped (textSizeIf t false (i .local)) → v ≡ capped (u + b)
+    → c ≡ capped (cond w (networkSize (i .network)) 0) → x ≡ capped (v + c)
+    → e ≡ capped (textSizeIf true false (i .suffix)) → y ≡ capped (x + e)
+    → f ≡ capped (textSizeIf (i .long && t) true (i .«local_unicode»)) → z ≡ capped (y + f)
+    → g ≡ capped (textSizeIf (i .long) true (i .«suffix_unicode»)) → r ≡ capped (z + g)
+    → r ≡ capped (infoSize i)
+unfolding infoSize
 info-length i et ew eh ea eu eb ev ec ex ee ey ef ez eg er =
     rw (← et, ← ew)
     (sum-is _ _ (sum-is _ _ (sum-is _ _ (sum-is _ _ (sum-is _ _ (sum-is _ _ (eh ∙ count-exact (cond (i .long) 0x24 0x1C) (small-long (i .long))) ea eu) eb ev) ec ex) ee ey) ef ez) eg er)
@@ -110,27 +111,53 @@ pub record Counted (flags k : ℕ) (b : Place) (around n : ℕ) : Type 0 where
 counted : (flags k : ℕ) (b : Place) (around : ℕ) {n : ℕ} → Counted flags k b around n → n ≡ capped (bodySpan (bit k flags) b around)
 counted flags k b around s = rw (← (s .flag)) (s .is)
 
+beside : (t : Bool) (b : Place) (k : ℕ) → bodySpan t b k ≡ sizedIf t k b
+beside true b k = omega arith
+beside false b k = refl
+
 module _ (q : Record) where
   abbrev flagsOf : ℕ
   flagsOf = q .header .flags
 
+  -- one part after another, as the code adds them up
+  total : 76
+      + bodySpan (bit 0 flagsOf) (q .items) 4
+      + cond (bit 1 flagsOf) (infoSize (q .info)) 0
+      + bodySpan (bit 2 flagsOf) (q .name) 2
+      + bodySpan (bit 3 flagsOf) (q .relative) 2
+      + bodySpan (bit 4 flagsOf) (q .workdir) 2
+      + bodySpan (bit 5 flagsOf) (q .arguments) 2
+      + bodySpan (bit 6 flagsOf) (q .icon) 2
+      + bodySpan true (q .blocks) 4
+      ≡ canonicalSize q
+  unfolding canonicalSize stringsSize
+  total =
+      omega (
+        arith,
+        beside (bit 0 flagsOf) (q .items) 4,
+        beside (bit 2 flagsOf) (q .name) 2,
+        beside (bit 3 flagsOf) (q .relative) 2,
+        beside (bit 4 flagsOf) (q .workdir) 2,
+        beside (bit 5 flagsOf) (q .arguments) 2,
+        beside (bit 6 flagsOf) (q .icon) 2,
+      )
+
   pub record-length : {w : Bool} {a b c d e f g h s t u v x y z r : ℕ}
       → Counted flagsOf 0 (q .items) 4 a → s ≡ capped (76 + a)
-      → w ≡ bit 1 flagsOf → b ≡ capped (cond w (infoSpan (q .info)) 0) → t ≡ capped (s + b)
+      → w ≡ bit 1 flagsOf → b ≡ capped (cond w (infoSize (q .info)) 0) → t ≡ capped (s + b)
       → Counted flagsOf 2 (q .name) 2 c → u ≡ capped (t + c)
       → Counted flagsOf 3 (q .relative) 2 d → v ≡ capped (u + d)
       → Counted flagsOf 4 (q .workdir) 2 e → x ≡ capped (v + e)
       → Counted flagsOf 5 (q .arguments) 2 f → y ≡ capped (x + f)
       → Counted flagsOf 6 (q .icon) 2 g → z ≡ capped (y + g)
       → h ≡ capped (bodySpan true (q .blocks) 4) → r ≡ capped (z + h)
-      → r ≡ capped (recordSpan q)
-  unfolding recordSpan
+      → r ≡ capped (canonicalSize q)
   record-length ca es ew eb et cn eu cd ev ce ex cf ey cg ez eh er =
       let i = sum-is _ _ (count-exact 76 (omega arith)) (counted flagsOf 0 (q .items) 4 ca) es in
-      let j = sum-is _ (cond (bit 1 flagsOf) (infoSpan (q .info)) 0) i (rw ew at eb) et in
+      let j = sum-is _ (cond (bit 1 flagsOf) (infoSize (q .info)) 0) i (rw ew at eb) et in
       let k = sum-is _ _ j (counted flagsOf 2 (q .name) 2 cn) eu in
       let l = sum-is _ _ k (counted flagsOf 3 (q .relative) 2 cd) ev in
       let m = sum-is _ _ l (counted flagsOf 4 (q .workdir) 2 ce) ex in
       let n = sum-is _ _ m (counted flagsOf 5 (q .arguments) 2 cf) ey in
       let o = sum-is _ _ n (counted flagsOf 6 (q .icon) 2 cg) ez in
-      sum-is _ _ o eh er
+      sum-is _ _ o eh er ∙ ap capped total

@@ -5,4 +5,4 @@ pub mod TextLaws
 pub mod WalkLaws
 pub mod SectionLaws
 pub mod LengthLaws
-pub mod SpanLaws
+pub mod WholeLaws

@@ -22,7 +22,8 @@ ghost use Rattle.octets.specs.Characters.{characters, hasZero};
 ghost use Rattle.blocks.specs.Walk.{isFound};
 ghost use Rattle.writable.specs.Bodies.{networkBodies, infoBodies};
 ghost use Rattle.writable.specs.Sections.{sectionsWritable};
-ghost use Rattle.writable.specs.Lengths.{capped, bodySpan, volumeSpan, networkSpan, infoSpan, recordSpan};
+ghost use Rattle.canonical.specs.Sizes.{volumeSize, networkSize, infoSize, canonicalSize};
+ghost use Rattle.writable.specs.Lengths.{capped, bodySpan};
 
 // One bit of the flags, by its power of two.
 fn flag(flags: u32, power: u32) -> bool
@@ -445,7 +446,7 @@ fn body_length(there: bool, b: Place, around: usize) -> usize
 }
 
 fn volume_length(v: Volume) -> usize
-    ensures { λ r. ⌜ r ≡ capped (volumeSpan v) ⌝ }
+    ensures { λ r. ⌜ r ≡ capped (volumeSize v) ⌝ }
 {
     let l = v.label;
     let b = format::label_place(l);
@@ -457,7 +458,7 @@ fn volume_length(v: Volume) -> usize
 }
 
 fn volume_length_if(there: bool, v: Volume) -> usize
-    ensures { λ r. ⌜ r ≡ capped (cond there (volumeSpan v) 0) ⌝ }
+    ensures { λ r. ⌜ r ≡ capped (cond there (volumeSize v) 0) ⌝ }
 {
     if there { volume_length(v) } else { 0 }
 }
@@ -469,7 +470,7 @@ fn network_head(unicode: bool) -> usize
 }
 
 fn network_length(n: Network) -> usize
-    ensures { λ r. ⌜ r ≡ capped (networkSpan n) ⌝ }
+    ensures { λ r. ⌜ r ≡ capped (networkSize n) ⌝ }
 {
     let device = flag(n.flags, 1);
     let net = plus(network_head(n.unicode), body_length(true, n.net, 1));
@@ -479,7 +480,7 @@ fn network_length(n: Network) -> usize
 }
 
 fn network_length_if(there: bool, n: Network) -> usize
-    ensures { λ r. ⌜ r ≡ capped (cond there (networkSpan n) 0) ⌝ }
+    ensures { λ r. ⌜ r ≡ capped (cond there (networkSize n) 0) ⌝ }
 {
     if there { network_length(n) } else { 0 }
 }
@@ -491,7 +492,7 @@ fn info_head(long: bool) -> usize
 }
 
 fn info_length(i: Info) -> usize
-    ensures { λ r. ⌜ r ≡ capped (infoSpan i) ⌝ }
+    ensures { λ r. ⌜ r ≡ capped (infoSize i) ⌝ }
 {
     let local = flag(i.flags, 1);
     let volume = plus(info_head(i.long), volume_length_if(local, i.volume));
@@ -503,14 +504,14 @@ fn info_length(i: Info) -> usize
 }
 
 fn info_length_if(there: bool, i: Info) -> usize
-    ensures { λ r. ⌜ r ≡ capped (cond there (infoSpan i) 0) ⌝ }
+    ensures { λ r. ⌜ r ≡ capped (cond there (infoSize i) 0) ⌝ }
 {
     if there { info_length(i) } else { 0 }
 }
 
 // The length of the shortest form, or 65,537 where it has more than 65,536 bytes.
 pub fn length(q: Record) -> usize
-    ensures { λ r. ⌜ r ≡ capped (recordSpan q) ⌝ }
+    ensures { λ r. ⌜ r ≡ capped (canonicalSize q) ⌝ }
 {
     let flags = q.header.flags;
     let items = plus(76, body_length(flag(flags, 1), q.items, 4));

@@ -14,9 +14,10 @@ use Rattle.format.specs.declared.Verdict.the-variants.{Accepted, Refused}
 use Rattle.format.specs.Tests.{got, refused, _else_, tests}
 use Rattle.format.specs.Contents.{present, bodies, allInside, placed, bodiesOf, contents}
 use Rattle.format.specs.Writing.{canonical, writable, writing, outputOf, writeAnswer, writeOutput}
-use Rattle.writable.specs.Lengths.{capped, recordSpan}
-use Rattle.writable.proofs.SpanLaws.{canonical-length, writable-length, writable-within}
+use Rattle.writable.specs.Lengths.{capped}
+use Rattle.writable.proofs.WholeLaws.{writable-length, writable-within}
 use Rattle.canonical.specs.Puts.{Fits}
+use Rattle.canonical.specs.Sizes.{canonicalSize}
 
 module _ (r : Record) (d out : List ℕ) {q : Record} (e : q ≡ present r) where
   abbrev w : List ℕ
@@ -46,7 +47,7 @@ module _ (r : Record) (d out : List ℕ) {q : Record} (e : q ≡ present r) wher
             let z : writing r d (length out) ≡ refused UNWRITABLE 0 = writing-is ∙ rw (all-placed, sym j ∙ not-true b t) in
             (rw z, rw z)
 
-        module _ (can : not b ≡ false) {n : ℕ} (count : n ≡ capped (recordSpan q)) where
+        module _ (can : not b ≡ false) {n : ℕ} (count : n ≡ capped (canonicalSize q)) where
           is-writable : writable (bodiesOf d q) ≡ true
           is-writable = sym j ∙ not-false b can
 
@@ -62,8 +63,7 @@ module _ (r : Record) (d out : List ℕ) {q : Record} (e : q ≡ present r) wher
 
           pub write-fits : n ≤ length out → Fits d out q
           write-fits h =
-              let l = canonical-length d q all-placed in
-              record { inside = all-placed; few = omega (arith, l, writable-within d q all-placed is-writable); room = omega (arith, long) }
+              record { inside = all-placed; few = writable-within d q all-placed is-writable; room = omega (arith, long) }
 
           pub write-written : n ≤ length out → {m : ℕ} {x : List ℕ} → m ≡ length (canonical (bodiesOf d q)) → x ≡ put out 0 (canonical (bodiesOf d q)) → (Accepted m ≡ writeAnswer r d out) × (x ≡ writeOutput r d out)
           unfolding writeAnswer writeOutput outputOf

@@ -1,5 +1,5 @@
 use native.Mathlib.Omega.{arith}
-use Rattle.writable.proofs.SpanLaws.{writable-long, writable-short}
+use Rattle.writable.proofs.WholeLaws.{writable-long, writable-short}
 use borrow.Author.Needs.{needs}
 use Rattle.writable.proofs.writable.Statement.{statement}
 use Rattle.writable.proofs.writable.Tie as tie
