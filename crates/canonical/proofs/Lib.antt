@@ -1,4 +1,3 @@
-pub mod SignedLaws
 pub mod WroteLaws
 pub mod SizeLaws
 pub mod LayoutLaws

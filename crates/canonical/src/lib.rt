@@ -8,7 +8,6 @@ use crate::info::put_info_if;
 use crate::numbers::add_u16;
 use crate::numbers::add_u32;
 use crate::numbers::add_u64;
-use crate::numbers::bits_of;
 use crate::sizes::characters_in;
 use crate::texts::put_body;
 use format::Header;
@@ -56,7 +55,7 @@ fn put_shown(out: &mut [u8], at: usize, h: Header) -> usize
     requires { ⌜ at + 24 ≤ length (now out) ⌝ }
     ensures { λ r. ⌜ Wrote (now (out .entry)) at (shownBytes h) 24 (now (out .exit)) r ⌝ }
 {
-    let icon = bits_of(h.icon_index);
+    let icon = format::bits_of(h.icon_index);
     let p = add_u32(out, at, h.file_size);
     let p = add_u32(out, p, icon);
     let p = add_u32(out, p, h.command);

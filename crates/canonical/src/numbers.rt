@@ -4,7 +4,7 @@ ghost use mathlib.Core.Bool.{cond};
 ghost use Prim.Native.Nat.{_+_, _≤_};
 ghost use lib.ListN.{length};
 ghost use Rattle.octets.specs.Numbers.{little};
-ghost use Rattle.format.specs.Writing.{bits, twoFields};
+ghost use Rattle.format.specs.Writing.{twoFields};
 ghost use Rattle.canonical.specs.Puts.{Wrote};
 
 // What is absent counts as 0.
@@ -15,16 +15,6 @@ pub fn number_if(there: bool, n: u32) -> u32
         return n;
     }
     0
-}
-
-// The 32 bits of a signed number.
-pub fn bits_of(n: i32) -> u32
-    ensures { λ r. ⌜ r ≡ bits n ⌝ }
-{
-    if n < 0 {
-        return 4294967295 - (!n as u32);
-    }
-    n as u32
 }
 
 pub fn add_u16(out: &mut [u8], at: usize, n: u16) -> usize

@@ -55,3 +55,14 @@ every-out (b ∷ bs) e = let i = and-true b (every bs) e in (i .0, every-out bs 
 pub every-in : (bs : List Bool) → Every bs → every bs ≡ true
 every-in [] h = refl
 every-in (b ∷ bs) h = and-both b (every bs) (h .0) (every-in bs (h .1))
+
+-- tests as the code joins them, one after another
+abbrev pub joined : Bool → List Bool → Bool
+joined b [] = b
+joined b (x ∷ xs) = joined (b && x) xs
+
+pub joined-every : (b : Bool) (xs : List Bool) → joined b xs ≡ every (b ∷ xs)
+joined-every true [] = refl
+joined-every false [] = refl
+joined-every true (x ∷ xs) = joined-every x xs
+joined-every false (x ∷ xs) = joined-every false xs

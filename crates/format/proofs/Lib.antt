@@ -3,6 +3,7 @@ pub mod Intervals
 pub mod Chains
 pub mod Sized
 pub mod HeaderLaws
+pub mod SignedLaws
 pub mod ItemsLaws
 pub mod StringLaws
 pub mod PieceLaws

@@ -2,6 +2,8 @@
 ghost use mathlib.Core.Path.{_≡_};
 ghost use Rattle.format.specs.Numbers.{numberOf};
 ghost use Rattle.format.specs.Tests.{bit};
+ghost use Rattle.format.specs.Header.{signed};
+ghost use Rattle.format.specs.Writing.{bits};
 ghost use Rattle.format.specs.Contents.{labelPlace, labelKind};
 
 // Where a body stands in the body buffer, and how many bytes it has.
@@ -128,6 +130,27 @@ pub fn bit_1(n: u32) -> bool
     ensures { λ r. ⌜ r ≡ bit 1 n ⌝ }
 {
     n / 2 % 2 == 1
+}
+
+// A number's 32 bits as a signed number. `!` asks for no sum that could leave the type.
+pub fn signed(x: u32) -> i32
+    ensures { λ r. ⌜ r ≡ signed x ⌝ }
+{
+    if x < 0x8000_0000 {
+        x as i32
+    } else {
+        !((0xFFFF_FFFF - x) as i32)
+    }
+}
+
+// The 32 bits of a signed number.
+pub fn bits_of(n: i32) -> u32
+    ensures { λ r. ⌜ r ≡ bits n ⌝ }
+{
+    if n < 0 {
+        return 4294967295 - (!n as u32);
+    }
+    n as u32
 }
 
 pub fn label_unicode(l: Label) -> bool

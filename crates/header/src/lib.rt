@@ -6,7 +6,7 @@ ghost use mathlib.Core.Path.{_≡_};
 ghost use mathlib.Core.Bool.{true};
 ghost use Prim.Native.Nat.{_≤_};
 ghost use lib.ListN.{length};
-ghost use Rattle.format.specs.Header.{magic, flagsOk, attributesOk, hotkeyOk, signed, headerFields, windowShown};
+ghost use Rattle.format.specs.Header.{magic, flagsOk, attributesOk, hotkeyOk, headerFields, windowShown};
 ghost use Rattle.header.specs.Taken.{zerosFrom66, headRules, headerAt};
 
 // The header and the cursor after it, or why it is refused.
@@ -69,17 +69,6 @@ fn head_ok(l: &[u8]) -> bool
         & zeros_from_66(l)
 }
 
-// Two's complement: `!` asks for no sum that could leave the type.
-fn signed(x: u32) -> i32
-    ensures { λ r. ⌜ r ≡ signed x ⌝ }
-{
-    if x < 0x8000_0000 {
-        x as i32
-    } else {
-        !((0xFFFF_FFFF - x) as i32)
-    }
-}
-
 fn fields(l: &[u8]) -> Header
     requires { ⌜ 76 ≤ length (now l) ⌝ }
     ensures { λ r. ⌜ r ≡ headerFields (now (l .entry)) ⌝ }
@@ -91,7 +80,7 @@ fn fields(l: &[u8]) -> Header
         access: octets::u64_at(l, 36),
         write: octets::u64_at(l, 44),
         file_size: octets::u32_at(l, 52),
-        icon_index: signed(octets::u32_at(l, 56)),
+        icon_index: format::signed(octets::u32_at(l, 56)),
         command: octets::u32_at(l, 60),
         hotkey: octets::u16_at(l, 64),
     }

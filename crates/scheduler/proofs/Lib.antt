@@ -1,3 +1,4 @@
 pub mod PositionLaws
 pub mod CodeLaws
+pub mod FieldLaws
 pub mod Once

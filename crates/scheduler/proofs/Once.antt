@@ -10,6 +10,10 @@ use Rattle.scheduler.proofs.herringnet_target as herringnet-target
 use Rattle.scheduler.proofs.herringnet_target.Reads as herringnet-target-reads
 use Rattle.scheduler.proofs.herringnet_section as herringnet-section
 use Rattle.scheduler.proofs.herringnet_section.Reads as herringnet-section-reads
+use Rattle.scheduler.proofs.herringnet_read as herringnet-read
+use Rattle.scheduler.proofs.herringnet_read.Reads as herringnet-read-reads
+use Rattle.scheduler.proofs.herringnet_write as herringnet-write
+use Rattle.scheduler.proofs.herringnet_write.Reads as herringnet-write-reads
 
 pub herringnet-check-once : (κs : Lfts 1) (a : ArgsD herringnet-check.signature κs) (r q : ResD herringnet-check.signature κs) (s t : AtExit herringnet-check.ended κs) → herringnet-check-reads.Post κs a r s → herringnet-check-reads.Post κs a q t → r ≡ q
 herringnet-check-once κs a r q s t p o = p ∙ sym o
@@ -20,3 +24,9 @@ herringnet-section-once κs a r q s t p o = p ∙ sym o
 -- one answer, and one content of the buffer
 pub herringnet-target-once : (κs : Lfts 2) (a : ArgsD herringnet-target.signature κs) (r q : ResD herringnet-target.signature κs) (s t : AtExit herringnet-target.ended κs) → herringnet-target-reads.Post κs a r s → herringnet-target-reads.Post κs a q t → (r ≡ q) × (now (s .1 .0) ≡ now (t .1 .0))
 herringnet-target-once κs a r q s t p o = (p .0 ∙ sym (o .0), p .1 ∙ sym (o .1))
+
+pub herringnet-read-once : (κs : Lfts 2) (a : ArgsD herringnet-read.signature κs) (r q : ResD herringnet-read.signature κs) (s t : AtExit herringnet-read.ended κs) → herringnet-read-reads.Post κs a r s → herringnet-read-reads.Post κs a q t → (r ≡ q) × (now (s .1 .0) ≡ now (t .1 .0))
+herringnet-read-once κs a r q s t p o = (p .0 ∙ sym (o .0), p .1 ∙ sym (o .1))
+
+pub herringnet-write-once : (κs : Lfts 3) (a : ArgsD herringnet-write.signature κs) (r q : ResD herringnet-write.signature κs) (s t : AtExit herringnet-write.ended κs) → herringnet-write-reads.Post κs a r s → herringnet-write-reads.Post κs a q t → (r ≡ q) × (now (s .1 .1 .0) ≡ now (t .1 .1 .0))
+herringnet-write-once κs a r q s t p o = (p .0 ∙ sym (o .0), p .1 ∙ sym (o .1))

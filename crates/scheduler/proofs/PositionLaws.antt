@@ -1,5 +1,5 @@
 -- Every refusal stands inside the shortcut, so number and position fit in one number.
-use mathlib.Core.Path.{_≡_, refl}
+use mathlib.Core.Path.{_≡_, refl, sym, _∙_}
 use mathlib.Core.List.{List, [], _∷_, _++_}
 use mathlib.Core.Bool.{Bool, true, false, cond}
 use Prim.Native.Nat.{ℕ, zero, suc, _+_, _-_, _≤_}
@@ -9,7 +9,7 @@ use lib.Dec.{leb, eqb}
 use borrow.Author.Tests.{leb-true}
 use Rattle.octets.specs.Numbers.{u16At}
 use Rattle.octets.specs.Characters.{bytesOf}
-use Rattle.format.specs.declared.Fault.the-variants.{Long as LONG, Trail as TRAIL, Cut as CUT, Info as INFO, Room as ROOM, NoTarget as NOTARGET}
+use Rattle.format.specs.declared.Fault.the-variants.{Long as LONG, Trail as TRAIL, Cut as CUT, Info as INFO, Place as PLACE, Unwritable as UNWRITABLE, Room as ROOM, NoTarget as NOTARGET}
 use Rattle.format.specs.declared.Place.{Place}
 use Rattle.format.specs.declared.Record.{Record}
 use Rattle.format.specs.Numbers.{answerValue}
@@ -20,12 +20,15 @@ use Rattle.format.specs.Info.{infoSize, infoRules, noInfo, infoFields, info}
 use Rattle.format.specs.Strings.{stringLength, string}
 use Rattle.format.specs.Blocks.{blockSize, blockTests, blocks}
 use Rattle.format.specs.Shortcut.{most, Section, Sections, found, sectionIf, stringSection, tail, sections, shortcut, recordOf, verdictOf, reading}
-use Rattle.format.specs.Contents.{bytesAt}
+use Rattle.format.specs.Contents.{bytesAt, Contents, placed, contents}
+use Rattle.format.specs.Writing.{every, canonical, writable, writing, writeAnswer}
 use Rattle.format.specs.Target.{hasTarget, targetText, target, targetAnswer}
-use Rattle.format.proofs.Bools.{by-order}
+use Rattle.format.proofs.Bools.{and-true, by-order}
 use Rattle.format.proofs.Chains.{Pass}
 use Rattle.format.proofs.BlockLaws.{none-left, the-end, one-more}
 use Rattle.format.proofs.AcceptedLaws.{shortcut-whole}
+use Rattle.writable.specs.Sections.{sectionTests}
+use Rattle.writable.proofs.TestLaws.{every-last}
 
 -- what is read from p on lies inside the l bytes there, and so does a refusal
 abbrev Near : {A : Type 0} → ℕ → ℕ → Outcome A → Type 0
@@ -190,3 +193,23 @@ target-small s out = go (shortcut s) refl
 
 pub check-small : (s : List ℕ) → answerValue (reading s .verdict) ≤ 131072
 check-small s = let h = small s in omega arith
+
+-- what can be written is no longer than a shortcut
+writable-few : (c : Contents) → writable c ≡ true → length (canonical c) ≤ most
+unfolding writable
+writable-few c e =
+    let last = leb (length (canonical c)) most in
+    leb-true (length (canonical c)) most (and-true (every (sectionTests c)) last (sym (every-last (sectionTests c) last) ∙ e) .1)
+
+pub write-small : (r : Record) (d out : List ℕ) → answerValue (writeAnswer r d out) ≤ 131072
+unfolding answerValue writeAnswer writing
+write-small r d out =
+    let w = canonical (contents d r) in
+    go w (placed (length d) r) (writable (contents d r)) (leb (length w) (length out)) (λ e. writable-few (contents d r) e)
+  where
+    go : (w : List ℕ) (a b c : Bool) → (b ≡ true → length w ≤ most)
+        → answerValue (verdictOf (cond a (cond b (cond c (got w (length w)) (refused ROOM 0)) (refused UNWRITABLE 0)) (refused PLACE 0))) ≤ 131072
+    go w true true true h = omega (arith, h refl)
+    go w true true false h = omega arith
+    go w true false c h = omega arith
+    go w false b c h = omega arith

@@ -1,6 +1,5 @@
 -- Number and value in one number.
 use Prim.Native.Nat.{ℕ, _+_, _*_}
-use mathlib.Core.List.{List}
 use Rattle.format.specs.declared.Place.{Place}
 use Rattle.format.specs.declared.Verdict.{Verdict}
 use Rattle.format.specs.Numbers.{answerNumber, answerValue}

@@ -7,6 +7,7 @@ ghost use Rattle.format.specs.Shortcut.{reading};
 ghost use Rattle.format.specs.Target.{targetAnswer, targetOutput};
 ghost use Rattle.format.specs.Listing.{sectionPlace};
 ghost use Rattle.scheduler.specs.Code.{codeOf, sectionCode};
+ghost use Rattle.scheduler.specs.Fields.{readCode, readFields, writeCode, writtenFields};
 
 fn code_of(v: Verdict) -> u64
     requires { ⌜ answerValue v ≤ 131072 ⌝ }
@@ -41,4 +42,38 @@ pub extern "C" fn herringnet_section(s: &[u8], name: u32, block: usize) -> u64
 {
     let b = shown::section_place(s, name, block);
     256 * (b.at as u64 + 65537 * (b.len as u64))
+}
+
+#[no_mangle]
+pub extern "C" fn herringnet_read(s: &[u8], f: &mut [u64]) -> u64
+    ensures answer { λ r. ⌜ r ≡ readCode (now (s .entry)) (now (f .entry)) ⌝ }
+    ensures output { λ _. ⌜ now (f .exit) ≡ readFields (now (s .entry)) (now (f .entry)) ⌝ }
+{
+    if f.len() != 49 {
+        return 201;
+    }
+    let g = reader::read(s);
+    let v = g.verdict;
+    let q = g.held;
+    let Verdict::Accepted(n) = v else {
+        return code_of(v);
+    };
+    fields::put_fields(f, q);
+    256 * (n as u64)
+}
+
+#[no_mangle]
+pub extern "C" fn herringnet_write(f: &[u64], d: &[u8], out: &mut [u8]) -> u64
+    ensures answer { λ r. ⌜ r ≡ writeCode (now (f .entry)) (now (d .entry)) (now (out .entry)) ⌝ }
+    ensures output { λ _. ⌜ now (out .exit) ≡ writtenFields (now (f .entry)) (now (d .entry)) (now (out .entry)) ⌝ }
+{
+    if f.len() != 49 {
+        return 201;
+    }
+    if !fields::are_record(f) {
+        return 202;
+    }
+    let q = fields::record_from(f);
+    let v = writer::write(q, d, out);
+    code_of(v)
 }

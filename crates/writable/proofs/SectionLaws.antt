@@ -15,7 +15,7 @@ use Rattle.format.specs.Header.{flagsOk, attributesOk, hotkeyOk}
 use Rattle.format.specs.Contents.{labelPlace, labelKind, bytesAt, volumeContents, networkContents, infoContents, bodiesOf}
 use Rattle.format.specs.Writing.{writableIf, writableHeader, writableItems, writableText, writableVolume, writableNetwork, writableInfo, writableString, writableBlocks}
 use Rattle.writable.specs.Sections.{sectionsWritable}
-use Rattle.writable.proofs.TestLaws.{joined-every}
+use Rattle.format.proofs.Bools.{joined-every}
 
 -- ---- a part that is there or not, over its rule
 

@@ -1,4 +1,4 @@
--- Tests as the code joins them, one after another, and as a list of tests; tests of numbers that hold together.
+-- Tests as a list of tests, and tests of numbers that hold together.
 use mathlib.Core.Path.{_≡_, refl, sym, ap, _∙_}
 use mathlib.Core.List.{List, [], _∷_, _++_}
 use mathlib.Core.Bool.{Bool, true, false, _&&_}
@@ -22,16 +22,6 @@ and-yes false = refl
 pub every-last : (bs : List Bool) (b : Bool) → every (bs ++ b ∷ []) ≡ (every bs && b)
 every-last [] b = and-yes b
 every-last (x ∷ bs) b = ap (λ (t : Bool). x && t) (every-last bs b) ∙ sym (and-assoc x (every bs) b)
-
-abbrev pub joined : Bool → List Bool → Bool
-joined b [] = b
-joined b (x ∷ xs) = joined (b && x) xs
-
-pub joined-every : (b : Bool) (xs : List Bool) → joined b xs ≡ every (b ∷ xs)
-joined-every true [] = refl
-joined-every false [] = refl
-joined-every true (x ∷ xs) = joined-every x xs
-joined-every false (x ∷ xs) = joined-every false xs
 
 pub same-test : (a b c d : ℕ) → (a ≡ b → c ≡ d) → (c ≡ d → a ≡ b) → eqb a b ≡ eqb c d
 same-test a b c d f g = go (eqb a b) refl

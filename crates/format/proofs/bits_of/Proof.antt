@@ -1,7 +1,7 @@
-use Rattle.canonical.proofs.SignedLaws.{small, flipped, bits-below, bits-above, bits-small}
+use Rattle.format.proofs.SignedLaws.{small, flipped, bits-below, bits-above, bits-small}
 use native.Mathlib.Omega.{arith}
-use Rattle.canonical.proofs.numbers.bits_of.Statement.{statement}
-use Rattle.canonical.proofs.numbers.bits_of.Tie as tie
+use Rattle.format.proofs.bits_of.Statement.{statement}
+use Rattle.format.proofs.bits_of.Tie as tie
 
 cast-result : tie.Need-cast-result
 cast-result c = rw (flipped _ (c .before .fits .n) (c .if1 .taken)) (tt, record { fits = omega (arith, small _ (c .before .fits .n)) })

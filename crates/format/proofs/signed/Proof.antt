@@ -1,11 +1,11 @@
 use Rattle.format.specs.Header.{signed}
 use native.Mathlib.Omega.{arith}
 use Prim.Native.Nat.{suc, _-_}
 use mathlib.Core.Path.{_≡_}
 use borrow.Author.Tests.{lt-ltb, le-ltb}
 use borrow.Author.Needs.{needs}
-use Rattle.header.proofs.signed.Statement.{statement}
-use Rattle.header.proofs.signed.Tie as tie
+use Rattle.format.proofs.signed.Statement.{statement}
+use Rattle.format.proofs.signed.Tie as tie
 
 cast-result : tie.Need-cast-result
 cast-result c = search needs

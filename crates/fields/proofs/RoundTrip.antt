@@ -1,0 +1,115 @@
+-- From a record to its numbers and back, and from numbers to their record and back.
+use mathlib.Core.Path.{_≡_, refl, ap}
+use mathlib.Core.List.{List, [], _∷_}
+use mathlib.Core.Bool.{Bool, true, false}
+use Prim.Native.Nat.{ℕ, zero, suc, _<_, _-_}
+use native.Mathlib.Omega.{arith}
+use lib.ListN.{length, getD}
+use lib.Dec.{ltb, eqb}
+use borrow.Author.Tests.{lt-ltb, le-ltb}
+use Rattle.format.specs.declared.Place.{Place}
+use Rattle.format.specs.declared.Label.{Label}
+use Rattle.format.specs.declared.Label.the-variants.{Byte, Unicode}
+use Rattle.format.specs.declared.Record.{Record}
+use Rattle.format.specs.Header.{signed}
+use Rattle.format.specs.Contents.{labelKind, labelPlace}
+use Rattle.format.specs.Writing.{bits}
+use Rattle.format.specs.Ranges.{FitsRecord}
+use Rattle.format.proofs.Bools.{by-order}
+use Rattle.format.proofs.HeaderLaws.{signed-bits, bits-fit}
+use Rattle.fields.specs.Fields.{fieldCount, oneOr0, numbersOf, placesOf, fieldsOf, headerNumbers, infoNumbers, areRecord, labelOf, headerFrom, volumeFrom, networkFrom, infoFrom, recordFrom}
+use Rattle.fields.proofs.Laws.{header-fits, info-fits, both-parts}
+
+-- ---- one number, one choice, one label
+
+flag-back : (b : Bool) → eqb (oneOr0 b) 1 ≡ b
+flag-back true = refl
+flag-back false = refl
+
+flag-kept : (n : ℕ) → n < 2 → oneOr0 (eqb n 1) ≡ n
+flag-kept zero h = refl
+flag-kept (suc zero) h = refl
+flag-kept (suc (suc n)) h = absurd (omega arith)
+
+label-back : (l : Label) → labelOf (eqb (oneOr0 (labelKind l)) 1) (labelPlace l) ≡ l
+label-back (Byte b) = refl
+label-back (Unicode b) = refl
+
+kind-kept : (b : Bool) (p : Place) → labelKind (labelOf b p) ≡ b
+kind-kept true p = refl
+kind-kept false p = refl
+
+place-kept : (b : Bool) (p : Place) → labelPlace (labelOf b p) ≡ p
+place-kept true p = refl
+place-kept false p = refl
+
+bits-kept : (n : ℕ) → n < 4294967296 → bits (signed n) ≡ n
+unfolding bits signed
+bits-kept n h =
+    by-order 2147483648 n
+    (λ k. let e : 4294967295 - (4294967295 - n) ≡ n = omega arith in rw (le-ltb n 2147483648 k) e)
+    (λ k. rw (lt-ltb n 2147483648 k))
+
+-- ---- the record
+
+pub record-back : (q : Record) → FitsRecord q → recordFrom (fieldsOf q) ≡ q
+unfolding recordFrom headerFrom infoFrom volumeFrom networkFrom fieldsOf numbersOf placesOf
+record-back q t =
+    rw (signed-bits (q .header .«icon_index») (t .header .«icon_index»), flag-back (q .info .long), label-back (q .info .volume .label), flag-back (q .info .network .unicode))
+
+-- its numbers are as many as there are fields, and are a record
+pub fields-counted : (q : Record) → length (fieldsOf q) ≡ fieldCount
+unfolding fieldsOf numbersOf placesOf
+fields-counted q = refl
+
+flag-small : (b : Bool) → ltb (oneOr0 b) 2 ≡ true
+flag-small true = refl
+flag-small false = refl
+
+pub fields-record : (q : Record) → FitsRecord q → areRecord (fieldsOf q) ≡ true
+unfolding areRecord headerNumbers infoNumbers fieldsOf numbersOf placesOf
+fields-record q t =
+    let h = t .header in
+    let word : (n : ℕ) → n < 4294967296 → ltb n 4294967296 ≡ true = λ n k. lt-ltb n 4294967296 k in
+    rw (
+      word (q .header .flags) (h .flags),
+      word (q .header .attributes) (h .attributes),
+      word (q .header .«file_size») (h .«file_size»),
+      word (bits (q .header .«icon_index»)) (bits-fit (q .header .«icon_index») (h .«icon_index»)),
+      word (q .header .command) (h .command),
+      lt-ltb (q .header .hotkey) 65536 (h .hotkey),
+      word (q .info .flags) (t .flags),
+      flag-small (q .info .long),
+      word (q .info .volume .drive) (t .drive),
+      word (q .info .volume .serial) (t .serial),
+      flag-small (labelKind (q .info .volume .label)),
+      word (q .info .network .flags) (t .networkFlags),
+      word (q .info .network .provider) (t .provider),
+      flag-small (q .info .network .unicode),
+    )
+
+-- ---- the numbers
+
+abbrev spelled : (ℕ → ℕ) → ℕ → List ℕ
+spelled g zero = []
+spelled g (suc n) = g 0 ∷ spelled (λ i. g (suc i)) n
+
+spelled-whole : (f : List ℕ) → spelled (λ i. getD f i 0) (length f) ≡ f
+spelled-whole [] = refl
+spelled-whole (x ∷ f) = ap (λ (t : List ℕ). x ∷ t) (spelled-whole f)
+
+pub fields-back : (f : List ℕ) → length f ≡ fieldCount → areRecord f ≡ true → fieldsOf (recordFrom f) ≡ f
+unfolding recordFrom headerFrom infoFrom volumeFrom networkFrom fieldsOf numbersOf placesOf
+fields-back f l e =
+    let parts = both-parts f e in
+    let h = header-fits f (parts .0) in
+    let i = info-fits f (parts .1) in
+    let s : spelled (λ i. getD f i 0) fieldCount ≡ f = rw l at (spelled-whole f) in
+    rw (
+      bits-kept (getD f 6 0) (h .icon),
+      flag-kept (getD f 10 0) (i .long),
+      kind-kept (eqb (getD f 13 0) 1) _,
+      flag-kept (getD f 13 0) (i .kind),
+      flag-kept (getD f 16 0) (i .unicode),
+      place-kept (eqb (getD f 13 0) 1) _,
+    ) s

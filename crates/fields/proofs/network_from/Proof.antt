@@ -1,0 +1,50 @@
+use Rattle.fields.proofs.Laws.{info-fits, network-is}
+use borrow.Author.Needs.{needs}
+use Rattle.fields.proofs.network_from.Statement.{statement}
+use Rattle.fields.proofs.network_from.Tie as tie
+
+shared-slice-read-t3 : tie.Need-shared-slice-read-t3
+shared-slice-read-t3 c = search needs
+
+cast-t4 : tie.Need-cast-t4
+cast-t4 c = record { fits = info-fits _ (c .before .before .pre .1) .network }
+
+shared-slice-read-t6 : tie.Need-shared-slice-read-t6
+shared-slice-read-t6 c = search needs
+
+cast-t7 : tie.Need-cast-t7
+cast-t7 c = record { fits = info-fits _ (c .before .before .before .pre .1) .provider }
+
+shared-slice-read-t9 : tie.Need-shared-slice-read-t9
+shared-slice-read-t9 c = search needs
+
+place-at-requires : tie.Need-place-at-requires
+place-at-requires c κs = search needs
+
+place-at-requires-2 : tie.Need-place-at-requires-2
+place-at-requires-2 c κs = search needs
+
+place-at-requires-3 : tie.Need-place-at-requires-3
+place-at-requires-3 c κs = search needs
+
+place-at-requires-4 : tie.Need-place-at-requires-4
+place-at-requires-4 c κs = search needs
+
+returns : tie.Need-returns
+returns c =
+    network-is _ (c .before .before .before .place-at .ensures) (c .before .before .place-at2 .ensures) (c .before .place-at3 .ensures) (c .place-at4 .ensures)
+
+pub network-from-spec : {M : Type 1} → statement M
+network-from-spec =
+    tie.close
+    (tie.spec
+    shared-slice-read-t3
+    cast-t4
+    shared-slice-read-t6
+    cast-t7
+    shared-slice-read-t9
+    place-at-requires
+    place-at-requires-2
+    place-at-requires-3
+    place-at-requires-4
+    returns)

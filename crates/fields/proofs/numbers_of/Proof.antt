@@ -1,0 +1,82 @@
+use mir.Syntax.{w32}
+use mir.Facts.{toZ-ofZ}
+use Rattle.fields.proofs.Laws.{numbers-are}
+use borrow.Author.Needs.{needs}
+use Rattle.fields.proofs.numbers_of.Statement.{statement}
+use Rattle.fields.proofs.numbers_of.Tie as tie
+
+cast-t7 : tie.Need-cast-t7
+cast-t7 c = search needs
+
+cast-t8 : tie.Need-cast-t8
+cast-t8 c = search needs
+
+cast-t9 : tie.Need-cast-t9
+cast-t9 c = search needs
+
+bits-of-requires : tie.Need-bits-of-requires
+bits-of-requires c κs = search needs
+
+cast-t11 : tie.Need-cast-t11
+cast-t11 c = search needs
+
+cast-t12 : tie.Need-cast-t12
+cast-t12 c = search needs
+
+cast-t13 : tie.Need-cast-t13
+cast-t13 c = search needs
+
+cast-t14 : tie.Need-cast-t14
+cast-t14 c = search needs
+
+one-or-0-requires : tie.Need-one-or-0-requires
+one-or-0-requires c κs = search needs
+
+cast-t16 : tie.Need-cast-t16
+cast-t16 c = search needs
+
+cast-t17 : tie.Need-cast-t17
+cast-t17 c = search needs
+
+label-unicode-requires : tie.Need-label-unicode-requires
+label-unicode-requires c κs = search needs
+
+one-or-0-requires-2 : tie.Need-one-or-0-requires-2
+one-or-0-requires-2 c κs = search needs
+
+cast-t20 : tie.Need-cast-t20
+cast-t20 c = search needs
+
+cast-t21 : tie.Need-cast-t21
+cast-t21 c = search needs
+
+one-or-0-requires-3 : tie.Need-one-or-0-requires-3
+one-or-0-requires-3 c κs = search needs
+
+returns : tie.Need-returns
+returns c =
+    let q = c .before .before .before .before .before .before .before .before .before .before .before .before .before .before .before .before .before .before .before .before .args .q in
+    let back = toZ-ofZ {w = w32} {z = q .header .«icon_index»} (record { sfits = c .before .before .before .before .before .before .before .before .before .before .before .before .struct-told .given .1 .1 .1 .1 .1 .1 .0 .1 }) in
+    numbers-are q (rw back at (c .before .before .before .before .before .before .before .before .before .before .before .bits-of .ensures)) (c .before .before .before .before .before .before .before .one-or-0 .ensures) (c .before .before .before .before .label-unicode .ensures) (c .before .before .before .one-or-02 .ensures) (c .one-or-03 .ensures)
+
+pub numbers-of-spec : {M : Type 1} → statement M
+numbers-of-spec =
+    tie.close
+    (tie.spec
+    cast-t7
+    cast-t8
+    cast-t9
+    bits-of-requires
+    cast-t11
+    cast-t12
+    cast-t13
+    cast-t14
+    one-or-0-requires
+    cast-t16
+    cast-t17
+    label-unicode-requires
+    one-or-0-requires-2
+    cast-t20
+    cast-t21
+    one-or-0-requires-3
+    returns)

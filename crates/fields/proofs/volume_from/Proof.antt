@@ -1,0 +1,41 @@
+use Rattle.fields.proofs.Laws.{info-fits, volume-is}
+use borrow.Author.Needs.{needs}
+use Rattle.fields.proofs.volume_from.Statement.{statement}
+use Rattle.fields.proofs.volume_from.Tie as tie
+
+shared-slice-read-t3 : tie.Need-shared-slice-read-t3
+shared-slice-read-t3 c = search needs
+
+cast-t4 : tie.Need-cast-t4
+cast-t4 c = record { fits = info-fits _ (c .before .before .pre .1) .drive }
+
+shared-slice-read-t6 : tie.Need-shared-slice-read-t6
+shared-slice-read-t6 c = search needs
+
+cast-t7 : tie.Need-cast-t7
+cast-t7 c = record { fits = info-fits _ (c .before .before .before .pre .1) .serial }
+
+shared-slice-read-label-from : tie.Need-shared-slice-read-label-from
+shared-slice-read-label-from c = search needs
+
+place-at-requires : tie.Need-place-at-requires
+place-at-requires c κs = search needs
+
+label-from-requires : tie.Need-label-from-requires
+label-from-requires c κs = search needs
+
+returns : tie.Need-returns
+returns c = volume-is _ (c .before .place-at .ensures) (c .label-from .ensures)
+
+pub volume-from-spec : {M : Type 1} → statement M
+volume-from-spec =
+    tie.close
+    (tie.spec
+    shared-slice-read-t3
+    cast-t4
+    shared-slice-read-t6
+    cast-t7
+    shared-slice-read-label-from
+    place-at-requires
+    label-from-requires
+    returns)

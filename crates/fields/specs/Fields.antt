@@ -1,0 +1,164 @@
+-- The record as 49 numbers, in one fixed order.
+use Prim.Native.Nat.{ℕ, _+_}
+use mathlib.Core.List.{List, [], _∷_, _++_}
+use mathlib.Core.Bool.{Bool, true, false, _&&_, cond}
+use lib.ListN.{length, getD}
+use lib.Dec.{ltb, eqb}
+use Rattle.format.specs.declared.Place.{Place}
+use Rattle.format.specs.declared.Label.{Label}
+use Rattle.format.specs.declared.Label.the-variants.{Byte, Unicode}
+use Rattle.format.specs.declared.Header.{Header}
+use Rattle.format.specs.declared.Volume.{Volume}
+use Rattle.format.specs.declared.Network.{Network}
+use Rattle.format.specs.declared.Info.{Info}
+use Rattle.format.specs.declared.Record.{Record}
+use Rattle.format.specs.Tests.{place}
+use Rattle.format.specs.Header.{signed}
+use Rattle.format.specs.Contents.{labelPlace, labelKind}
+use Rattle.format.specs.Writing.{bits, every}
+
+abbrev pub fieldCount : ℕ
+fieldCount = 49
+
+-- ---- from the record
+
+-- 0 or 1
+abbrev pub oneOr0 : Bool → ℕ
+oneOr0 b = cond b 1 0
+
+-- LinkFlags, FileAttributes, creation, access, write time, FileSize, IconIndex (its 32 bits), ShowCommand, HotKey; LinkInfo flags, long head,
+-- drive type, serial, label kind (0 byte, 1 Unicode), network flags, provider type, Unicode names
+unfoldable pub numbersOf : Record → List ℕ
+numbersOf q =
+    q .header .flags
+    ∷ q .header .attributes
+    ∷ q .header .creation
+    ∷ q .header .access
+    ∷ q .header .write
+    ∷ q .header .«file_size»
+    ∷ bits (q .header .«icon_index»)
+    ∷ q .header .command
+    ∷ q .header .hotkey
+    ∷ q .info .flags
+    ∷ oneOr0 (q .info .long)
+    ∷ q .info .volume .drive
+    ∷ q .info .volume .serial
+    ∷ oneOr0 (labelKind (q .info .volume .label))
+    ∷ q .info .network .flags
+    ∷ q .info .network .provider
+    ∷ oneOr0 (q .info .network .unicode)
+    ∷ []
+
+-- place and length of each
+abbrev pub pairs : List Place → List ℕ
+pairs [] = []
+pairs (b ∷ bs) = b .at ∷ b .len ∷ pairs bs
+
+unfoldable pub placesOf : Record → List ℕ
+placesOf q =
+    pairs
+    (q .items
+    ∷ labelPlace (q .info .volume .label)
+    ∷ q .info .local
+    ∷ q .info .network .net
+    ∷ q .info .network .device
+    ∷ q .info .network .«net_unicode»
+    ∷ q .info .network .«device_unicode»
+    ∷ q .info .suffix
+    ∷ q .info .«local_unicode»
+    ∷ q .info .«suffix_unicode»
+    ∷ q .name
+    ∷ q .relative
+    ∷ q .workdir
+    ∷ q .arguments
+    ∷ q .icon
+    ∷ q .blocks
+    ∷ [])
+
+unfoldable pub fieldsOf : Record → List ℕ
+unfolding numbersOf placesOf
+fieldsOf q = numbersOf q ++ placesOf q
+
+-- ---- to the record: which numbers are one, and which one they are
+
+abbrev pub labelOf : Bool → Place → Label
+labelOf true b = Unicode b
+labelOf false b = Byte b
+
+module _ (f : List ℕ) where
+  abbrev pub wordAt : ℕ → Bool
+  wordAt i = ltb (getD f i 0) 4294967296
+
+  abbrev pub flagAt : ℕ → Bool
+  flagAt i = ltb (getD f i 0) 2
+
+  unfoldable pub headerNumbers : Bool
+  headerNumbers = every (wordAt 0 ∷ wordAt 1 ∷ wordAt 5 ∷ wordAt 6 ∷ wordAt 7 ∷ ltb (getD f 8 0) 65536 ∷ [])
+
+  unfoldable pub infoNumbers : Bool
+  infoNumbers = every (wordAt 9 ∷ flagAt 10 ∷ wordAt 11 ∷ wordAt 12 ∷ flagAt 13 ∷ wordAt 14 ∷ wordAt 15 ∷ flagAt 16 ∷ [])
+
+  -- each number fits its field
+  unfoldable pub areRecord : Bool
+  unfolding headerNumbers infoNumbers
+  areRecord = headerNumbers && infoNumbers
+
+  abbrev pub trueAt : ℕ → Bool
+  trueAt i = eqb (getD f i 0) 1
+
+  abbrev pub placeAt : ℕ → Place
+  placeAt i = place (getD f i 0) (getD f (i + 1) 0)
+
+  unfoldable pub headerFrom : Header
+  headerFrom = record {
+    flags = getD f 0 0;
+    attributes = getD f 1 0;
+    creation = getD f 2 0;
+    access = getD f 3 0;
+    write = getD f 4 0;
+    «file_size» = getD f 5 0;
+    «icon_index» = signed (getD f 6 0);
+    command = getD f 7 0;
+    hotkey = getD f 8 0;
+  }
+
+  unfoldable pub volumeFrom : Volume
+  volumeFrom = record { drive = getD f 11 0; serial = getD f 12 0; label = labelOf (trueAt 13) (placeAt 19) }
+
+  unfoldable pub networkFrom : Network
+  networkFrom = record {
+    flags = getD f 14 0;
+    provider = getD f 15 0;
+    unicode = trueAt 16;
+    net = placeAt 23;
+    device = placeAt 25;
+    «net_unicode» = placeAt 27;
+    «device_unicode» = placeAt 29;
+  }
+
+  unfoldable pub infoFrom : Info
+  unfolding volumeFrom networkFrom
+  infoFrom = record {
+    flags = getD f 9 0;
+    long = trueAt 10;
+    volume = volumeFrom;
+    local = placeAt 21;
+    network = networkFrom;
+    suffix = placeAt 31;
+    «local_unicode» = placeAt 33;
+    «suffix_unicode» = placeAt 35;
+  }
+
+  unfoldable pub recordFrom : Record
+  unfolding headerFrom infoFrom
+  recordFrom = record {
+    header = headerFrom;
+    items = placeAt 17;
+    info = infoFrom;
+    name = placeAt 37;
+    relative = placeAt 39;
+    workdir = placeAt 41;
+    arguments = placeAt 43;
+    icon = placeAt 45;
+    blocks = placeAt 47;
+  }

@@ -1,0 +1,71 @@
+-- One law for each way out of reading into fields and of writing from them.
+use mathlib.Core.Path.{_≡_, sym, _∙_}
+use mathlib.Core.List.{List}
+use mathlib.Core.Bool.{Bool, true, false, not}
+use Prim.Native.Nat.{ℕ, _*_, _≤_}
+use lib.ListN.{length}
+use borrow.Author.Tests.{eq-eqb, ne-eqb, not-true, not-false}
+use Rattle.format.specs.declared.Record.{Record}
+use Rattle.format.specs.declared.Reading.{Reading}
+use Rattle.format.specs.declared.Fault.{Fault}
+use Rattle.format.specs.declared.Verdict.{Verdict}
+use Rattle.format.specs.declared.Verdict.the-variants.{Accepted, Refused}
+use Rattle.format.specs.Shortcut.{reading}
+use Rattle.format.specs.Writing.{writeAnswer, writeOutput}
+use Rattle.fields.specs.Fields.{fieldCount, fieldsOf, areRecord, recordFrom}
+use Rattle.scheduler.specs.Code.{codeOf}
+use Rattle.scheduler.specs.Fields.{FIELDS, VALUES, readCode, readFields, writeCode, writtenFields}
+use Rattle.scheduler.proofs.PositionLaws.{check-small}
+use Rattle.scheduler.proofs.CodeLaws.{accepted-small, accepted-code}
+
+-- ---- reading into fields
+
+module _ (s f : List ℕ) where
+  pub read-miscounted : (length f ≡ fieldCount → ⊥) → (FIELDS ≡ readCode s f) × (f ≡ readFields s f)
+  unfolding readCode readFields
+  read-miscounted h = let e = ne-eqb (length f) fieldCount h in (rw e, rw e)
+
+  module _ (h : length f ≡ fieldCount) {g : Reading} (e : g ≡ reading s) where
+    pub read-refused : {x : Fault} {p : ℕ} → g .verdict ≡ Refused x p → {r : ℕ} → r ≡ codeOf (g .verdict) → (r ≡ readCode s f) × (f ≡ readFields s f)
+    unfolding readCode readFields
+    read-refused t c =
+        let n = eq-eqb (length f) fieldCount h in
+        let v : reading s .verdict ≡ Refused _ _ = rw e at t in
+        (rw n (rw e at c), rw (n, v))
+
+    module _ {n : ℕ} (t : g .verdict ≡ Accepted n) where
+      pub read-small : n ≤ 131072
+      read-small = let v : reading s .verdict ≡ Accepted n = rw e at t in accepted-small v (check-small s)
+
+      pub read-filled : {x : List ℕ} → x ≡ fieldsOf (g .held) → (256 * n ≡ readCode s f) × (x ≡ readFields s f)
+      unfolding readCode readFields
+      read-filled c =
+          let k = eq-eqb (length f) fieldCount h in
+          let v : reading s .verdict ≡ Accepted n = rw e at t in
+          (rw k (accepted-code v), rw (k, v) (rw e at c))
+
+-- ---- writing from them
+
+module _ (f d out : List ℕ) where
+  pub write-miscounted : (length f ≡ fieldCount → ⊥) → (FIELDS ≡ writeCode f d out) × (out ≡ writtenFields f d out)
+  unfolding writeCode writtenFields
+  write-miscounted h = let e = ne-eqb (length f) fieldCount h in (rw e, rw e)
+
+  module _ (h : length f ≡ fieldCount) {b : Bool} (e : b ≡ areRecord f) where
+    pub write-no-record : not b ≡ true → (VALUES ≡ writeCode f d out) × (out ≡ writtenFields f d out)
+    unfolding writeCode writtenFields
+    write-no-record t =
+        let n = eq-eqb (length f) fieldCount h in
+        let k : areRecord f ≡ false = sym e ∙ not-true b t in
+        (rw (n, k), rw (n, k))
+
+    module _ (t : not b ≡ false) where
+      pub is-record : areRecord f ≡ true
+      is-record = sym e ∙ not-false b t
+
+      pub write-answered : {q : Record} → q ≡ recordFrom f → {v : Verdict} {x : List ℕ} {r : ℕ} → v ≡ writeAnswer q d out → x ≡ writeOutput q d out → r ≡ codeOf v
+          → (r ≡ writeCode f d out) × (x ≡ writtenFields f d out)
+      unfolding writeCode writtenFields
+      write-answered i j k l =
+          let n = eq-eqb (length f) fieldCount h in
+          (rw (n, is-record) (l ∙ rw (j, i)), rw (n, is-record) (k ∙ rw i))

@@ -1,0 +1,42 @@
+-- Reading into fields and writing from them: the slice of numbers is tested first.
+use Prim.Native.Nat.{ℕ}
+use mathlib.Core.List.{List}
+use mathlib.Core.Bool.{cond}
+use lib.ListN.{length}
+use lib.Dec.{eqb}
+use Rattle.format.specs.declared.Verdict.{Verdict}
+use Rattle.format.specs.declared.Verdict.the-variants.{Accepted, Refused}
+use Rattle.format.specs.declared.Reading.{Reading}
+use Rattle.format.specs.declared.Record.{Record}
+use Rattle.format.specs.Shortcut.{reading}
+use Rattle.format.specs.Writing.{writeAnswer, writeOutput}
+use Rattle.fields.specs.Fields.{fieldCount, fieldsOf, areRecord, recordFrom}
+use Rattle.scheduler.specs.Code.{codeOf}
+
+-- a slice of another length than 49; numbers that are no record; both with value 0
+abbrev pub FIELDS : ℕ
+FIELDS = 201
+
+abbrev pub VALUES : ℕ
+VALUES = 202
+
+-- on success all of the fields are written, on refusal nothing in them changes
+abbrev pub filledBy : Verdict → Record → List ℕ → List ℕ
+filledBy (Accepted n) q f = fieldsOf q
+filledBy (Refused e p) q f = f
+
+unfoldable pub readCode : List ℕ → List ℕ → ℕ
+unfolding codeOf reading
+readCode s f = cond (eqb (length f) fieldCount) (codeOf (reading s .verdict)) FIELDS
+
+unfoldable pub readFields : List ℕ → List ℕ → List ℕ
+unfolding reading fieldsOf
+readFields s f = cond (eqb (length f) fieldCount) (filledBy (reading s .verdict) (reading s .held) f) f
+
+unfoldable pub writeCode : List ℕ → List ℕ → List ℕ → ℕ
+unfolding codeOf areRecord recordFrom writeAnswer
+writeCode f d out = cond (eqb (length f) fieldCount) (cond (areRecord f) (codeOf (writeAnswer (recordFrom f) d out)) VALUES) FIELDS
+
+unfoldable pub writtenFields : List ℕ → List ℕ → List ℕ → List ℕ
+unfolding areRecord recordFrom writeOutput
+writtenFields f d out = cond (eqb (length f) fieldCount) (cond (areRecord f) (writeOutput (recordFrom f) d out) out) out
