@@ -12,12 +12,13 @@ use Rattle.format.specs.declared.Label.{Label}
 use Rattle.format.specs.declared.Label.the-variants.{Byte, Unicode}
 use Rattle.format.specs.declared.Record.{Record}
 use Rattle.format.specs.Header.{signed}
+use Rattle.format.specs.Volume.{labelOf}
 use Rattle.format.specs.Contents.{labelKind, labelPlace}
 use Rattle.format.specs.Writing.{bits}
 use Rattle.format.specs.Ranges.{FitsRecord}
 use Rattle.format.proofs.Bools.{by-order}
 use Rattle.format.proofs.HeaderLaws.{signed-bits, bits-fit}
-use Rattle.fields.specs.Fields.{fieldCount, oneOr0, numbersOf, placesOf, fieldsOf, headerNumbers, infoNumbers, areRecord, labelOf, headerFrom, volumeFrom, networkFrom, infoFrom, recordFrom}
+use Rattle.fields.specs.Fields.{fieldCount, oneOr0, numbersOf, placesOf, fieldsOf, headerNumbers, infoNumbers, areRecord, headerFrom, volumeFrom, networkFrom, infoFrom, recordFrom}
 use Rattle.fields.proofs.Laws.{header-fits, info-fits, both-parts}
 
 -- ---- one number, one choice, one label

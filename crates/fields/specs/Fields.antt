@@ -1,12 +1,11 @@
 -- The record as 49 numbers, in one fixed order.
 use Prim.Native.Nat.{ℕ, _+_}
 use mathlib.Core.List.{List, [], _∷_, _++_}
-use mathlib.Core.Bool.{Bool, true, false, _&&_, cond}
+use mathlib.Core.Bool.{Bool, _&&_, cond}
 use lib.ListN.{length, getD}
 use lib.Dec.{ltb, eqb}
 use Rattle.format.specs.declared.Place.{Place}
-use Rattle.format.specs.declared.Label.{Label}
-use Rattle.format.specs.declared.Label.the-variants.{Byte, Unicode}
+use Rattle.format.specs.declared.Label.the-variants.{Unicode}
 use Rattle.format.specs.declared.Header.{Header}
 use Rattle.format.specs.declared.Volume.{Volume}
 use Rattle.format.specs.declared.Network.{Network}
@@ -14,6 +13,7 @@ use Rattle.format.specs.declared.Info.{Info}
 use Rattle.format.specs.declared.Record.{Record}
 use Rattle.format.specs.Tests.{place}
 use Rattle.format.specs.Header.{signed}
+use Rattle.format.specs.Volume.{labelOf}
 use Rattle.format.specs.Contents.{labelPlace, labelKind}
 use Rattle.format.specs.Writing.{bits, every}
 
@@ -80,10 +80,6 @@ unfolding numbersOf placesOf
 fieldsOf q = numbersOf q ++ placesOf q
 
 -- ---- to the record: which numbers are one, and which one they are
-
-abbrev pub labelOf : Bool → Place → Label
-labelOf true b = Unicode b
-labelOf false b = Byte b
 
 module _ (f : List ℕ) where
   abbrev pub wordAt : ℕ → Bool

@@ -1,7 +1,6 @@
 // The record as 49 numbers, in the order of specs/Fields.
 use format::Header;
 use format::Info;
-use format::Label;
 use format::Network;
 use format::Place;
 use format::Record;
@@ -11,7 +10,7 @@ ghost use mathlib.Core.Bool.{true, cond};
 ghost use Prim.Native.Nat.{_+_, _≤_, _<_};
 ghost use lib.ListN.{length, getD};
 ghost use Rattle.octets.specs.Parts.{put};
-ghost use Rattle.fields.specs.Fields.{fieldCount, numbersOf, placesOf, fieldsOf, headerNumbers, infoNumbers, areRecord, placeAt, labelOf, headerFrom, volumeFrom, networkFrom, infoFrom, recordFrom};
+ghost use Rattle.fields.specs.Fields.{fieldCount, numbersOf, placesOf, fieldsOf, headerNumbers, infoNumbers, areRecord, placeAt, headerFrom, volumeFrom, networkFrom, infoFrom, recordFrom};
 
 const WORD: u64 = 0x1_0000_0000;
 
@@ -174,15 +173,6 @@ pub fn put_fields(f: &mut [u64], q: Record)
     put_numbers(f, 17, &places);
 }
 
-fn label_from(unicode: bool, b: Place) -> Label
-    ensures { λ r. ⌜ r ≡ labelOf unicode b ⌝ }
-{
-    if unicode {
-        return Label::Unicode(b);
-    }
-    Label::Byte(b)
-}
-
 fn volume_from(f: &[u64]) -> Volume
     requires size { ⌜ length (now f) ≡ fieldCount ⌝ }
     requires numbers { ⌜ infoNumbers (now f) ≡ true ⌝ }
@@ -191,7 +181,7 @@ fn volume_from(f: &[u64]) -> Volume
     Volume {
         drive: f[11] as u32,
         serial: f[12] as u32,
-        label: label_from(f[13] == 1, place_at(f, 19)),
+        label: format::label_of(f[13] == 1, place_at(f, 19)),
     }
 }
 

@@ -3,6 +3,7 @@ ghost use mathlib.Core.Path.{_≡_};
 ghost use Rattle.format.specs.Numbers.{numberOf};
 ghost use Rattle.format.specs.Tests.{bit};
 ghost use Rattle.format.specs.Header.{signed};
+ghost use Rattle.format.specs.Volume.{labelOf};
 ghost use Rattle.format.specs.Writing.{bits};
 ghost use Rattle.format.specs.Contents.{labelPlace, labelKind};
 
@@ -151,6 +152,16 @@ pub fn bits_of(n: i32) -> u32
         return 4294967295 - (!n as u32);
     }
     n as u32
+}
+
+pub fn label_of(unicode: bool, b: Place) -> Label
+    ensures { λ r. ⌜ r ≡ labelOf unicode b ⌝ }
+{
+    if unicode {
+        Label::Unicode(b)
+    } else {
+        Label::Byte(b)
+    }
 }
 
 pub fn label_unicode(l: Label) -> bool

@@ -19,7 +19,7 @@ ghost use lib.ListN.{length};
 ghost use Rattle.octets.specs.Characters.{bytesOf, zeroFrom};
 ghost use Rattle.format.specs.Tests.{bit, all, noPlace};
 ghost use Rattle.format.specs.Pieces.{absentZero, apart, allApart};
-ghost use Rattle.format.specs.Volume.{labelLeast, labelOf, noVolume};
+ghost use Rattle.format.specs.Volume.{labelLeast, noVolume};
 ghost use Rattle.format.specs.Network.{networkHead, noNetwork};
 ghost use Rattle.info.specs.Found.{Near, fieldIf, makeText, textFound, endAt, labelAt, volumeIn, makeVolume, volumeFound};
 ghost use Rattle.info.specs.Found.{networkFixed, networkIf, networkIn, providerOf, makeNetwork, networkFound, infoFixed, piecesFound};
@@ -213,16 +213,6 @@ fn label_least(unicode: bool) -> usize
     if unicode { 0x14 } else { 0x10 }
 }
 
-fn label_of(unicode: bool, b: Place) -> Label
-    ensures { λ r. ⌜ r ≡ labelOf unicode b ⌝ }
-{
-    if unicode {
-        Label::Unicode(b)
-    } else {
-        Label::Byte(b)
-    }
-}
-
 // The offset of the label of VolumeID v.
 fn label_offset(v: &[u8], unicode: bool) -> usize
     requires { ⌜ (0x10 ≤ length (now v)) × (unicode ≡ true → 0x14 ≤ length (now v)) ⌝ }
@@ -254,7 +244,7 @@ fn volume_in(v: &[u8], at: usize) -> VolumeRead
     VolumeRead::Good(Volume {
         drive,
         serial: octets::u32_at(v, 8),
-        label: label_of(unicode, b),
+        label: format::label_of(unicode, b),
     })
 }
 

@@ -15,17 +15,17 @@ shared-slice-read-t6 c = search needs
 cast-t7 : tie.Need-cast-t7
 cast-t7 c = record { fits = info-fits _ (c .before .before .before .pre .1) .serial }
 
-shared-slice-read-label-from : tie.Need-shared-slice-read-label-from
-shared-slice-read-label-from c = search needs
+shared-slice-read-label-of : tie.Need-shared-slice-read-label-of
+shared-slice-read-label-of c = search needs
 
 place-at-requires : tie.Need-place-at-requires
 place-at-requires c κs = search needs
 
-label-from-requires : tie.Need-label-from-requires
-label-from-requires c κs = search needs
+label-of-requires : tie.Need-label-of-requires
+label-of-requires c κs = search needs
 
 returns : tie.Need-returns
-returns c = volume-is _ (c .before .place-at .ensures) (c .label-from .ensures)
+returns c = volume-is _ (c .before .place-at .ensures) (c .label-of .ensures)
 
 pub volume-from-spec : {M : Type 1} → statement M
 volume-from-spec =
@@ -35,7 +35,7 @@ volume-from-spec =
     cast-t4
     shared-slice-read-t6
     cast-t7
-    shared-slice-read-label-from
+    shared-slice-read-label-of
     place-at-requires
-    label-from-requires
+    label-of-requires
     returns)

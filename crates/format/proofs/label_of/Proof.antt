@@ -1,5 +1,5 @@
-use Rattle.info.proofs.label_of.Statement.{statement}
-use Rattle.info.proofs.label_of.Tie as tie
+use Rattle.format.proofs.label_of.Statement.{statement}
+use Rattle.format.proofs.label_of.Tie as tie
 
 returns : tie.Need-returns
 returns c = rw (c .if1 .taken)
