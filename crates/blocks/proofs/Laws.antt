@@ -1,38 +1,74 @@
 -- What the code over blocks answers, one law for each way out.
 use mathlib.Core.Path.{_≡_, refl, sym, ap, _∙_}
 use mathlib.Core.List.{List, [], _∷_}
-use mathlib.Core.Bool.{Bool, true, false, not}
+use mathlib.Core.Bool.{Bool, true, false, not, cond, _&&_, _||_}
 use Prim.Native.Nat.{ℕ, zero, suc, _+_, _-_, _≤_, _<_}
 use native.Mathlib.Omega.{arith}
-use lib.ListN.{length, take, drop, length-drop}
-use lib.Seq.{take-all, drop-drop}
-use lib.Dec.{leb}
+use lib.ListN.{length, take, drop, length-take, length-drop}
+use lib.Seq.{take-all, take-take, drop-drop}
+use lib.Dec.{leb, eqb}
 use borrow.Author.Tests.{le-leb, lt-leb, leb-true, not-true, not-false}
 use Rattle.octets.specs.Numbers.{u32At}
-use Rattle.octets.specs.Characters.{zeroFrom}
 use Rattle.octets.specs.declared.Cursor.{Cursor}
-use Rattle.octets.specs.declared.Zero.{Zero}
-use Rattle.octets.specs.declared.Zero.the-variants.{After, Nowhere}
-use Rattle.octets.proofs.NumberLaws.{number-drop}
-use Rattle.octets.proofs.ZeroLaws.{zero-after, zero-nowhere}
+use Rattle.octets.proofs.NumberLaws.{number-same, number-drop}
 use Rattle.format.specs.declared.Fault.{Fault}
 use Rattle.format.specs.declared.Fault.the-variants.{Cut as CUT, Block as BLOCK}
 use Rattle.format.specs.declared.Place.{Place}
 use Rattle.format.specs.Tests.{Outcome, got, refused, _else_, tests, andThen, place, noPlace}
-use Rattle.format.specs.Pieces.{textEnds}
-use Rattle.format.specs.Blocks.{blockOk, blockSize, blockTests, blocks}
+use Rattle.format.specs.Items.{itemList}
+use Rattle.format.specs.Blocks.{pathTexts, blockOk, blockSize, blockTests, blocks}
 use Rattle.format.specs.Shortcut.{sum}
 use Rattle.format.proofs.Chains.{Pass}
 use Rattle.format.proofs.BlockLaws.{none-left, the-end, one-more, step-elim}
-use Rattle.blocks.specs.Walk.{isFound, walkedFrom, blocksAt, nthPlace, NthOf}
+use Rattle.format.proofs.Bools.{clash}
+use Rattle.blocks.specs.Walk.{plainOk, walkedFrom, blocksAt, nthPlace, NthOf}
 use Rattle.blocks.specs.declared.Walked.{Walked}
 use Rattle.blocks.specs.declared.Walked.the-variants.{Body, Refused}
 
 -- ---- one block
 
-pub found-is : (u : Bool) (l : List ℕ) (z : Zero) → z ≡ zeroFrom u l 0 → isFound z ≡ textEnds u l
-found-is u l (After n) e = sym (zero-after u l 0 e refl .0)
-found-is u l Nowhere e = sym (zero-nowhere u l 0 e refl)
+-- rows of a table: the first that fits decides
+abbrev rows : List (Bool × Bool) → Bool → Bool
+rows [] d = d
+rows ((t, v) ∷ l) d = cond t v (rows l d)
+
+rows-up : (l : List (Bool × Bool)) (d e : Bool) → (d ≡ true → e ≡ true) → rows l d ≡ true → rows l e ≡ true
+rows-up [] d e f h = f h
+rows-up ((true, v) ∷ l) d e f h = h
+rows-up ((false, v) ∷ l) d e f h = rows-up l d e f h
+
+none-up : (t v d e : Bool) → (d ≡ true → e ≡ true) → cond t false d ≡ true → cond t v e ≡ true
+none-up true v d e f h = clash h refl
+none-up false v d e f h = f h
+
+pub plain-block : (b : List ℕ) → plainOk (u32At b 4) (length b) ≡ true → blockOk b ≡ true
+unfolding plainOk blockOk
+plain-block b h =
+    let n = length b in
+    let signature = u32At b 4 in
+    let paths = eqb signature 0xA0000001 || eqb signature 0xA0000006 || eqb signature 0xA0000007 in
+    let list = eqb signature 0xA000000C in
+    let sizes : List (Bool × Bool) =
+    (eqb signature 0xA0000002, eqb n 0xCC)
+    ∷ (eqb signature 0xA0000003, eqb n 0x60)
+    ∷ (eqb signature 0xA0000004, eqb n 0x0C)
+    ∷ (eqb signature 0xA0000005, eqb n 0x10)
+    ∷ (eqb signature 0xA0000008, leb 0x88 n)
+    ∷ (eqb signature 0xA0000009, leb 0x0C n)
+    ∷ (eqb signature 0xA000000B, eqb n 0x1C)
+    ∷ [] in
+    let items = leb 0x0A n && itemList (drop 8 b) in
+    none-up paths (eqb n 0x314 && pathTexts b) (rows sizes (cond list false true)) (rows sizes (cond list items true))
+    (rows-up sizes (cond list false true) (cond list items true) (none-up list items true true (λ e. e))) h
+
+-- of the block of n bytes at p
+pub plain-part : (s : List ℕ) (p : ℕ) {n x : ℕ} {k : Bool} → p + n ≤ length s → 8 ≤ n → x ≡ u32At s (p + 4) → k ≡ plainOk x n → k ≡ true
+    → true ≡ blockOk (take (p + n - p) (drop p s))
+plain-part s p {n} {x} h o e k t =
+    let b : List ℕ = take (p + n - p) (drop p s) in
+    let l : length b ≡ n = length-take (p + n - p) (drop p s) ∙ (let d = length-drop p s in omega arith) in
+    let q : u32At b 4 ≡ u32At s (p + 4) = number-same 4 (p + n - p) b (drop p s) 4 (take-take (p + n - p) (p + n - p) (drop p s) (omega arith)) (omega arith) ∙ number-drop 4 p s 4 in
+    sym (plain-block b (rw (q, l, ← e) (sym k ∙ t)))
 
 -- the part from k to the end
 pub tail-part : (k : ℕ) (l : List ℕ) → take (length l - k) (drop k l) ≡ drop k l

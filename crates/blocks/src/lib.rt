@@ -2,12 +2,13 @@
 use format::Fault;
 use format::Place;
 use octets::Cursor;
-use octets::Zero;
 ghost use mathlib.Core.Path.{_≡_};
+ghost use mathlib.Core.Bool.{_&&_};
 ghost use Prim.Native.Nat.{_≤_};
 ghost use lib.ListN.{length};
+ghost use lib.Dec.{eqb};
 ghost use Rattle.format.specs.Blocks.{pathTexts, blockOk};
-ghost use Rattle.blocks.specs.Walk.{isFound, blocksAt, NthOf};
+ghost use Rattle.blocks.specs.Walk.{plainOk, blocksAt, NthOf};
 
 // All blocks before the terminal as one body, with the cursor after the terminal; or the fault and the start of the block at fault.
 pub enum Walked {
@@ -15,53 +16,61 @@ pub enum Walked {
     Refused(Fault, usize),
 }
 
-fn found(z: Zero) -> bool
-    ensures { λ r. ⌜ r ≡ isFound z ⌝ }
-{
-    match z {
-        Zero::After(_) => true,
-        Zero::Nowhere => false,
-    }
-}
-
 // A zero byte among the 260 from byte 8, and a zero unit among the 260 units from byte 268.
 fn path_texts(b: &[u8]) -> bool
     requires { ⌜ 0x314 ≤ length (now b) ⌝ }
     ensures { λ r. ⌜ r ≡ pathTexts (now (b .entry)) ⌝ }
 {
-    let narrow = octets::zero_byte(&b[8..268], 0);
-    let wide = octets::zero_unit(&b[268..788], 0);
-    found(narrow) & found(wide)
+    octets::has_zero(false, &b[8..268]) & octets::has_zero(true, &b[268..788])
 }
 
-// The table of signatures and sizes.
+// The three of 0x314.
+fn path_ok(b: &[u8]) -> bool
+    ensures { λ r. ⌜ r ≡ (eqb (length (now (b .entry))) 0x314 && pathTexts (now (b .entry))) ⌝ }
+{
+    if b.len() != 0x314 {
+        return false;
+    }
+    path_texts(b)
+}
+
+// The table of signatures and sizes, for those that have no rule beyond their size.
+pub fn plain_ok(signature: u32, n: usize) -> bool
+    ensures { λ r. ⌜ r ≡ plainOk signature n ⌝ }
+{
+    match signature {
+        0xA000_0001 => false,
+        0xA000_0002 => n == 0xCC,
+        0xA000_0003 => n == 0x60,
+        0xA000_0004 => n == 0x0C,
+        0xA000_0005 => n == 0x10,
+        0xA000_0006 => false,
+        0xA000_0007 => false,
+        0xA000_0008 => 0x88 <= n,
+        0xA000_0009 => 0x0C <= n,
+        0xA000_000B => n == 0x1C,
+        0xA000_000C => false,
+        _ => true,
+    }
+}
+
 pub fn block_ok(b: &[u8]) -> bool
     requires { ⌜ 8 ≤ length (now b) ⌝ }
     ensures { λ r. ⌜ r ≡ blockOk (now (b .entry)) ⌝ }
 {
     let n = b.len();
     let signature = octets::u32_at(b, 4);
-    if (signature == 0xA000_0001) | (signature == 0xA000_0006) | (signature == 0xA000_0007) {
-        if n != 0x314 {
-            return false;
-        }
-        return path_texts(b);
-    }
     match signature {
-        0xA000_0002 => n == 0xCC,
-        0xA000_0003 => n == 0x60,
-        0xA000_0004 => n == 0x0C,
-        0xA000_0005 => n == 0x10,
-        0xA000_0008 => 0x88 <= n,
-        0xA000_0009 => 0x0C <= n,
-        0xA000_000B => n == 0x1C,
+        0xA000_0001 => path_ok(b),
+        0xA000_0006 => path_ok(b),
+        0xA000_0007 => path_ok(b),
         0xA000_000C => {
             if n < 0x0A {
                 return false;
             }
             items::item_list(&b[8..])
         }
-        _ => true,
+        _ => plain_ok(signature, n),
     }
 }
 
@@ -90,8 +99,11 @@ pub fn blocks(s: &[u8], c: Cursor) -> Walked
             return Walked::Refused(Fault::Cut, p);
         }
         let e = p + size;
-        if !block_ok(&s[p..e]) {
-            return Walked::Refused(Fault::Block, p);
+        // Few blocks need a look inside.
+        if !plain_ok(octets::u32_at(s, p + 4), size) {
+            if !block_ok(&s[p..e]) {
+                return Walked::Refused(Fault::Block, p);
+            }
         }
         p = e;
     }

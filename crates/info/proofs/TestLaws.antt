@@ -2,8 +2,10 @@
 use mathlib.Core.Path.{_≡_, refl, sym, ap, ap₂, _∙_}
 use mathlib.Core.List.{List, [], _∷_, _++_, map}
 use mathlib.Core.Bool.{Bool, true, false, _&&_, _||_, cond}
-use Prim.Native.Nat.{ℕ, _≤_}
+use Prim.Native.Nat.{ℕ, _+_, _≤_}
 use native.Mathlib.Omega.{arith}
+use lib.Dec.{leb, eqb}
+use borrow.Author.Tests.{le-leb, eqb-true}
 use Rattle.format.specs.declared.Fault.{Fault}
 use Rattle.format.specs.declared.Place.{Place}
 use Rattle.format.specs.Tests.{Outcome, refused, Test, tests, all, noPlace}
@@ -112,3 +114,19 @@ module _ {A R : Type 0} (make : Bool → Place → A → R) (h : ℕ) (x : Piece
 
   pub found-is : pieceOk h x ≡ true → {p : Place} → span x ≡ p → make true p a ≡ found make h x a d
   found-is e q = rw (e, q)
+
+-- what ends at 0 is apart from every other
+at-nothing : (x y : Place) → y .at + y .len ≡ 0 → apart x y ≡ true
+at-nothing x y e = rw e (or-last (leb (x .at + x .len) (y .at)))
+  where
+    or-last : (b : Bool) → (b || leb 0 (x .at)) ≡ true
+    or-last true = refl
+    or-last false = le-leb 0 (x .at) (omega arith)
+
+pub six-as-four : (a b c d e f : Place) {y : Bool} → (eqb (e .at + e .len) 0 && eqb (f .at + f .len) 0) ≡ true → y ≡ allApart (a ∷ b ∷ c ∷ d ∷ [])
+    → y ≡ allApart (a ∷ b ∷ c ∷ d ∷ e ∷ f ∷ [])
+six-as-four a b c d e f t g =
+    let i = and-true (eqb (e .at + e .len) 0) (eqb (f .at + f .len) 0) t in
+    let p = eqb-true (e .at + e .len) 0 (i .0) in
+    let q = eqb-true (f .at + f .len) 0 (i .1) in
+    g ∙ rw (at-nothing a e p, at-nothing a f q, at-nothing b e p, at-nothing b f q, at-nothing c e p, at-nothing c f q, at-nothing d e p, at-nothing d f q, at-nothing e f q)

@@ -16,7 +16,7 @@ ghost use mathlib.Core.Bool.{true};
 ghost use mathlib.Core.List.{[], _∷_};
 ghost use Prim.Native.Nat.{_+_, _≤_};
 ghost use lib.ListN.{length};
-ghost use Rattle.octets.specs.Characters.{bytesOf, zeroFrom};
+ghost use Rattle.octets.specs.Characters.{bytesOf};
 ghost use Rattle.format.specs.Tests.{bit, all, noPlace};
 ghost use Rattle.format.specs.Pieces.{absentZero, apart, allApart};
 ghost use Rattle.format.specs.Volume.{labelLeast, noVolume};
@@ -102,17 +102,6 @@ fn bytes_of(unicode: bool, n: usize) -> usize
     if unicode { 2 * n } else { n }
 }
 
-// How many characters stand before the first zero one.
-fn scan(unicode: bool, l: &[u8], o: usize) -> Zero
-    ensures { λ r. ⌜ r ≡ zeroFrom unicode (now (l .entry)) o ⌝ }
-{
-    if unicode {
-        octets::zero_unit(l, o)
-    } else {
-        octets::zero_byte(l, o)
-    }
-}
-
 // Zeros for a string that is absent or fails.
 fn no_text(ok: bool) -> Text
     ensures { λ r. ⌜ r ≡ makeText ok noPlace noPlace ⌝ }
@@ -135,7 +124,7 @@ fn text_at(present: bool, unicode: bool, l: &[u8], start: usize, head: usize, o:
     if o < head {
         return no_text(false);
     }
-    let Zero::After(n) = scan(unicode, l, o) else {
+    let Zero::After(n) = octets::zero_from(unicode, l, o) else {
         return no_text(false);
     };
     let len = bytes_of(unicode, n);
@@ -170,6 +159,10 @@ fn apart_six(a: Place, b: Place, c: Place, d: Place, e: Place, f: Place) -> bool
     requires { ⌜ Near a × Near b × Near c × Near d × Near e × Near f ⌝ }
     ensures { λ r. ⌜ r ≡ allApart (a ∷ b ∷ c ∷ d ∷ e ∷ f ∷ []) ⌝ }
 {
+    // The last two are absent with a short head: they end at 0, apart from every other.
+    if (e.at + e.len == 0) & (f.at + f.len == 0) {
+        return apart_four(a, b, c, d);
+    }
     apart(a, b)
         & apart(a, c)
         & apart(a, d)

@@ -1,13 +1,13 @@
 -- What the walk over items does at a place of the list.
 use mathlib.Core.Path.{_≡_, refl, sym, ap, _∙_}
 use mathlib.Core.List.{List, [], _∷_}
-use mathlib.Core.Bool.{Bool, false, cond, _&&_}
+use mathlib.Core.Bool.{Bool, true, false, cond, _&&_}
 use Prim.Native.Nat.{ℕ, zero, suc, _+_, _-_, _*_, _≤_, _<_}
 use native.Mathlib.Omega.{arith}
 use lib.ListN.{length, drop, length-drop}
 use lib.Seq.{drop-drop}
 use lib.Dec.{leb, eqb, eqb·suc-suc}
-use borrow.Author.Tests.{ne-eqb, le-leb}
+use borrow.Author.Tests.{eq-eqb, ne-eqb, eqb-true, eqb-false, le-leb}
 use Rattle.octets.specs.Numbers.{number, numberAt, u16At}
 use Rattle.octets.proofs.NumberLaws.{number-drop}
 use Rattle.format.specs.Items.{walk, itemList}
@@ -63,8 +63,21 @@ module _ (s : List ℕ) (p : ℕ) {r : Bool} (inv : itemsAt s p ≡ r) where
     pub items-small : n ≡ 1 → false ≡ r
     items-small z = rw z at here
 
-    pub items-more : (n ≡ 0 → ⊥) → (n ≡ 1 → ⊥) → itemsAt s (p + n) ≡ r
+    -- no item is smaller than its size; two zero bytes end the list where they are the last
+    pub items-stop : n < 2 → (m : ℕ) → m + 2 ≡ length s → (eqb n 0 && eqb p m) ≡ r
+    items-stop h m k = go n refl h
+      where
+        last : (b : Bool) → eqb p m ≡ b → eqb (length s - p) 2 ≡ b
+        last true t = eq-eqb (length s - p) 2 (omega (arith, eqb-true p m t))
+        last false t = ne-eqb (length s - p) 2 (λ x. eqb-false p m t (omega arith))
+
+        go : (j : ℕ) → n ≡ j → j < 2 → (eqb j 0 && eqb p m) ≡ r
+        go zero e h = sym (last (eqb p m) refl) ∙ items-end e
+        go (suc zero) e h = items-small e
+        go (suc (suc j)) e h = absurd (omega arith)
+
+    pub items-more : 2 ≤ n → itemsAt s (p + n) ≡ r
     unfolding itemsAt
-    items-more z o =
+    items-more o =
         let q : p + 2 + (n - 2) ≡ p + n = omega arith in
-        rw (ne-eqb n 0 z, le-leb 2 n (omega arith), drop-drop 2 p s, drop-drop (n - 2) (p + 2) s, q) at here
+        rw (ne-eqb n 0 (λ z. omega arith), le-leb 2 n o, drop-drop 2 p s, drop-drop (n - 2) (p + 2) s, q) at here

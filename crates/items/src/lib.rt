@@ -6,16 +6,16 @@ ghost use Rattle.format.specs.Items.{itemList};
 pub fn item_list(l: &[u8]) -> bool
     ensures { λ r. ⌜ r ≡ itemList (now (l .entry)) ⌝ }
 {
-    let n = l.len();
+    if l.len() < 2 {
+        return false;
+    }
+    // The last place where a size can stand. An item that passes it ends the loop too, without the two zero bytes.
+    let last = l.len() - 2;
     let mut p: usize = 0;
-    // An item that passes the end ends the loop too, without the two zero bytes.
-    while p + 2 <= n {
+    while p <= last {
         let size = octets::u16_at(l, p) as usize;
-        if size == 0 {
-            return n - p == 2;
-        }
-        if size == 1 {
-            return false;
+        if size < 2 {
+            return (size == 0) & (p == last);
         }
         p += size;
     }

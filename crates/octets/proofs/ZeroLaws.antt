@@ -1,17 +1,19 @@
 -- The scan for a zero character, over the kind: its state in the loop, its steps, and what an answer says.
 use mathlib.Core.Path.{_≡_, refl, sym, ap, _∙_}
 use mathlib.Core.List.{List, [], _∷_}
-use mathlib.Core.Bool.{Bool, true, false, cond}
+use mathlib.Core.Bool.{Bool, true, false, not, cond, _&&_}
 use Prim.Native.Nat.{ℕ, zero, suc, _+_, _≤_, _<_}
 use native.Mathlib.Omega.{arith}
 use lib.ListN.{length, take, drop, length-drop}
 use lib.Seq.{drop-drop}
-use lib.Dec.{leb·suc-suc}
-use borrow.Author.Tests.{lt-ltb}
+use lib.Dec.{eqb, leb·suc-suc}
+use borrow.Author.Tests.{lt-ltb, eqb-false, not-true}
 use Rattle.octets.specs.Numbers.{number, numberAt}
 use Rattle.octets.specs.Characters.{bytesOf, units, characters, beforeZero, hasZero, zeroFrom}
+use Rattle.octets.specs.Scans.{scanOn, scanAt, other, others, OthersIn, Passed}
 use Rattle.octets.specs.declared.Zero.{Zero}
 use Rattle.octets.specs.declared.Zero.the-variants.{After, Nowhere}
+use Rattle.octets.proofs.CharacterLaws.{bytes-of-add}
 use Rattle.octets.proofs.ChoiceLaws.{cond-first, cond-second}
 
 -- ---- the next character
@@ -38,9 +40,6 @@ no-character true (a ∷ b ∷ l) h = absurd (omega arith)
 
 -- ---- a scan that has passed n characters
 
-abbrev pub scanOn : ℕ → List ℕ → Zero
-scanOn n l = cond (hasZero l) (After (n + beforeZero l)) Nowhere
-
 on-zero : (n : ℕ) (l : List ℕ) → scanOn n (0 ∷ l) ≡ After n
 unfolding beforeZero
 on-zero n l = rw (lt-ltb 0 (suc (length l)) (omega arith)) (ap After (omega arith))
@@ -51,10 +50,6 @@ on-other n zero l h = absurd (h refl)
 on-other n (suc a) l h =
     let e : n + suc (beforeZero l) ≡ n + 1 + beforeZero l = omega arith in
     rw (leb·suc-suc (suc (beforeZero l)) (length l), e)
-
--- the scan of s from the place i on; kept closed, so that a citation need not name s, i and n
-unfoldable pub scanAt : Bool → List ℕ → ℕ → ℕ → Zero
-scanAt u s i n = scanOn n (characters u (drop i s))
 
 pub scan-start : (u : Bool) (s : List ℕ) (i : ℕ) → scanAt u s i 0 ≡ zeroFrom u s i
 unfolding scanAt zeroFrom
@@ -80,6 +75,69 @@ module _ (u : Bool) (s : List ℕ) (i n : ℕ) {r : Zero} (inv : scanAt u s i n 
     pub scan-other : (x ≡ 0 → ⊥) → scanAt u s (i + bytesOf u 1) (n + 1) ≡ r
     unfolding scanAt
     scan-other z = sym (on-other n x (characters u (drop (i + bytesOf u 1) s)) z) ∙ next
+
+-- ---- many characters at once
+
+split : (a b : Bool) → (a && b) ≡ true → (a ≡ true) × (b ≡ true)
+split true b e = (refl, e)
+split false b e = (cc, cc)
+
+regroup : (a b c : Bool) → (a && b && c) ≡ (a && (b && c))
+regroup true b c = refl
+regroup false b c = refl
+
+both : (a : Bool) → (a && true) ≡ a
+both true = refl
+both false = refl
+
+no-bytes : (u : Bool) (i : ℕ) → i + bytesOf u 0 ≡ i
+no-bytes true i = omega arith
+no-bytes false i = omega arith
+
+pub four-others : (u : Bool) (s : List ℕ) (i : ℕ) {a b c d : ℕ} → a ≡ numberAt (bytesOf u 1) s i → b ≡ numberAt (bytesOf u 1) s (i + bytesOf u 1)
+    → c ≡ numberAt (bytesOf u 1) s (i + bytesOf u 2) → d ≡ numberAt (bytesOf u 1) s (i + bytesOf u 3)
+    → (not (eqb a 0) && not (eqb b 0) && not (eqb c 0) && not (eqb d 0)) ≡ others u s i 4
+unfolding others
+four-others u s i e g h k = rw (no-bytes u i, e, g, h, k)
+
+pub others-more : (u : Bool) (s : List ℕ) (i j k : ℕ) {a b : Bool} → a ≡ others u s i j → b ≡ others u s (i + bytesOf u j) k → (a && b) ≡ others u s i (j + k)
+unfolding others
+others-more u s i j k e g = rw (e, g) (go k)
+  where
+    go : (k : ℕ) → (others u s i j && others u s (i + bytesOf u j) k) ≡ others u s i (j + k)
+    go zero = let z : j + 0 ≡ j = omega arith in rw z (both (others u s i j))
+    go (suc k) =
+        let z : j + suc k ≡ suc (j + k) = omega arith in
+        let e : i + bytesOf u j + bytesOf u k ≡ i + bytesOf u (j + k) = omega (arith, bytes-of-add u j k) in
+        rw z (sym (regroup (others u s i j) (others u s (i + bytesOf u j) k) (other u s (i + bytesOf u j + bytesOf u k))) ∙ rw (go k, e))
+
+scan-others : (u : Bool) (s : List ℕ) (i n k : ℕ) {r : Zero} → others u s i k ≡ true → i + bytesOf u k ≤ length s → scanAt u s i n ≡ r → scanAt u s (i + bytesOf u k) (n + k) ≡ r
+unfolding others
+scan-others u s i n zero o h e = let z : n + 0 ≡ n = omega arith in rw (no-bytes u i, z) e
+scan-others u s i n (suc k) o h e =
+    let p = split (others u s i k) (other u s (i + bytesOf u k)) o in
+    let m = bytes-of-add u k 1 in
+    let z : suc k ≡ k + 1 = omega arith in
+    let f : i + bytesOf u k + bytesOf u 1 ≤ length s = let g = rw z at h in omega (arith, g, m) in
+    let q = scan-others u s i n k (p .0) (omega arith) e in
+    let w = scan-other u s (i + bytesOf u k) (n + k) q f refl (eqb-false (numberAt (bytesOf u 1) s (i + bytesOf u k)) 0 (not-true (eqb (numberAt (bytesOf u 1) s (i + bytesOf u k)) 0) (p .1))) in
+    let x : i + bytesOf u (suc k) ≡ i + bytesOf u k + bytesOf u 1 = rw z (omega (arith, m)) in
+    let y : n + suc k ≡ n + k + 1 = omega arith in
+    rw (x, y) w
+
+pub passed-none : (u : Bool) (s : List ℕ) (i : ℕ) → Passed u s i i
+passed-none u s i = record { count = 0; place = sym (no-bytes u i); rest = scan-start u s i }
+
+pub passed-more : (u : Bool) (s : List ℕ) (i r k : ℕ) → Passed u s i r → OthersIn u s r k → Passed u s i (r + bytesOf u k)
+passed-more u s i r k p o =
+    record {
+      count = p .count + k;
+      place = omega (arith, p .place, bytes-of-add u (p .count) k);
+      rest = scan-others u s r (p .count) k (o .are) (o .inside) (p .rest);
+    }
+
+pub others-in : (u : Bool) (s : List ℕ) (i k : ℕ) {b : Bool} → i + bytesOf u k ≤ length s → b ≡ others u s i k → b ≡ true → OthersIn u s i k
+others-in u s i k h e o = record { inside = h; are = sym e ∙ o }
 
 -- ---- from an answer to the facts
 

@@ -1,4 +1,5 @@
 pub mod Numbers
 pub mod Characters
+pub mod Scans
 pub mod Cursors
 pub mod Parts

@@ -1,10 +1,14 @@
 // Bytes: numbers at a place, the cursor, scans for a zero, parts, and writing into a lent buffer.
+mod zeros;
+
+use crate::zeros::skip_bytes;
+use crate::zeros::skip_units;
 ghost use mathlib.Core.Path.{_≡_};
 ghost use mathlib.Core.Bool.{true, false};
 ghost use Prim.Native.Nat.{_+_, _≤_, _<_};
 ghost use lib.ListN.{length};
 ghost use Rattle.octets.specs.Numbers.{u16At, u32At, u64At, little};
-ghost use Rattle.octets.specs.Characters.{zeroFrom};
+ghost use Rattle.octets.specs.Characters.{characters, hasZero, zeroFrom};
 ghost use Rattle.octets.specs.Cursors.{taken, skipped};
 ghost use Rattle.octets.specs.Parts.{part, put};
 
@@ -112,10 +116,10 @@ impl Cursor {
 }
 
 // How many bytes stand before the first zero one.
-pub fn zero_byte(s: &[u8], from: usize) -> Zero
+fn zero_byte(s: &[u8], from: usize) -> Zero
     ensures { λ r. ⌜ r ≡ zeroFrom false (now (s .entry)) from ⌝ }
 {
-    let mut i = from;
+    let mut i = skip_bytes(s, from);
     while i < s.len() {
         if s[i] == 0 {
             return Zero::After(i - from);
@@ -126,7 +130,7 @@ pub fn zero_byte(s: &[u8], from: usize) -> Zero
 }
 
 // The same of 16-bit units, counted from the place itself, at any alignment.
-pub fn zero_unit(s: &[u8], from: usize) -> Zero
+fn zero_unit(s: &[u8], from: usize) -> Zero
     ensures { λ r. ⌜ r ≡ zeroFrom true (now (s .entry)) from ⌝ }
 {
     if s.len() < 2 {
@@ -134,8 +138,8 @@ pub fn zero_unit(s: &[u8], from: usize) -> Zero
     }
     // The last place where a unit can start: up to it i + 2 cannot wrap.
     let last = s.len() - 2;
-    let mut i = from;
-    let mut n: usize = 0;
+    let mut i = skip_units(s, from);
+    let mut n = (i - from) / 2;
     while i <= last {
         if u16_at(s, i) == 0 {
             return Zero::After(n);
@@ -144,6 +148,26 @@ pub fn zero_unit(s: &[u8], from: usize) -> Zero
         n += 1;
     }
     Zero::Nowhere
+}
+
+// The same of either kind of character.
+pub fn zero_from(unicode: bool, s: &[u8], from: usize) -> Zero
+    ensures { λ r. ⌜ r ≡ zeroFrom unicode (now (s .entry)) from ⌝ }
+{
+    if unicode {
+        zero_unit(s, from)
+    } else {
+        zero_byte(s, from)
+    }
+}
+
+pub fn has_zero(unicode: bool, s: &[u8]) -> bool
+    ensures { λ r. ⌜ r ≡ hasZero (characters unicode (now (s .entry))) ⌝ }
+{
+    match zero_from(unicode, s, 0) {
+        Zero::After(_) => true,
+        Zero::Nowhere => false,
+    }
 }
 
 // The empty part where the bytes do not stand there, so that no caller has to test first.

@@ -75,7 +75,7 @@ module _ (x : List ℕ) where
 
       pub on-more-items : 2 ≤ n → onItems x (p + n) ≡ r
       unfolding onItems
-      on-more-items h = let w = whole in items-more (x ++ 0 ∷ 0 ∷ []) p inv (omega arith) size (λ z. omega arith) (λ z. omega arith)
+      on-more-items h = let w = whole in items-more (x ++ 0 ∷ 0 ∷ []) p inv (omega arith) size h
 
     -- one byte left over is no item
     pub on-last-item : length x < p + 2 → eqb p (length x) ≡ r
@@ -91,7 +91,7 @@ module _ (x : List ℕ) where
         let no : p ≡ length x → ⊥ = λ q. omega (arith, number-end x (0 ∷ 0 ∷ []) 2 p q, zero-item) in
         ne-eqb p (length x) no
         ∙ by-order 2 (u16At s p)
-        (λ k. items-cut s (p + u16At s p) (items-more s p inv (omega arith) refl (λ y. omega arith) (λ y. omega arith)) (omega arith))
+        (λ k. items-cut s (p + u16At s p) (items-more s p inv (omega arith) refl k) (omega arith))
         (λ k. items-small s p inv (omega arith) refl (omega arith))))
         (λ g. ne-eqb p (length x) (λ q. omega arith) ∙ items-cut s p inv (omega arith))
 

@@ -6,7 +6,6 @@ use format::Network;
 use format::Place;
 use format::Record;
 use format::Volume;
-use octets::Zero;
 ghost use mathlib.Core.Path.{_≡_};
 ghost use mathlib.Core.Bool.{true, not, _||_, cond};
 ghost use Prim.Native.Nat.{_+_, _/_, _%_, _<_};
@@ -18,8 +17,6 @@ ghost use Rattle.format.specs.Network.{networkHead, noNetwork};
 ghost use Rattle.format.specs.Info.{noInfo};
 ghost use Rattle.format.specs.Contents.{presentNetwork, presentInfo, present, bodies, allInside, bytesAt, volumeContents, networkContents, infoContents, bodiesOf};
 ghost use Rattle.format.specs.Writing.{writableIf, writableHeader, writableItems, writableText, writableVolume, writableNetwork, writableInfo, writableString, writableBlocks, writable};
-ghost use Rattle.octets.specs.Characters.{characters, hasZero};
-ghost use Rattle.blocks.specs.Walk.{isFound};
 ghost use Rattle.writable.specs.Bodies.{networkBodies, infoBodies};
 ghost use Rattle.writable.specs.Sections.{sectionsWritable};
 ghost use Rattle.canonical.specs.Sizes.{volumeSize, networkSize, infoSize, canonicalSize};
@@ -246,30 +243,11 @@ fn whole(unicode: bool, n: usize) -> bool
     !unicode | (n % 2 == 0)
 }
 
-fn found(z: Zero) -> bool
-    ensures { λ r. ⌜ r ≡ isFound z ⌝ }
-{
-    match z {
-        Zero::After(_) => true,
-        Zero::Nowhere => false,
-    }
-}
-
-fn has_zero(unicode: bool, x: &[u8]) -> bool
-    ensures { λ r. ⌜ r ≡ hasZero (characters unicode (now (x .entry))) ⌝ }
-{
-    if unicode {
-        found(octets::zero_unit(x, 0))
-    } else {
-        found(octets::zero_byte(x, 0))
-    }
-}
-
 // Whole characters, none of them zero.
 fn text_ok(unicode: bool, x: &[u8]) -> bool
     ensures { λ r. ⌜ r ≡ writableText unicode (now (x .entry)) ⌝ }
 {
-    whole(unicode, x.len()) & !has_zero(unicode, x)
+    whole(unicode, x.len()) & !octets::has_zero(unicode, x)
 }
 
 // Whole characters, as many as a count of two bytes can hold.
@@ -288,8 +266,13 @@ fn items_ok(x: &[u8]) -> bool
     if 65533 < n {
         return false;
     }
+    if n < 2 {
+        return 0 == n;
+    }
+    // The last place where a size can stand.
+    let last = n - 2;
     let mut p: usize = 0;
-    while p + 2 <= n {
+    while p <= last {
         let size = octets::u16_at(x, p) as usize;
         if size < 2 {
             return false;
@@ -314,8 +297,10 @@ fn blocks_ok(x: &[u8]) -> bool
             return false;
         }
         let e = p + size;
-        if !blocks::block_ok(&x[p..e]) {
-            return false;
+        if !blocks::plain_ok(octets::u32_at(x, p + 4), size) {
+            if !blocks::block_ok(&x[p..e]) {
+                return false;
+            }
         }
         p = e;
     }

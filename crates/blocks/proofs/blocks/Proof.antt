@@ -1,10 +1,11 @@
-use Rattle.blocks.proofs.Laws.{walkAt, walk-start, walk-cut, walk-end, walk-small, walk-past, walk-wrong, walk-more}
-use Rattle.blocks.specs.Walk.{blocksAt}
-use lib.ListN.{length, length-take, length-drop}
-use mathlib.Core.Path.{_≡_}
-use Prim.Native.Nat.{_≤_, _-_}
-use borrow.Author.Needs.{needs}
 use native.Mathlib.Omega.{arith}
+use borrow.Author.Tests.{not-false}
+use borrow.Author.Needs.{needs}
+use Prim.Native.Nat.{_≤_, _-_}
+use mathlib.Core.Path.{_≡_, refl}
+use lib.ListN.{length, length-take, length-drop}
+use Rattle.blocks.specs.Walk.{blocksAt}
+use Rattle.blocks.proofs.Laws.{walkAt, walk-start, walk-cut, walk-end, walk-small, walk-past, walk-wrong, walk-more, plain-part}
 use Rattle.blocks.proofs.blocks.Statement.{statement}
 use Rattle.blocks.proofs.blocks.Tie as tie
 
@@ -57,6 +58,15 @@ returns-4 c =
 add-e : tie.Need-add-e Inv-loop μ-loop
 add-e c = omega arith
 
+add-u32-at : tie.Need-add-u32-at Inv-loop μ-loop
+add-u32-at c = omega arith
+
+u32-at-requires-2 : tie.Need-u32-at-requires-2 Inv-loop μ-loop
+u32-at-requires-2 c κs = omega arith
+
+plain-ok-requires : tie.Need-plain-ok-requires Inv-loop μ-loop
+plain-ok-requires c κs = search needs
+
 sub-block-ok : tie.Need-sub-block-ok Inv-loop μ-loop
 sub-block-ok c = omega arith
 
@@ -71,16 +81,26 @@ block-ok-requires c κs = simp (length-take, length-drop) (omega arith)
 
 returns-5 : tie.Need-returns-5 Inv-loop μ-loop
 returns-5 c =
-    let u = c .before .before .before .before .before .before in
-    walk-wrong _ _ _ (u .before .before .loop .inv .2) (omega arith) (u .u32-at .ensures) (omega arith) (omega arith) (c .before .block-ok .ensures) (c .if5 .taken)
+    let u = c .before .before .before .before .before .before .before .before .before in
+    walk-wrong _ _ _ (u .before .before .loop .inv .2) (omega arith) (u .u32-at .ensures) (omega arith) (omega arith) (c .before .block-ok .ensures) (c .if6 .taken)
 
 loop-less : tie.Need-loop-less Inv-loop μ-loop
 loop-less c = omega arith
 
 loop-again : tie.Need-loop-again Inv-loop μ-loop
 loop-again c =
+    let u = c .before .before .before .before .before .before .before .before .before in
+    let i = walk-more _ _ _ (u .before .before .loop .inv .2) (omega arith) (u .u32-at .ensures) (omega arith) (omega arith) (c .before .block-ok .ensures) (c .if6 .left) (omega arith) in
+    (omega arith, omega arith, i)
+
+loop-less-2 : tie.Need-loop-less-2 Inv-loop μ-loop
+loop-less-2 c = omega arith
+
+loop-again-2 : tie.Need-loop-again-2 Inv-loop μ-loop
+loop-again-2 c =
     let u = c .before .before .before .before .before .before in
-    let i = walk-more _ _ _ (u .before .before .loop .inv .2) (omega arith) (u .u32-at .ensures) (omega arith) (omega arith) (c .before .block-ok .ensures) (c .if5 .left) (omega arith) in
+    let k = plain-part _ _ (omega arith) (omega arith) (c .before .before .u32-at2 .ensures) (c .before .plain-ok .ensures) (not-false _ (c .if5 .left)) in
+    let i = walk-more _ _ _ (u .before .before .loop .inv .2) (omega arith) (u .u32-at .ensures) (omega arith) (omega arith) k refl (omega arith) in
     (omega arith, omega arith, i)
 
 returns-6 : tie.Need-returns-6 Inv-loop μ-loop
@@ -104,6 +124,9 @@ blocks-spec =
     sub-if4
     returns-4
     add-e
+    add-u32-at
+    u32-at-requires-2
+    plain-ok-requires
     sub-block-ok
     part-block-ok-start
     part-block-ok-end
@@ -111,4 +134,6 @@ blocks-spec =
     returns-5
     loop-less
     loop-again
+    loop-less-2
+    loop-again-2
     returns-6)

@@ -1,7 +1,21 @@
-use Rattle.info.proofs.TestLaws.{six-apart}
+use Rattle.info.proofs.TestLaws.{six-as-four, six-apart}
 use borrow.Author.Needs.{needs}
 use Rattle.info.proofs.apart_six.Statement.{statement}
 use Rattle.info.proofs.apart_six.Tie as tie
+
+add-if1 : tie.Need-add-if1
+add-if1 c = search needs
+
+add-if1-2 : tie.Need-add-if1-2
+add-if1-2 c = search needs
+
+apart-four-requires : tie.Need-apart-four-requires
+apart-four-requires c κs = search needs
+
+returns : tie.Need-returns
+returns c =
+    let z = c .before .before .before .before .args in
+    six-as-four (z .a) (z .b) (z .c) (z .d) (z .e) (z .f) (c .before .if1 .taken) (c .apart-four .ensures)
 
 apart-requires : tie.Need-apart-requires
 apart-requires c κs = search needs
@@ -30,19 +44,23 @@ apart-requires-8 c κs = search needs
 apart-requires-9 : tie.Need-apart-requires-9
 apart-requires-9 c κs = search needs
 
-apart-four-requires : tie.Need-apart-four-requires
-apart-four-requires c κs = search needs
+apart-four-requires-2 : tie.Need-apart-four-requires-2
+apart-four-requires-2 c κs = search needs
 
-returns : tie.Need-returns
-returns c =
-    let z = c .before .before .before .before .before .before .before .before .before .before .args in
+returns-2 : tie.Need-returns-2
+returns-2 c =
+    let z = c .before .before .before .before .before .before .before .before .before .before .before .before .before .args in
     six-apart (z .a) (z .b) (z .c) (z .d) (z .e) (z .f) (c .before .before .before .before .before .before .before .before .before .apart .ensures) (c .before .before .before .before .before .before .before .before .apart2 .ensures) (c .before .before .before .before .before .before .before .apart3 .ensures) (c .before .before .before .before .before .before .apart4 .ensures) (c .before .before .before .before .before .apart5 .ensures)
-    (c .before .before .before .before .apart6 .ensures) (c .before .before .before .apart7 .ensures) (c .before .before .apart8 .ensures) (c .before .apart9 .ensures) (c .apart-four .ensures)
+    (c .before .before .before .before .apart6 .ensures) (c .before .before .before .apart7 .ensures) (c .before .before .apart8 .ensures) (c .before .apart9 .ensures) (c .apart-four2 .ensures)
 
 pub apart-six-spec : {M : Type 1} → statement M
 apart-six-spec =
     tie.close
     (tie.spec
+    add-if1
+    add-if1-2
+    apart-four-requires
+    returns
     apart-requires
     apart-requires-2
     apart-requires-3
@@ -52,5 +70,5 @@ apart-six-spec =
     apart-requires-7
     apart-requires-8
     apart-requires-9
-    apart-four-requires
-    returns)
+    apart-four-requires-2
+    returns-2)

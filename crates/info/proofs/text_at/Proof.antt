@@ -16,8 +16,8 @@ no-text-requires-2 c κs = search needs
 returns-2 : tie.Need-returns-2
 returns-2 c = text-low _ _ _ _ _ _ (c .before .before .if1 .left) (omega arith) (c .no-text2 .ensures)
 
-scan-requires : tie.Need-scan-requires
-scan-requires c κs = search needs
+zero-from-requires : tie.Need-zero-from-requires
+zero-from-requires c κs = search needs
 
 enum-known-n : tie.Need-enum-known-n
 enum-known-n c = search needs
@@ -30,25 +30,25 @@ no-text-requires-3 c κs = search needs
 
 returns-3 : tie.Need-returns-3
 returns-3 c =
-    text-open _ _ _ _ _ _ (c .before .before .before .before .before .if1 .left) (omega arith) (c .before .before .before .scan .ensures) (c .before .enum-told .given .1) (c .no-text3 .ensures)
+    text-open _ _ _ _ _ _ (c .before .before .before .before .before .if1 .left) (omega arith) (c .before .before .before .zero-from .ensures) (c .before .enum-told .given .1) (c .no-text3 .ensures)
 
 bytes-of-requires : tie.Need-bytes-of-requires
-bytes-of-requires c κs = omega (arith, text-inside _ _ _ (c .before .before .before .scan .ensures) (c .before .n .given .1))
+bytes-of-requires c κs = omega (arith, text-inside _ _ _ (c .before .before .before .zero-from .ensures) (c .before .n .given .1))
 
 bytes-of-requires-2 : tie.Need-bytes-of-requires-2
 bytes-of-requires-2 c κs = search needs
 
 add-t12 : tie.Need-add-t12
 add-t12 c =
-    omega (arith, text-inside _ _ _ (c .before .before .before .before .before .scan .ensures) (c .before .before .before .n .given .1))
+    omega (arith, text-inside _ _ _ (c .before .before .before .before .before .zero-from .ensures) (c .before .before .before .n .given .1))
 
 add-t14 : tie.Need-add-t14
 add-t14 c =
-    omega (arith, text-inside _ _ _ (c .before .before .before .before .before .scan .ensures) (c .before .before .before .n .given .1))
+    omega (arith, text-inside _ _ _ (c .before .before .before .before .before .zero-from .ensures) (c .before .before .before .n .given .1))
 
 returns-4 : tie.Need-returns-4
 returns-4 c =
-    text-ends _ _ _ _ _ _ (c .before .before .before .before .before .before .before .if1 .left) (omega arith) (c .before .before .before .before .before .scan .ensures) (omega arith) (c .before .before .before .n .given .1) (c .before .bytes-of .ensures) (c .bytes-of2 .ensures)
+    text-ends _ _ _ _ _ _ (c .before .before .before .before .before .before .before .if1 .left) (omega arith) (c .before .before .before .before .before .zero-from .ensures) (omega arith) (c .before .before .before .n .given .1) (c .before .bytes-of .ensures) (c .bytes-of2 .ensures)
 
 pub text-at-spec : {M : Type 1} → statement M
 text-at-spec =
@@ -58,7 +58,7 @@ text-at-spec =
     returns
     no-text-requires-2
     returns-2
-    scan-requires
+    zero-from-requires
     enum-known-n
     enum-told
     no-text-requires-3

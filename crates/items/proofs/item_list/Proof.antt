@@ -1,25 +1,28 @@
-use Rattle.items.proofs.Laws.{itemsAt, items-start, items-cut, items-end, items-small, items-more}
-use Rattle.format.specs.Items.{itemList}
-use lib.ListN.{length}
-use mathlib.Core.Path.{_≡_}
-use Prim.Native.Nat.{_≤_, _+_, _-_}
-use borrow.Author.Needs.{needs}
 use native.Mathlib.Omega.{arith}
+use borrow.Author.Needs.{needs}
+use Prim.Native.Nat.{_≤_, _+_, _-_}
+use mathlib.Core.Path.{_≡_}
+use lib.ListN.{length}
+use Rattle.format.specs.Items.{itemList}
+use Rattle.items.proofs.Laws.{itemsAt, items-start, items-cut, items-stop, items-more}
 use Rattle.items.proofs.item_list.Statement.{statement}
 use Rattle.items.proofs.item_list.Tie as tie
 
 -- p passes the end by one item at most
 abbrev Inv-loop : tie.InvT-loop
-Inv-loop l n p₀ p = (p ≤ length l + 65535) × (itemsAt l p ≡ itemList l)
+Inv-loop l last p₀ p = (p ≤ length l + 65535) × (itemsAt l p ≡ itemList l)
 
 abbrev μ-loop : tie.MeasureT-loop
-μ-loop l n p₀ p = length l + 65536 - p
+μ-loop l last p₀ p = length l + 65536 - p
+
+returns : tie.Need-returns Inv-loop μ-loop
+returns c = items-cut _ 0 (items-start _) (omega arith)
+
+sub-last : tie.Need-sub-last Inv-loop μ-loop
+sub-last c = omega arith
 
 loop-holds : tie.Need-loop-holds Inv-loop μ-loop
 loop-holds c = (omega arith, items-start _)
-
-add-loop : tie.Need-add-loop Inv-loop μ-loop
-add-loop c = omega arith
 
 u16-at-requires : tie.Need-u16-at-requires Inv-loop μ-loop
 u16-at-requires c κs = omega arith
@@ -27,15 +30,9 @@ u16-at-requires c κs = omega arith
 cast-size : tie.Need-cast-size Inv-loop μ-loop
 cast-size c = search needs
 
-sub-result : tie.Need-sub-result Inv-loop μ-loop
-sub-result c = omega arith
-
-returns : tie.Need-returns Inv-loop μ-loop
-returns c = items-end _ _ (c .before .before .before .loop .inv .1) (omega arith) (c .before .u16-at .ensures) (c .if1 .taken)
-
 returns-2 : tie.Need-returns-2 Inv-loop μ-loop
 returns-2 c =
-    items-small _ _ (c .before .before .before .before .loop .inv .1) (omega arith) (c .before .before .u16-at .ensures) (c .if2 .taken)
+    items-stop _ _ (c .before .before .before .loop .inv .1) (omega arith) (c .before .u16-at .ensures) (c .if2 .taken) _ (omega arith)
 
 add-p : tie.Need-add-p Inv-loop μ-loop
 add-p c = omega arith
@@ -45,7 +42,7 @@ loop-less c = omega arith
 
 loop-again : tie.Need-loop-again Inv-loop μ-loop
 loop-again c =
-    (omega arith, items-more _ _ (c .before .before .before .before .loop .inv .1) (omega arith) (c .before .before .u16-at .ensures) (c .before .if1 .left) (c .if2 .left))
+    (omega arith, items-more _ _ (c .before .before .before .loop .inv .1) (omega arith) (c .before .u16-at .ensures) (c .if2 .left))
 
 returns-3 : tie.Need-returns-3 Inv-loop μ-loop
 returns-3 c = items-cut _ _ (c .before .loop .inv .1) (omega arith)
@@ -56,12 +53,11 @@ item-list-spec =
     (tie.spec
     Inv-loop
     μ-loop
+    returns
+    sub-last
     loop-holds
-    add-loop
     u16-at-requires
     cast-size
-    sub-result
-    returns
     returns-2
     add-p
     loop-less

@@ -1,11 +1,13 @@
-use native.Mathlib.Omega.{arith}
-use Prim.Native.Nat.{_≤_, _+_, _-_}
-use mathlib.Core.Path.{_≡_}
-use mathlib.Core.Bool.{false}
-use lib.ListN.{length}
-use Rattle.octets.specs.Characters.{zeroFrom}
-use Rattle.octets.proofs.ZeroLaws.{scanAt, scan-start, scan-end, scan-zero, scan-other}
 use Rattle.octets.proofs.ReadLaws.{number-byte}
+use Rattle.octets.proofs.ZeroLaws.{scan-end, scan-zero, scan-other}
+use Rattle.octets.specs.Scans.{scanAt}
+use Rattle.octets.specs.Characters.{zeroFrom}
+use borrow.Author.Needs.{needs}
+use lib.ListN.{length}
+use mathlib.Core.Bool.{false}
+use mathlib.Core.Path.{_≡_}
+use Prim.Native.Nat.{_≤_, _+_, _-_}
+use native.Mathlib.Omega.{arith}
 use Rattle.octets.proofs.zero_byte.Statement.{statement}
 use Rattle.octets.proofs.zero_byte.Tie as tie
 
@@ -16,10 +18,14 @@ Inv-loop s from i₀ i = (from ≤ i) × (scanAt false s i (i - from) ≡ zeroFr
 abbrev μ-loop : tie.MeasureT-loop
 μ-loop s from i₀ i = length s - i
 
+skip-bytes-requires : tie.Need-skip-bytes-requires Inv-loop μ-loop
+skip-bytes-requires c κs = search needs
+
 loop-holds : tie.Need-loop-holds Inv-loop μ-loop
 loop-holds c =
-    let e : c .args .from - c .args .from ≡ 0 = omega arith in
-    (omega arith, rw e (scan-start _ _ _))
+    let p = c .skip-bytes .ensures in
+    let e : c .skip-bytes .result - c .before .before .args .from ≡ p .count = omega (arith, p .place) in
+    (omega (arith, p .place), rw e (p .rest))
 
 shared-slice-read-if1 : tie.Need-shared-slice-read-if1 Inv-loop μ-loop
 shared-slice-read-if1 c = omega arith
@@ -39,7 +45,7 @@ loop-less c = omega arith
 loop-again : tie.Need-loop-again Inv-loop μ-loop
 loop-again c =
     let i = c .before .before .before .loop .i in
-    let f = c .before .before .before .before .args .from in
+    let f = c .before .before .before .before .before .before .args .from in
     let e : i + 1 - f ≡ i - f + 1 = omega arith in
     (omega arith, rw e (scan-other _ _ _ _ (c .before .before .before .loop .inv .1) (omega arith) (number-byte _ _) (c .if1 .left)))
 
@@ -52,6 +58,7 @@ zero-byte-spec =
     (tie.spec
     Inv-loop
     μ-loop
+    skip-bytes-requires
     loop-holds
     shared-slice-read-if1
     sub-t8

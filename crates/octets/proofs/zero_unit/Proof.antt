@@ -1,10 +1,12 @@
-use native.Mathlib.Omega.{arith}
-use Prim.Native.Nat.{_≤_, _-_}
-use mathlib.Core.Path.{_≡_}
-use mathlib.Core.Bool.{true}
-use lib.ListN.{length}
+use Rattle.octets.proofs.ZeroLaws.{scan-start, scan-end, scan-zero, scan-other}
+use Rattle.octets.specs.Scans.{scanAt}
 use Rattle.octets.specs.Characters.{zeroFrom}
-use Rattle.octets.proofs.ZeroLaws.{scanAt, scan-start, scan-end, scan-zero, scan-other}
+use borrow.Author.Needs.{needs}
+use lib.ListN.{length}
+use mathlib.Core.Bool.{true}
+use mathlib.Core.Path.{_≡_}
+use Prim.Native.Nat.{_≤_, _-_, _/_}
+use native.Mathlib.Omega.{arith}
 use Rattle.octets.proofs.zero_unit.Statement.{statement}
 use Rattle.octets.proofs.zero_unit.Tie as tie
 
@@ -21,8 +23,17 @@ returns c = scan-end _ _ _ _ (scan-start _ _ _) (omega arith)
 sub-last : tie.Need-sub-last Inv-loop μ-loop
 sub-last c = omega arith
 
+skip-units-requires : tie.Need-skip-units-requires Inv-loop μ-loop
+skip-units-requires c κs = search needs
+
+sub-n : tie.Need-sub-n Inv-loop μ-loop
+sub-n c = omega (arith, c .skip-units .ensures .place)
+
 loop-holds : tie.Need-loop-holds Inv-loop μ-loop
-loop-holds c = (omega arith, scan-start _ _ _)
+loop-holds c =
+    let p = c .skip-units .ensures in
+    let e : (c .skip-units .result - c .before .before .before .args .from) / 2 ≡ p .count = omega (arith, p .place) in
+    (omega arith, rw e (p .rest))
 
 u16-at-requires : tie.Need-u16-at-requires Inv-loop μ-loop
 u16-at-requires c κs = omega arith
@@ -54,6 +65,8 @@ zero-unit-spec =
     μ-loop
     returns
     sub-last
+    skip-units-requires
+    sub-n
     loop-holds
     u16-at-requires
     returns-2

@@ -1,6 +1,6 @@
 use borrow.Author.Needs.{needs}
-use Rattle.info.proofs.scan.Statement.{statement}
-use Rattle.info.proofs.scan.Tie as tie
+use Rattle.octets.proofs.zero_from.Statement.{statement}
+use Rattle.octets.proofs.zero_from.Tie as tie
 
 zero-unit-requires : tie.Need-zero-unit-requires
 zero-unit-requires c κs = search needs
@@ -14,5 +14,5 @@ returns c = rw (c .before .if1 .taken) (c .zero-unit .ensures)
 returns-2 : tie.Need-returns-2
 returns-2 c = rw (c .before .if1 .left) (c .zero-byte .ensures)
 
-pub scan-spec : {M : Type 1} → statement M
-scan-spec = tie.close (tie.spec zero-unit-requires zero-byte-requires returns returns-2)
+pub zero-from-spec : {M : Type 1} → statement M
+zero-from-spec = tie.close (tie.spec zero-unit-requires zero-byte-requires returns returns-2)
