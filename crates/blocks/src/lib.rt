@@ -85,14 +85,14 @@ pub fn blocks(s: &[u8], c: Cursor) -> Walked
     let mut p = start;
     while 4 <= n - p {
         let size = octets::u32_at(s, p) as usize;
-        if size < 4 {
-            let body = Place {
-                at: start,
-                len: p - start,
-            };
-            return Walked::Body(body, Cursor { at: p + 4 });
-        }
         if size < 8 {
+            if size < 4 {
+                let body = Place {
+                    at: start,
+                    len: p - start,
+                };
+                return Walked::Body(body, Cursor { at: p + 4 });
+            }
             return Walked::Refused(Fault::Block, p);
         }
         if n - p < size {

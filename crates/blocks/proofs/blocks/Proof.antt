@@ -31,15 +31,15 @@ u32-at-requires c κs = omega arith
 cast-size : tie.Need-cast-size Inv-loop μ-loop
 cast-size c = search needs
 
-sub-t14 : tie.Need-sub-t14 Inv-loop μ-loop
-sub-t14 c = omega arith
+sub-t15 : tie.Need-sub-t15 Inv-loop μ-loop
+sub-t15 c = omega arith
 
-add-t14 : tie.Need-add-t14 Inv-loop μ-loop
-add-t14 c = omega arith
+add-t15 : tie.Need-add-t15 Inv-loop μ-loop
+add-t15 c = omega arith
 
 returns-2 : tie.Need-returns-2 Inv-loop μ-loop
 returns-2 c =
-    let u = c .before in
+    let u = c .before .before in
     walk-end _ _ _ (u .before .before .loop .inv .2) (omega arith) (u .u32-at .ensures) (omega arith)
 
 returns-3 : tie.Need-returns-3 Inv-loop μ-loop
@@ -52,7 +52,7 @@ sub-if4 c = omega arith
 
 returns-4 : tie.Need-returns-4 Inv-loop μ-loop
 returns-4 c =
-    let u = c .before .before .before in
+    let u = c .before .before in
     walk-past _ _ _ (u .before .before .loop .inv .2) (omega arith) (u .u32-at .ensures) (omega arith) (omega arith)
 
 add-e : tie.Need-add-e Inv-loop μ-loop
@@ -81,7 +81,7 @@ block-ok-requires c κs = simp (length-take, length-drop) (omega arith)
 
 returns-5 : tie.Need-returns-5 Inv-loop μ-loop
 returns-5 c =
-    let u = c .before .before .before .before .before .before .before .before .before in
+    let u = c .before .before .before .before .before .before .before .before in
     walk-wrong _ _ _ (u .before .before .loop .inv .2) (omega arith) (u .u32-at .ensures) (omega arith) (omega arith) (c .before .block-ok .ensures) (c .if6 .taken)
 
 loop-less : tie.Need-loop-less Inv-loop μ-loop
@@ -89,7 +89,7 @@ loop-less c = omega arith
 
 loop-again : tie.Need-loop-again Inv-loop μ-loop
 loop-again c =
-    let u = c .before .before .before .before .before .before .before .before .before in
+    let u = c .before .before .before .before .before .before .before .before in
     let i = walk-more _ _ _ (u .before .before .loop .inv .2) (omega arith) (u .u32-at .ensures) (omega arith) (omega arith) (c .before .block-ok .ensures) (c .if6 .left) (omega arith) in
     (omega arith, omega arith, i)
 
@@ -98,7 +98,7 @@ loop-less-2 c = omega arith
 
 loop-again-2 : tie.Need-loop-again-2 Inv-loop μ-loop
 loop-again-2 c =
-    let u = c .before .before .before .before .before .before in
+    let u = c .before .before .before .before .before in
     let k = plain-part _ _ (omega arith) (omega arith) (c .before .before .u32-at2 .ensures) (c .before .plain-ok .ensures) (not-false _ (c .if5 .left)) in
     let i = walk-more _ _ _ (u .before .before .loop .inv .2) (omega arith) (u .u32-at .ensures) (omega arith) (omega arith) k refl (omega arith) in
     (omega arith, omega arith, i)
@@ -117,8 +117,8 @@ blocks-spec =
     sub-loop
     u32-at-requires
     cast-size
-    sub-t14
-    add-t14
+    sub-t15
+    add-t15
     returns-2
     returns-3
     sub-if4

@@ -1,0 +1,271 @@
+//! Shortcuts for timing: small ones as they are found in use, and long ones of one shape each.
+
+/// Texts of LinkInfo: where they are found, and what they are.
+struct Texts<'a> {
+    local_path: &'a [u8],
+    suffix: &'a [u8],
+    /// Unicode local path and Unicode suffix, with the long head.
+    unicode: Option<(&'a [u8], &'a [u8])>,
+}
+
+pub const SMALL: [&str; 3] = ["local", "network", "environment"];
+pub const LONG: [&str; 6] = ["string", "items", "blocks", "texts", "overlap", "unended"];
+
+/// A small shape by its name, or a long one by its name, a hyphen and its KiB.
+pub fn shape(name: &str) -> Option<Vec<u8>> {
+    match name {
+        "local" => Some(local()),
+        "network" => Some(network()),
+        "environment" => Some(environment()),
+        _ => {
+            let (kind, kibibytes) = name.rsplit_once('-')?;
+            long(kind, kibibytes.parse::<usize>().ok()? * 1024)
+        }
+    }
+}
+
+fn long(kind: &str, length: usize) -> Option<Vec<u8>> {
+    match kind {
+        "string" => Some(long_string(length)),
+        "items" => Some(many_items(length)),
+        "blocks" => Some(many_blocks(length)),
+        "texts" => Some(long_texts(length)),
+        "overlap" => Some(overlapping_texts(length)),
+        "unended" => Some(unended_text(length)),
+        _ => None,
+    }
+}
+
+fn header(flags: u32) -> Vec<u8> {
+    let mut bytes = vec![0x4C, 0, 0, 0, 1, 0x14, 2, 0, 0, 0, 0, 0, 0xC0, 0, 0, 0, 0, 0, 0, 0x46];
+    put(&mut bytes, flags);
+    put(&mut bytes, 0x20);
+    for _ in 0..3 {
+        bytes.extend(0x01C9_1515_F2EE_E9D0_u64.to_le_bytes());
+    }
+    for number in [34_464, 5, 1] {
+        put(&mut bytes, number);
+    }
+    bytes.extend([0x46, 0x06]);
+    bytes.extend([0; 10]);
+    bytes
+}
+
+fn put(bytes: &mut Vec<u8>, number: u32) {
+    bytes.extend(number.to_le_bytes());
+}
+
+fn put_size(bytes: &mut [u8], at: usize, size: usize) {
+    bytes[at..at + 4].copy_from_slice(&(size as u32).to_le_bytes());
+}
+
+fn wide(text: &str) -> Vec<u8> {
+    text.encode_utf16().flat_map(u16::to_le_bytes).collect()
+}
+
+fn items(bytes: &mut Vec<u8>, sizes: &[u16]) {
+    let total: u16 = sizes.iter().sum();
+    bytes.extend((total + 2).to_le_bytes());
+    for size in sizes {
+        bytes.extend(size.to_le_bytes());
+        bytes.extend((2..*size).map(|n| n as u8));
+    }
+    bytes.extend([0, 0]);
+}
+
+fn string(bytes: &mut Vec<u8>, text: &str) {
+    bytes.extend((text.encode_utf16().count() as u16).to_le_bytes());
+    bytes.extend(wide(text));
+}
+
+fn block(bytes: &mut Vec<u8>, signature: u32, size: usize) {
+    put(bytes, size as u32);
+    put(bytes, signature);
+    bytes.extend((8..size).map(|n| n as u8 | 1));
+}
+
+fn path_block(bytes: &mut Vec<u8>, signature: u32, text: &str) {
+    put(bytes, 0x314);
+    put(bytes, signature);
+    let mut narrow = text.as_bytes().to_vec();
+    narrow.resize(260, 0);
+    let mut unicode = wide(text);
+    unicode.resize(520, 0);
+    bytes.extend(narrow);
+    bytes.extend(unicode);
+}
+
+/// LinkInfo with a volume and a local path.
+fn local_info(bytes: &mut Vec<u8>, texts: &Texts) {
+    let base = bytes.len();
+    let head: usize = if texts.unicode.is_some() { 0x24 } else { 0x1C };
+    bytes.resize(base + head, 0);
+    put_size(bytes, base + 4, head);
+    put_size(bytes, base + 8, 1);
+    put_size(bytes, base + 12, head);
+    for number in [0x18, 3, 0x3A33_07D0, 0x10] {
+        put(bytes, number);
+    }
+    bytes.extend(b"DRIVE C\0");
+    narrow_text(bytes, base, 16, texts.local_path);
+    narrow_text(bytes, base, 24, texts.suffix);
+    if let Some((path, suffix)) = texts.unicode {
+        unicode_text(bytes, base, 28, path);
+        unicode_text(bytes, base, 32, suffix);
+    }
+    let size = bytes.len() - base;
+    put_size(bytes, base, size);
+}
+
+fn narrow_text(bytes: &mut Vec<u8>, base: usize, field: usize, text: &[u8]) {
+    let offset = bytes.len() - base;
+    put_size(bytes, base + field, offset);
+    bytes.extend(text);
+    bytes.push(0);
+}
+
+fn unicode_text(bytes: &mut Vec<u8>, base: usize, field: usize, text: &[u8]) {
+    narrow_text(bytes, base, field, text);
+    bytes.push(0);
+}
+
+/// LinkInfo with a network link that has Unicode names.
+fn network_info(bytes: &mut Vec<u8>) {
+    let base = bytes.len();
+    bytes.resize(base + 0x24, 0);
+    put_size(bytes, base + 4, 0x24);
+    put_size(bytes, base + 8, 2);
+    put_size(bytes, base + 20, 0x24);
+    let link = bytes.len();
+    bytes.resize(link + 0x1C, 0);
+    put_size(bytes, link + 4, 3);
+    put_size(bytes, link + 16, 0x0002_0000);
+    narrow_text(bytes, link, 8, b"\\\\BUILD-SERVER\\toolchains");
+    narrow_text(bytes, link, 12, b"T:");
+    unicode_text(bytes, link, 20, &wide("\\\\BUILD-SERVER\\toolchains"));
+    unicode_text(bytes, link, 24, &wide("T:"));
+    let size = bytes.len() - link;
+    put_size(bytes, link, size);
+    narrow_text(bytes, base, 24, b"msvc\\14.38\\bin\\Hostx64\\x64\\cl.exe");
+    unicode_text(bytes, base, 32, &wide("msvc\\14.38\\bin\\Hostx64\\x64\\cl.exe"));
+    let size = bytes.len() - base;
+    put_size(bytes, base, size);
+}
+
+fn local() -> Vec<u8> {
+    let mut bytes = header(0xFF);
+    items(&mut bytes, &[0x14, 0x19, 0x46, 0x48, 0x52]);
+    let path = b"C:\\Program Files\\Compilers\\bin\\compiler.exe";
+    local_info(&mut bytes, &Texts { local_path: path, suffix: b"", unicode: None });
+    string(&mut bytes, "Compiler of the farm");
+    string(&mut bytes, "..\\..\\..\\Program Files\\Compilers\\bin\\compiler.exe");
+    string(&mut bytes, "C:\\Program Files\\Compilers\\bin");
+    string(&mut bytes, "/nologo /O2 /W4 /c main.c /Fo:main.obj");
+    string(&mut bytes, "C:\\Program Files\\Compilers\\bin\\compiler.exe");
+    block(&mut bytes, 0xA000_0003, 0x60);
+    block(&mut bytes, 0xA000_000B, 0x1C);
+    put(&mut bytes, 0);
+    bytes
+}
+
+fn network() -> Vec<u8> {
+    let mut bytes = header(0xBF);
+    items(&mut bytes, &[0x14, 0x4A, 0x50]);
+    network_info(&mut bytes);
+    string(&mut bytes, "Compiler on the share");
+    string(&mut bytes, ".\\cl.exe");
+    string(&mut bytes, "\\\\BUILD-SERVER\\toolchains\\msvc");
+    string(&mut bytes, "/nologo /O2");
+    block(&mut bytes, 0xA000_0003, 0x60);
+    put(&mut bytes, 0);
+    bytes
+}
+
+fn environment() -> Vec<u8> {
+    let mut bytes = header(0x029B);
+    items(&mut bytes, &[0x14, 0x19, 0x46]);
+    let path = b"C:\\Windows\\System32\\cmd.exe";
+    local_info(&mut bytes, &Texts { local_path: path, suffix: b"", unicode: None });
+    string(&mut bytes, "..\\Windows\\System32\\cmd.exe");
+    string(&mut bytes, "%HOMEDRIVE%%HOMEPATH%");
+    path_block(&mut bytes, 0xA000_0001, "%windir%\\system32\\cmd.exe");
+    block(&mut bytes, 0xA000_0005, 0x10);
+    block(&mut bytes, 0xA000_0003, 0x60);
+    put(&mut bytes, 0);
+    bytes
+}
+
+/// A little LinkInfo, so that a long shape has a target text too.
+fn little_info(bytes: &mut Vec<u8>) {
+    local_info(bytes, &Texts { local_path: b"C:\\a\\b.exe", suffix: b"", unicode: None });
+}
+
+fn long_string(length: usize) -> Vec<u8> {
+    let mut bytes = header(0xA2);
+    little_info(&mut bytes);
+    let units = (length - bytes.len() - 6) / 2;
+    bytes.extend((units as u16).to_le_bytes());
+    bytes.extend((0..2 * units).map(|n| n as u8));
+    put(&mut bytes, 0);
+    bytes
+}
+
+fn many_items(length: usize) -> Vec<u8> {
+    let mut bytes = header(3);
+    let mut info = Vec::new();
+    little_info(&mut info);
+    let count = (length - bytes.len() - info.len() - 8) / 10;
+    items(&mut bytes, &vec![10; count]);
+    bytes.extend(info);
+    put(&mut bytes, 0);
+    bytes
+}
+
+fn many_blocks(length: usize) -> Vec<u8> {
+    let mut bytes = header(2);
+    little_info(&mut bytes);
+    for number in 0..(length - bytes.len() - 4) / 12 {
+        let signature = if number % 2 == 0 { 0xA000_0004 } else { 0xA000_0009 };
+        block(&mut bytes, signature, 12);
+    }
+    put(&mut bytes, 0);
+    bytes
+}
+
+fn long_texts(length: usize) -> Vec<u8> {
+    let mut bytes = header(2);
+    let each = (length - 200) / 4 & !1;
+    let text = vec![0x61; each];
+    let texts = Texts { local_path: &text, suffix: &text, unicode: Some((&text, &text)) };
+    local_info(&mut bytes, &texts);
+    put(&mut bytes, 0);
+    bytes
+}
+
+/// Four texts that all run to one end.
+fn overlapping_texts(length: usize) -> Vec<u8> {
+    let mut bytes = header(2);
+    let text = vec![0x61; length - 200 & !1];
+    let base = bytes.len();
+    let texts = Texts { local_path: b"", suffix: b"", unicode: Some((&text, b"")) };
+    local_info(&mut bytes, &texts);
+    let start = u32::from_le_bytes(bytes[base + 28..base + 32].try_into().unwrap()) as usize;
+    put_size(&mut bytes, base + 16, start + 2);
+    put_size(&mut bytes, base + 24, start + 4);
+    put_size(&mut bytes, base + 32, start + 6);
+    put(&mut bytes, 0);
+    bytes
+}
+
+/// A suffix that runs to LinkInfo's end and has no zero byte, after texts that do.
+fn unended_text(length: usize) -> Vec<u8> {
+    let mut bytes = header(2);
+    let text = vec![0x61; (length - 200) / 2];
+    let base = bytes.len();
+    local_info(&mut bytes, &Texts { local_path: &text, suffix: &text, unicode: None });
+    let size = bytes.len() - base - 1;
+    bytes.truncate(base + size);
+    put_size(&mut bytes, base, size);
+    put(&mut bytes, 0);
+    bytes
+}

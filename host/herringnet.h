@@ -1,0 +1,155 @@
+/* Reads, checks and writes Windows shortcuts (.LNK files): the proved functions of the archive libscheduler.a.
+ *
+ * Link with the archive (x86-64 Linux):   cc program.c target/staticlib/libscheduler.a
+ *
+ * Every function takes slices, each as a pointer and a length, and has no other condition than these:
+ *   - a pointer with its length names memory that the caller may read, and for out and fields write; a null pointer
+ *     may stand with length 0, and is an empty slice;
+ *   - memory that is written (out, fields) overlaps no other slice of the same call. Nothing tests this: it is the
+ *     caller's duty.
+ * A length counts elements: bytes of a uint8_t slice, numbers of a uint64_t slice.
+ *
+ * Every function answers one number: a number of enum herringnet_number + 256 x a value. The value is the length of a
+ * success, or the position of a refusal. A refusal changes no byte of out and no number of fields. A success changes
+ * only the first bytes of out, as many as the length says, and all of fields.
+ */
+#ifndef HERRINGNET_H
+#define HERRINGNET_H
+
+#include <stddef.h>
+#include <stdint.h>
+
+#ifdef __cplusplus
+extern "C" {
+#endif
+
+/* The two parts of an answer. */
+#define HERRINGNET_NUMBER(answer) ((unsigned)((answer) % 256))
+#define HERRINGNET_VALUE(answer) ((size_t)((answer) / 256))
+
+/* The two parts of the value that herringnet_section answers. */
+#define HERRINGNET_START(answer) (HERRINGNET_VALUE(answer) % 65537)
+#define HERRINGNET_LENGTH(answer) (HERRINGNET_VALUE(answer) / 65537)
+
+/* The most bytes that a shortcut may have. */
+#define HERRINGNET_LONGEST 65536
+
+/* The numbers of answers. Positions are the start of the section at fault, 65,536 for LONG, the first byte after the
+ * terminal block for TRAIL, and 0 from PLACE on. */
+enum herringnet_number {
+    HERRINGNET_OK = 0,
+    HERRINGNET_LONG = 1,        /* over 65,536 bytes */
+    HERRINGNET_CUT = 2,         /* the bytes end before a field or declared size does */
+    HERRINGNET_MAGIC = 3,       /* header size or class identifier */
+    HERRINGNET_HEAD = 4,        /* another header rule */
+    HERRINGNET_ITEMS = 5,       /* item list */
+    HERRINGNET_INFO = 6,        /* fixed head of LinkInfo */
+    HERRINGNET_PIECE = 7,       /* anything that LinkInfo's offsets lead to */
+    HERRINGNET_BLOCK = 8,       /* an extra block */
+    HERRINGNET_TRAIL = 9,       /* bytes after the terminal block */
+    HERRINGNET_PLACE = 10,      /* a body's place plus its length exceeds the body buffer's length */
+    HERRINGNET_UNWRITABLE = 11, /* no shortcut reads as the record */
+    HERRINGNET_ROOM = 12,       /* the room is too short */
+    HERRINGNET_NOTARGET = 13,   /* no target text */
+    HERRINGNET_FIELDS = 201,    /* the slice of fields has not 49 numbers; tested before all else */
+    HERRINGNET_VALUES = 202     /* a number of fields does not fit its field; tested next */
+};
+
+/* The names of sections, in the order of the listing. */
+enum herringnet_section_name {
+    HERRINGNET_SECTION_HEADER = 0,
+    HERRINGNET_SECTION_ITEMS = 1,
+    HERRINGNET_SECTION_INFO = 2,
+    HERRINGNET_SECTION_NAME = 3,
+    HERRINGNET_SECTION_RELATIVE = 4,
+    HERRINGNET_SECTION_WORKDIR = 5,
+    HERRINGNET_SECTION_ARGUMENTS = 6,
+    HERRINGNET_SECTION_ICON = 7,
+    HERRINGNET_SECTION_BLOCK = 8,
+    HERRINGNET_SECTION_END = 9
+};
+
+/* The fields of a record, by their place in the slice of 49 numbers. A body is a place (AT) and a length (LEN) in the
+ * body buffer, both in bytes; no count and no terminator is in it. What is absent counts for nothing in writing, and
+ * reading puts 0 there. Present are: the items, LinkInfo and the five strings by bits 0 to 6 of LINK_FLAGS; drive,
+ * serial, label and local path by bit 0 of INFO_FLAGS, the network link by bit 1; the device names by bit 0 of
+ * NETWORK_FLAGS, the provider by bit 1; the Unicode names by UNICODE; the Unicode local path and suffix by LONG. */
+enum herringnet_field {
+    HERRINGNET_FIELD_LINK_FLAGS = 0,    /* 32 bits */
+    HERRINGNET_FIELD_ATTRIBUTES = 1,    /* 32 bits */
+    HERRINGNET_FIELD_CREATION = 2,      /* 64 bits, as the next two: tenths of a microsecond since 1601 */
+    HERRINGNET_FIELD_ACCESS = 3,
+    HERRINGNET_FIELD_WRITE = 4,
+    HERRINGNET_FIELD_FILE_SIZE = 5,     /* 32 bits */
+    HERRINGNET_FIELD_ICON_INDEX = 6,    /* the 32 bits of the signed number */
+    HERRINGNET_FIELD_COMMAND = 7,       /* 32 bits: ShowCommand */
+    HERRINGNET_FIELD_HOTKEY = 8,        /* 16 bits */
+    HERRINGNET_FIELD_INFO_FLAGS = 9,    /* 32 bits */
+    HERRINGNET_FIELD_LONG = 10,         /* 1 for LinkInfo's long head, else 0 */
+    HERRINGNET_FIELD_DRIVE = 11,        /* 32 bits */
+    HERRINGNET_FIELD_SERIAL = 12,       /* 32 bits */
+    HERRINGNET_FIELD_LABEL_KIND = 13,   /* 0 for a byte label, 1 for a Unicode label */
+    HERRINGNET_FIELD_NETWORK_FLAGS = 14,/* 32 bits */
+    HERRINGNET_FIELD_PROVIDER = 15,     /* 32 bits */
+    HERRINGNET_FIELD_UNICODE = 16,      /* 1 where the network link has Unicode names, else 0 */
+    HERRINGNET_FIELD_ITEMS_AT = 17,
+    HERRINGNET_FIELD_ITEMS_LEN = 18,
+    HERRINGNET_FIELD_LABEL_AT = 19,
+    HERRINGNET_FIELD_LABEL_LEN = 20,
+    HERRINGNET_FIELD_LOCAL_AT = 21,
+    HERRINGNET_FIELD_LOCAL_LEN = 22,
+    HERRINGNET_FIELD_NET_AT = 23,
+    HERRINGNET_FIELD_NET_LEN = 24,
+    HERRINGNET_FIELD_DEVICE_AT = 25,
+    HERRINGNET_FIELD_DEVICE_LEN = 26,
+    HERRINGNET_FIELD_NET_UNICODE_AT = 27,
+    HERRINGNET_FIELD_NET_UNICODE_LEN = 28,
+    HERRINGNET_FIELD_DEVICE_UNICODE_AT = 29,
+    HERRINGNET_FIELD_DEVICE_UNICODE_LEN = 30,
+    HERRINGNET_FIELD_SUFFIX_AT = 31,
+    HERRINGNET_FIELD_SUFFIX_LEN = 32,
+    HERRINGNET_FIELD_LOCAL_UNICODE_AT = 33,
+    HERRINGNET_FIELD_LOCAL_UNICODE_LEN = 34,
+    HERRINGNET_FIELD_SUFFIX_UNICODE_AT = 35,
+    HERRINGNET_FIELD_SUFFIX_UNICODE_LEN = 36,
+    HERRINGNET_FIELD_NAME_AT = 37,
+    HERRINGNET_FIELD_NAME_LEN = 38,
+    HERRINGNET_FIELD_RELATIVE_AT = 39,
+    HERRINGNET_FIELD_RELATIVE_LEN = 40,
+    HERRINGNET_FIELD_WORKDIR_AT = 41,
+    HERRINGNET_FIELD_WORKDIR_LEN = 42,
+    HERRINGNET_FIELD_ARGUMENTS_AT = 43,
+    HERRINGNET_FIELD_ARGUMENTS_LEN = 44,
+    HERRINGNET_FIELD_ICON_AT = 45,
+    HERRINGNET_FIELD_ICON_LEN = 46,
+    HERRINGNET_FIELD_BLOCKS_AT = 47,
+    HERRINGNET_FIELD_BLOCKS_LEN = 48,
+    HERRINGNET_FIELD_COUNT = 49
+};
+
+/* Tests a shortcut by all rules. Success: its length. Refusals: 1 to 9. */
+uint64_t herringnet_check(const uint8_t *shortcut, size_t shortcut_len);
+
+/* Puts the target text, local path or net name and then the suffix, into out. Success: its length. Refusals: as
+ * herringnet_check, then NOTARGET, then ROOM. */
+uint64_t herringnet_target(const uint8_t *shortcut, size_t shortcut_len, uint8_t *out, size_t out_len);
+
+/* Says where a section stands, all of it as listed: HERRINGNET_START and HERRINGNET_LENGTH of the answer. block is the
+ * number of a block, from 0, and looked at for that name alone. Never refuses: what is absent, stands in a refused
+ * shortcut or has no such name has start 0 and length 0. */
+uint64_t herringnet_section(const uint8_t *shortcut, size_t shortcut_len, uint32_t name, size_t block);
+
+/* Puts the record of a shortcut into fields, a slice of HERRINGNET_FIELD_COUNT numbers; its body buffer is the
+ * shortcut. Success: the shortcut's length. Refusals: FIELDS, then as herringnet_check. */
+uint64_t herringnet_read(const uint8_t *shortcut, size_t shortcut_len, uint64_t *fields, size_t fields_len);
+
+/* Writes the shortest shortcut that reads as the record in fields, with its bodies in body, into out. Success: its
+ * length. Refusals: FIELDS, VALUES, PLACE, UNWRITABLE, ROOM, in this order. */
+uint64_t herringnet_write(const uint64_t *fields, size_t fields_len, const uint8_t *body, size_t body_len,
+                          uint8_t *out, size_t out_len);
+
+#ifdef __cplusplus
+}
+#endif
+
+#endif

@@ -1,0 +1,54 @@
+//! The five proved functions, as they stand in the archive.
+//!
+//! This is the only file with `unsafe` in it. Every answer is one number: a number of document 01's table (0 for
+//! success) + 256 × a value, which is the length of a success or the position of a refusal. A refusal changes no
+//! byte of `out` and no number of `fields`. The other modules take these answers apart.
+
+// A slice of the Rattle source is a pointer and a length here. The comments are the lines of that source
+// (crates/scheduler/src/lib.rt); a test compares them.
+extern "C" {
+    // pub extern "C" fn herringnet_check(s: &[u8]) -> u64
+    fn herringnet_check(s: *const u8, s_len: usize) -> u64;
+
+    // pub extern "C" fn herringnet_target(s: &[u8], out: &mut [u8]) -> u64
+    fn herringnet_target(s: *const u8, s_len: usize, out: *mut u8, out_len: usize) -> u64;
+
+    // pub extern "C" fn herringnet_section(s: &[u8], name: u32, block: usize) -> u64
+    fn herringnet_section(s: *const u8, s_len: usize, name: u32, block: usize) -> u64;
+
+    // pub extern "C" fn herringnet_read(s: &[u8], f: &mut [u64]) -> u64
+    fn herringnet_read(s: *const u8, s_len: usize, f: *mut u64, f_len: usize) -> u64;
+
+    // pub extern "C" fn herringnet_write(f: &[u64], d: &[u8], out: &mut [u8]) -> u64
+    fn herringnet_write(f: *const u64, f_len: usize, d: *const u8, d_len: usize, out: *mut u8, out_len: usize) -> u64;
+}
+
+// In all five calls pointer and length come from one slice, and a slice that is written to is borrowed by
+// nobody else: that is all that the functions need, since they have no other condition.
+
+/// The verdict on a shortcut; the value of a success is its length.
+pub fn check(shortcut: &[u8]) -> u64 {
+    unsafe { herringnet_check(shortcut.as_ptr(), shortcut.len()) }
+}
+
+/// Puts the target text at the front of `out`; the value of a success is its length.
+pub fn target(shortcut: &[u8], out: &mut [u8]) -> u64 {
+    unsafe { herringnet_target(shortcut.as_ptr(), shortcut.len(), out.as_mut_ptr(), out.len()) }
+}
+
+/// Where a section stands: the value is its start + 65,537 × its length, 0 for one that is not there.
+///
+/// `name` is 0 to 9 in the order of the listing; `block` is looked at for the name `block` (8) alone.
+pub fn section(shortcut: &[u8], name: u32, block: usize) -> u64 {
+    unsafe { herringnet_section(shortcut.as_ptr(), shortcut.len(), name, block) }
+}
+
+/// Fills all of `fields`, which has to have [`FIELDS`](crate::fields::FIELDS) numbers, with the record of a shortcut.
+pub fn read(shortcut: &[u8], fields: &mut [u64]) -> u64 {
+    unsafe { herringnet_read(shortcut.as_ptr(), shortcut.len(), fields.as_mut_ptr(), fields.len()) }
+}
+
+/// Writes the record in `fields`, its bodies in `body`, to the front of `out`; the value of a success is the length.
+pub fn write(fields: &[u64], body: &[u8], out: &mut [u8]) -> u64 {
+    unsafe { herringnet_write(fields.as_ptr(), fields.len(), body.as_ptr(), body.len(), out.as_mut_ptr(), out.len()) }
+}

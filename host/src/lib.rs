@@ -1,0 +1,67 @@
+//! Reads, checks, lists and writes Windows shortcuts (.LNK files).
+//!
+//! The work is done by the functions of Herringnet's archive, which are proved to answer as the rules of the format
+//! (document 01) say, for every input, refused ones too. This package calls them ([`boundary`]) and gives their
+//! answers Rust's types. A shortcut is a byte slice; nothing is copied that need not be.
+//!
+//! ```
+#![doc = include_str!("../examples/overview.rs")]
+//! ```
+#![warn(missing_docs)]
+#![deny(unsafe_code)]
+
+#[allow(unsafe_code)]
+pub mod boundary;
+pub mod fields;
+pub mod record;
+mod refusal;
+mod section;
+pub mod show;
+
+pub use record::Record;
+pub use refusal::{Fault, Refusal};
+pub use section::{listing, section, sections, Section, SectionName};
+
+use refusal::answer;
+
+/// The most bytes that a shortcut may have.
+pub const LONGEST: usize = 65_536;
+
+/// Tests a shortcut by all rules, and gives its length.
+///
+/// # Errors
+///
+/// Numbers 1 to 9, with the start of the section at fault.
+///
+/// ```
+#[doc = include_str!("../examples/check.rs")]
+/// ```
+pub fn check(shortcut: &[u8]) -> Result<usize, Refusal> {
+    answer(boundary::check(shortcut))
+}
+
+/// The target text of a shortcut: local path or net name, and then the suffix, as bytes.
+///
+/// # Errors
+///
+/// As [`check`], then [`Fault::NoTarget`].
+///
+/// ```
+#[doc = include_str!("../examples/target.rs")]
+/// ```
+pub fn target(shortcut: &[u8]) -> Result<Vec<u8>, Refusal> {
+    // The texts share no byte, so they are never longer than the shortcut; and no more is accepted than the longest.
+    let mut text = vec![0; shortcut.len().min(LONGEST)];
+    let length = target_into(shortcut, &mut text)?;
+    text.truncate(length);
+    Ok(text)
+}
+
+/// Puts the target text at the front of `out`, and gives its length. The rest of `out` stays as it is.
+///
+/// # Errors
+///
+/// As [`target`], then [`Fault::Room`]. A refusal changes no byte of `out`.
+pub fn target_into(shortcut: &[u8], out: &mut [u8]) -> Result<usize, Refusal> {
+    answer(boundary::target(shortcut, out))
+}

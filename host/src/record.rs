@@ -1,0 +1,388 @@
+//! The record of a shortcut: everything that reading keeps, and all that writing needs.
+//!
+//! What can be absent is an `Option`, so presence is said in one place and cannot disagree with what is held. The
+//! bits of the format that tell of presence follow from it.
+use crate::boundary;
+use crate::fields::{self, FIELDS};
+use crate::refusal::{answer, Refusal};
+use crate::LONGEST;
+
+/// The record of a shortcut. Its bodies are slices: after reading, parts of the shortcut.
+///
+/// `Record::default()` is the record of the shortest shortcut, with 76 bytes of header and the terminal block.
+/// Two records that were read are equal exactly if they are the same in the sense of document 01: equal fields, and
+/// bodies of the same bytes, wherever they stand.
+///
+/// ```
+#[doc = include_str!("../examples/record.rs")]
+/// ```
+#[derive(Clone, Debug, Default, PartialEq, Eq)]
+pub struct Record<'a> {
+    /// The header's fields.
+    pub header: Header,
+    /// The items, without size and closing zero bytes.
+    pub items: Option<&'a [u8]>,
+    /// LinkInfo.
+    pub info: Option<Info<'a>>,
+    /// The name. It and the next four are of two-byte characters where [`Header::is_unicode`], else of bytes.
+    pub name: Option<&'a [u8]>,
+    /// The relative path.
+    pub relative: Option<&'a [u8]>,
+    /// The working directory.
+    pub workdir: Option<&'a [u8]>,
+    /// The arguments.
+    pub arguments: Option<&'a [u8]>,
+    /// The icon's location.
+    pub icon: Option<&'a [u8]>,
+    /// All blocks before the terminal, end to end.
+    pub blocks: &'a [u8],
+}
+
+/// The nine header fields that vary.
+#[derive(Clone, Copy, Debug, Default, PartialEq, Eq)]
+pub struct Header {
+    /// LinkFlags, every bit as read. Writing takes bits 0 to 6, which tell of presence, from the record's
+    /// `Option`s instead, and the others from here.
+    pub flags: u32,
+    /// FileAttributes.
+    pub attributes: u32,
+    /// Creation time: tenths of a microsecond since 1601, 0 if not set; as the next two.
+    pub creation: u64,
+    /// Access time.
+    pub access: u64,
+    /// Write time.
+    pub write: u64,
+    /// FileSize.
+    pub file_size: u32,
+    /// IconIndex.
+    pub icon_index: i32,
+    /// ShowCommand.
+    pub command: u32,
+    /// HotKey: the key in the low byte, Shift 1, Ctrl 2 and Alt 4 in the high one; 0 for none.
+    pub hotkey: u16,
+}
+
+/// The window that a shortcut asks for.
+#[derive(Clone, Copy, Debug, PartialEq, Eq)]
+pub enum Window {
+    /// ShowCommand is neither 3 nor 7.
+    Normal = 1,
+    /// ShowCommand is 3.
+    Maximised = 3,
+    /// ShowCommand is 7.
+    Minimised = 7,
+}
+
+impl Header {
+    /// Whether the five strings have two-byte characters: LinkFlags bit 7.
+    pub fn is_unicode(&self) -> bool {
+        self.flags & 0x80 != 0
+    }
+
+    /// The window shown.
+    pub fn window(&self) -> Window {
+        match self.command {
+            3 => Window::Maximised,
+            7 => Window::Minimised,
+            _ => Window::Normal,
+        }
+    }
+}
+
+/// LinkInfo. Its flags and the length of its head follow from what is there.
+#[derive(Clone, Debug, Default, PartialEq, Eq)]
+pub struct Info<'a> {
+    /// Volume and local path.
+    pub local: Option<Local<'a>>,
+    /// The network link.
+    pub network: Option<Network<'a>>,
+    /// The suffix.
+    pub suffix: &'a [u8],
+    /// The Unicode texts, which a long head has and a short one lacks.
+    pub unicode: Option<InfoUnicode<'a>>,
+}
+
+/// The Unicode texts of a LinkInfo with a long head.
+#[derive(Clone, Debug, Default, PartialEq, Eq)]
+pub struct InfoUnicode<'a> {
+    /// The local path; empty, and not looked at, where [`Info::local`] is absent.
+    pub local: &'a [u8],
+    /// The suffix.
+    pub suffix: &'a [u8],
+}
+
+/// Volume and local path.
+#[derive(Clone, Debug, PartialEq, Eq)]
+pub struct Local<'a> {
+    /// The drive type, 0 to 6.
+    pub drive: u32,
+    /// The volume's serial.
+    pub serial: u32,
+    /// The volume's label.
+    pub label: Label<'a>,
+    /// The local path.
+    pub path: &'a [u8],
+}
+
+/// A volume label is one of two kinds.
+#[derive(Clone, Copy, Debug, PartialEq, Eq)]
+pub enum Label<'a> {
+    /// A text of bytes.
+    Byte(&'a [u8]),
+    /// A text of 16-bit units, little-endian.
+    Unicode(&'a [u8]),
+}
+
+/// The network link. Its flags follow from what is there.
+#[derive(Clone, Debug, Default, PartialEq, Eq)]
+pub struct Network<'a> {
+    /// The provider type.
+    pub provider: Option<u32>,
+    /// The net name.
+    pub net: &'a [u8],
+    /// The device name.
+    pub device: Option<&'a [u8]>,
+    /// The Unicode names, if the link has them.
+    pub unicode: Option<NetworkUnicode<'a>>,
+}
+
+/// The Unicode names of a network link.
+#[derive(Clone, Debug, Default, PartialEq, Eq)]
+pub struct NetworkUnicode<'a> {
+    /// The net name.
+    pub net: &'a [u8],
+    /// The device name; empty, and not looked at, where [`Network::device`] is absent.
+    pub device: &'a [u8],
+}
+
+/// All heads, counts and terminators of a shortcut together are shorter than this.
+const FRAME: usize = 256;
+
+impl<'a> Record<'a> {
+    /// Reads a shortcut. The record's bodies are parts of it.
+    ///
+    /// # Errors
+    ///
+    /// As [`check`](crate::check).
+    pub fn read(shortcut: &'a [u8]) -> Result<Record<'a>, Refusal> {
+        let mut numbers = [0; FIELDS];
+        answer(boundary::read(shortcut, &mut numbers))?;
+        Ok(Taken { shortcut, numbers }.record())
+    }
+
+    /// Writes the shortest shortcut that reads as this record to the front of `out`, and gives its length.
+    ///
+    /// # Errors
+    ///
+    /// [`Fault::Unwritable`](crate::Fault::Unwritable) if no shortcut reads as it, then
+    /// [`Fault::Room`](crate::Fault::Room). A refusal changes no byte of `out`.
+    pub fn write(&self, out: &mut [u8]) -> Result<usize, Refusal> {
+        let put = Put::of(self);
+        answer(boundary::write(&put.numbers, &put.body, out))
+    }
+
+    /// The shortest shortcut that reads as this record.
+    ///
+    /// # Errors
+    ///
+    /// [`Fault::Unwritable`](crate::Fault::Unwritable).
+    pub fn to_vec(&self) -> Result<Vec<u8>, Refusal> {
+        let put = Put::of(self);
+        let mut out = vec![0; LONGEST.min(put.body.len().saturating_add(FRAME))];
+        let length = answer(boundary::write(&put.numbers, &put.body, &mut out))?;
+        out.truncate(length);
+        Ok(out)
+    }
+
+    /// LinkFlags as they are written: bits 0 to 6 from what is there, the others from the header.
+    pub fn flags(&self) -> u32 {
+        let there = [
+            self.items.is_some(),
+            self.info.is_some(),
+            self.name.is_some(),
+            self.relative.is_some(),
+            self.workdir.is_some(),
+            self.arguments.is_some(),
+            self.icon.is_some(),
+        ];
+        (0..7).fold(self.header.flags & !0x7F, |flags, bit| flags | u32::from(there[bit]) << bit)
+    }
+}
+
+/// A shortcut that was accepted, with the numbers of its record.
+struct Taken<'a> {
+    shortcut: &'a [u8],
+    numbers: [u64; FIELDS],
+}
+
+impl<'a> Taken<'a> {
+    fn number(&self, field: usize) -> u32 {
+        self.numbers[field] as u32
+    }
+
+    /// The body whose place stands at `field` and whose length stands after it.
+    fn body(&self, field: usize) -> &'a [u8] {
+        let (start, length) = (self.numbers[field] as usize, self.numbers[field + 1] as usize);
+        &self.shortcut[start..start + length]
+    }
+
+    /// A string, which is there by its bit of LinkFlags.
+    fn string(&self, bit: u32, field: usize) -> Option<&'a [u8]> {
+        (self.number(fields::LINK_FLAGS) >> bit & 1 == 1).then(|| self.body(field))
+    }
+
+    fn record(&self) -> Record<'a> {
+        Record {
+            header: self.header(),
+            items: self.string(0, fields::ITEMS_AT),
+            info: (self.number(fields::LINK_FLAGS) & 2 != 0).then(|| self.info()),
+            name: self.string(2, fields::NAME_AT),
+            relative: self.string(3, fields::RELATIVE_AT),
+            workdir: self.string(4, fields::WORKDIR_AT),
+            arguments: self.string(5, fields::ARGUMENTS_AT),
+            icon: self.string(6, fields::ICON_AT),
+            blocks: self.body(fields::BLOCKS_AT),
+        }
+    }
+
+    fn header(&self) -> Header {
+        Header {
+            flags: self.number(fields::LINK_FLAGS),
+            attributes: self.number(fields::ATTRIBUTES),
+            creation: self.numbers[fields::CREATION],
+            access: self.numbers[fields::ACCESS],
+            write: self.numbers[fields::WRITE],
+            file_size: self.number(fields::FILE_SIZE),
+            icon_index: self.number(fields::ICON_INDEX) as i32,
+            command: self.number(fields::COMMAND),
+            hotkey: self.numbers[fields::HOTKEY] as u16,
+        }
+    }
+
+    fn info(&self) -> Info<'a> {
+        let flags = self.number(fields::INFO_FLAGS);
+        Info {
+            local: (flags & 1 != 0).then(|| self.local()),
+            network: (flags & 2 != 0).then(|| self.network()),
+            suffix: self.body(fields::SUFFIX_AT),
+            unicode: (self.number(fields::LONG) == 1).then(|| InfoUnicode {
+                local: self.body(fields::LOCAL_UNICODE_AT),
+                suffix: self.body(fields::SUFFIX_UNICODE_AT),
+            }),
+        }
+    }
+
+    fn local(&self) -> Local<'a> {
+        let label = self.body(fields::LABEL_AT);
+        Local {
+            drive: self.number(fields::DRIVE),
+            serial: self.number(fields::SERIAL),
+            label: match self.number(fields::LABEL_KIND) {
+                0 => Label::Byte(label),
+                _ => Label::Unicode(label),
+            },
+            path: self.body(fields::LOCAL_AT),
+        }
+    }
+
+    fn network(&self) -> Network<'a> {
+        let flags = self.number(fields::NETWORK_FLAGS);
+        Network {
+            provider: (flags & 2 != 0).then(|| self.number(fields::PROVIDER)),
+            net: self.body(fields::NET_AT),
+            device: (flags & 1 != 0).then(|| self.body(fields::DEVICE_AT)),
+            unicode: (self.number(fields::UNICODE) == 1).then(|| NetworkUnicode {
+                net: self.body(fields::NET_UNICODE_AT),
+                device: self.body(fields::DEVICE_UNICODE_AT),
+            }),
+        }
+    }
+}
+
+/// A record on its way to the boundary: its numbers, and its bodies end to end in one buffer.
+struct Put {
+    numbers: [u64; FIELDS],
+    body: Vec<u8>,
+}
+
+impl Put {
+    fn of(record: &Record) -> Put {
+        let mut put = Put { numbers: [0; FIELDS], body: Vec::new() };
+        put.header(record);
+        put.body(fields::ITEMS_AT, record.items);
+        if let Some(info) = &record.info {
+            put.info(info);
+        }
+        put.body(fields::NAME_AT, record.name);
+        put.body(fields::RELATIVE_AT, record.relative);
+        put.body(fields::WORKDIR_AT, record.workdir);
+        put.body(fields::ARGUMENTS_AT, record.arguments);
+        put.body(fields::ICON_AT, record.icon);
+        put.body(fields::BLOCKS_AT, Some(record.blocks));
+        put
+    }
+
+    /// A body that is there; of one that is absent place and length stay 0.
+    fn body(&mut self, field: usize, bytes: Option<&[u8]>) {
+        if let Some(bytes) = bytes {
+            self.numbers[field] = self.body.len() as u64;
+            self.numbers[field + 1] = bytes.len() as u64;
+            self.body.extend_from_slice(bytes);
+        }
+    }
+
+    fn header(&mut self, record: &Record) {
+        let header = &record.header;
+        self.numbers[fields::LINK_FLAGS] = record.flags().into();
+        self.numbers[fields::ATTRIBUTES] = header.attributes.into();
+        self.numbers[fields::CREATION] = header.creation;
+        self.numbers[fields::ACCESS] = header.access;
+        self.numbers[fields::WRITE] = header.write;
+        self.numbers[fields::FILE_SIZE] = header.file_size.into();
+        self.numbers[fields::ICON_INDEX] = (header.icon_index as u32).into();
+        self.numbers[fields::COMMAND] = header.command.into();
+        self.numbers[fields::HOTKEY] = header.hotkey.into();
+    }
+
+    fn info(&mut self, info: &Info) {
+        let there = u64::from(info.local.is_some()) + 2 * u64::from(info.network.is_some());
+        self.numbers[fields::INFO_FLAGS] = there;
+        self.numbers[fields::LONG] = info.unicode.is_some().into();
+        if let Some(local) = &info.local {
+            self.local(local);
+        }
+        if let Some(network) = &info.network {
+            self.network(network);
+        }
+        self.body(fields::SUFFIX_AT, Some(info.suffix));
+        if let Some(unicode) = &info.unicode {
+            self.body(fields::LOCAL_UNICODE_AT, info.local.as_ref().map(|_| unicode.local));
+            self.body(fields::SUFFIX_UNICODE_AT, Some(unicode.suffix));
+        }
+    }
+
+    fn local(&mut self, local: &Local) {
+        let (kind, label) = match local.label {
+            Label::Byte(label) => (0, label),
+            Label::Unicode(label) => (1, label),
+        };
+        self.numbers[fields::DRIVE] = local.drive.into();
+        self.numbers[fields::SERIAL] = local.serial.into();
+        self.numbers[fields::LABEL_KIND] = kind;
+        self.body(fields::LABEL_AT, Some(label));
+        self.body(fields::LOCAL_AT, Some(local.path));
+    }
+
+    fn network(&mut self, network: &Network) {
+        let there = u64::from(network.device.is_some()) + 2 * u64::from(network.provider.is_some());
+        self.numbers[fields::NETWORK_FLAGS] = there;
+        self.numbers[fields::PROVIDER] = network.provider.unwrap_or(0).into();
+        self.numbers[fields::UNICODE] = network.unicode.is_some().into();
+        self.body(fields::NET_AT, Some(network.net));
+        self.body(fields::DEVICE_AT, network.device);
+        if let Some(unicode) = &network.unicode {
+            self.body(fields::NET_UNICODE_AT, Some(unicode.net));
+            self.body(fields::DEVICE_UNICODE_AT, network.device.map(|_| unicode.device));
+        }
+    }
+}

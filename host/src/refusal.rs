@@ -1,0 +1,154 @@
+//! Why a call refuses, and where.
+use std::error::Error;
+use std::fmt;
+
+/// The reasons for a refusal: the names of document 01's table of numbers, and two of the boundary's own.
+#[derive(Clone, Copy, Debug, PartialEq, Eq, Hash)]
+#[non_exhaustive]
+pub enum Fault {
+    /// 1: over 65,536 bytes.
+    Long,
+    /// 2: the bytes end before a field or declared size does.
+    Cut,
+    /// 3: header size or class identifier.
+    Magic,
+    /// 4: another header rule.
+    Head,
+    /// 5: item list.
+    Items,
+    /// 6: fixed head of LinkInfo.
+    Info,
+    /// 7: anything that LinkInfo's offsets lead to.
+    Piece,
+    /// 8: an extra block.
+    Block,
+    /// 9: bytes after the terminal block.
+    Trail,
+    /// 10: a body lies outside the body buffer. A [`Record`](crate::Record) holds its bodies, and never meets it.
+    Place,
+    /// 11: no shortcut reads as the record.
+    Unwritable,
+    /// 12: the room is too short.
+    Room,
+    /// 13: the shortcut has no target text.
+    NoTarget,
+    /// 201, of the boundary alone: the slice of fields has not 49 numbers.
+    Fields,
+    /// 202, of the boundary alone: a field's number does not fit its field.
+    Values,
+    /// A number that this package does not know.
+    Other(u8),
+}
+
+/// Number, name and reason of every fault that has a name.
+const TABLE: [(Fault, u8, &str, &str); 15] = [
+    (Fault::Long, 1, "LONG", "it has more than 65,536 bytes"),
+    (Fault::Cut, 2, "CUT", "the bytes end before a field or declared size does"),
+    (Fault::Magic, 3, "MAGIC", "header size or class identifier is not that of a shortcut"),
+    (Fault::Head, 4, "HEAD", "the header breaks another rule of its fields"),
+    (Fault::Items, 5, "ITEMS", "the item list is wrong"),
+    (Fault::Info, 6, "INFO", "the fixed head of LinkInfo is wrong"),
+    (Fault::Piece, 7, "PIECE", "something that LinkInfo's offsets lead to is wrong"),
+    (Fault::Block, 8, "BLOCK", "an extra block is wrong"),
+    (Fault::Trail, 9, "TRAIL", "bytes follow the terminal block"),
+    (Fault::Place, 10, "PLACE", "a body lies outside the body buffer"),
+    (Fault::Unwritable, 11, "UNWRITABLE", "no shortcut reads as this record"),
+    (Fault::Room, 12, "ROOM", "the room is too short"),
+    (Fault::NoTarget, 13, "NOTARGET", "it has no target text"),
+    (Fault::Fields, 201, "FIELDS", "a record has 49 numbers"),
+    (Fault::Values, 202, "VALUES", "a number does not fit its field"),
+];
+
+impl Fault {
+    /// The fault with this number.
+    pub fn of(number: u8) -> Fault {
+        match TABLE.iter().find(|row| row.1 == number) {
+            Some(row) => row.0,
+            None => Fault::Other(number),
+        }
+    }
+
+    /// The number in document 01's table.
+    pub fn number(self) -> u8 {
+        match self {
+            Fault::Other(number) => number,
+            _ => self.row().1,
+        }
+    }
+
+    /// The name in document 01's table, as `CUT`.
+    pub fn name(self) -> &'static str {
+        self.row().2
+    }
+
+    /// What the fault means, in a few words.
+    pub fn reason(self) -> &'static str {
+        self.row().3
+    }
+
+    fn row(self) -> (Fault, u8, &'static str, &'static str) {
+        let other = (self, 0, "OTHER", "the number is not known here");
+        TABLE.iter().copied().find(|row| row.0 == self).unwrap_or(other)
+    }
+}
+
+/// A refusal: why, and the position that document 01 gives for it.
+#[derive(Clone, Copy, Debug, PartialEq, Eq, Hash)]
+pub struct Refusal {
+    /// Why.
+    pub fault: Fault,
+    /// The start of the section at fault; 65,536 for LONG; 0 where the fault has no position.
+    pub position: usize,
+}
+
+impl Refusal {
+    /// The number in document 01's table.
+    pub fn number(&self) -> u8 {
+        self.fault.number()
+    }
+
+    /// The name in document 01's table, as `CUT`.
+    pub fn name(&self) -> &'static str {
+        self.fault.name()
+    }
+}
+
+impl fmt::Display for Refusal {
+    fn fmt(&self, f: &mut fmt::Formatter<'_>) -> fmt::Result {
+        let Refusal { fault, position } = self;
+        write!(f, "refused {} {} at {}: {}", fault.number(), fault.name(), position, fault.reason())
+    }
+}
+
+impl Error for Refusal {}
+
+/// Takes an answer of the boundary apart: the length, or the refusal.
+pub(crate) fn answer(code: u64) -> Result<usize, Refusal> {
+    let value = (code / 256) as usize;
+    match (code % 256) as u8 {
+        0 => Ok(value),
+        number => Err(Refusal { fault: Fault::of(number), position: value }),
+    }
+}
+
+#[cfg(test)]
+mod tests {
+    use super::*;
+
+    #[test]
+    fn numbers_and_faults_belong_together() {
+        for number in 1..=255 {
+            assert_eq!(Fault::of(number).number(), number);
+        }
+        assert_eq!((1..=13).map(|n| Fault::of(n).name()).filter(|name| *name == "OTHER").count(), 0);
+        assert_eq!(Fault::of(14), Fault::Other(14));
+    }
+
+    #[test]
+    fn answers_are_taken_apart() {
+        assert_eq!(answer(256 * 80), Ok(80));
+        let refusal = answer(2 + 256 * 76).unwrap_err();
+        assert_eq!(refusal, Refusal { fault: Fault::Cut, position: 76 });
+        assert_eq!(refusal.to_string(), "refused 2 CUT at 76: the bytes end before a field or declared size does");
+    }
+}

@@ -1,0 +1,68 @@
+/* Uses every function of the header, and prints what they answer. */
+#include "herringnet.h"
+
+#include <inttypes.h>
+#include <stdio.h>
+#include <string.h>
+
+static void answer(const char *what, uint64_t a)
+{
+    printf("%s %u %zu\n", what, HERRINGNET_NUMBER(a), HERRINGNET_VALUE(a));
+}
+
+static void section(const uint8_t *s, size_t n, uint32_t name, size_t block)
+{
+    uint64_t a = herringnet_section(s, n, name, block);
+    printf("section %" PRIu32 " %zu: %zu %zu\n", name, block, HERRINGNET_START(a), HERRINGNET_LENGTH(a));
+}
+
+static void sections(const uint8_t *s, size_t n)
+{
+    for (uint32_t name = HERRINGNET_SECTION_HEADER; name <= HERRINGNET_SECTION_END; name++)
+        section(s, n, name, 0);
+    section(s, n, HERRINGNET_SECTION_BLOCK, 1);
+    section(s, n, 10, 0);
+}
+
+static void targets(const uint8_t *s, size_t n)
+{
+    uint8_t out[16];
+    memset(out, 'x', sizeof out);
+    answer("target in 12", herringnet_target(s, n, out, 12));
+    printf("%.16s\n", (const char *)out);
+    answer("target in 13", herringnet_target(s, n, out, 13));
+    printf("%.16s\n", (const char *)out);
+    answer("target of nothing", herringnet_target(NULL, 0, NULL, 0));
+}
+
+static void records(const uint8_t *s, size_t n)
+{
+    uint64_t fields[HERRINGNET_FIELD_COUNT];
+    static uint8_t out[HERRINGNET_LONGEST];
+    answer("read into 48", herringnet_read(s, n, fields, HERRINGNET_FIELD_COUNT - 1));
+    answer("read", herringnet_read(s, n, fields, HERRINGNET_FIELD_COUNT));
+    for (int i = 0; i < HERRINGNET_FIELD_COUNT; i++)
+        printf("%" PRIu64 "%s", fields[i], i + 1 < HERRINGNET_FIELD_COUNT ? " " : "\n");
+    answer("write in 458", herringnet_write(fields, HERRINGNET_FIELD_COUNT, s, n, out, 458));
+    answer("write", herringnet_write(fields, HERRINGNET_FIELD_COUNT, s, n, out, sizeof out));
+    printf("%s\n", memcmp(s, out, n) == 0 ? "same bytes" : "other bytes");
+    answer("write from less", herringnet_write(fields, HERRINGNET_FIELD_COUNT, s, n - 5, out, sizeof out));
+    fields[HERRINGNET_FIELD_ATTRIBUTES] = 8;
+    answer("write wrong", herringnet_write(fields, HERRINGNET_FIELD_COUNT, s, n, out, sizeof out));
+    fields[HERRINGNET_FIELD_LONG] = 2;
+    answer("write no record", herringnet_write(fields, HERRINGNET_FIELD_COUNT, s, n, out, sizeof out));
+    answer("write no fields", herringnet_write(NULL, 0, s, n, out, sizeof out));
+}
+
+int main(void)
+{
+    static uint8_t s[HERRINGNET_LONGEST + 1];
+    size_t n = fread(s, 1, sizeof s, stdin);
+    answer("check", herringnet_check(s, n));
+    answer("check one less", herringnet_check(s, n - 1));
+    answer("check nothing", herringnet_check(NULL, 0));
+    sections(s, n);
+    targets(s, n);
+    records(s, n);
+    return 0;
+}

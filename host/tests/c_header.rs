@@ -1,0 +1,68 @@
+//! The header for C: a program compiled against it and linked with the archive, and its names beside those of Rust.
+mod common;
+
+use common::{folder, program, run_on, text, SAMPLE};
+use herringnet::{fields, Fault, SectionName};
+use std::env;
+use std::fs;
+use std::path::{Path, PathBuf};
+use std::process::Command;
+
+const HEADER: &str = include_str!("../herringnet.h");
+
+/// Compiles the program with every warning an error.
+fn compiled(folder: &Path) -> PathBuf {
+    let host = Path::new(env!("CARGO_MANIFEST_DIR"));
+    let cc = env::var_os("HERRINGNET_CC").unwrap_or_else(|| "cc".into());
+    let out = folder.join("use");
+    let mut command = Command::new(cc);
+    command.args(["-std=c99", "-Wall", "-Wextra", "-Wpedantic", "-Werror", "-O2", "-I"]).arg(host);
+    command.arg(host.join("tests/c/use.c")).arg(env!("HERRINGNET_LINKED")).arg("-o").arg(&out);
+    let done = command.output().expect("the C compiler runs; tools/host names it");
+    assert!(done.status.success(), "{}", text(&done.stderr));
+    out
+}
+
+#[test]
+fn a_c_program_gets_the_same_answers() {
+    let folder = folder("c_header");
+    let sample = folder.join("a.lnk");
+    fs::write(&sample, SAMPLE).unwrap();
+    let done = run_on(&mut program(compiled(&folder)), &sample);
+    assert!(done.status.success());
+    assert_eq!(text(&done.stdout), include_str!("c/expected.txt"));
+}
+
+/// The enumerators that begin with a prefix, with their numbers.
+fn enumerators(prefix: &str) -> Vec<(String, usize)> {
+    let lines = HEADER.lines().map(str::trim).filter_map(|line| line.strip_prefix(prefix));
+    let pairs = lines.filter_map(|line| line.split_once(" = "));
+    let number = |text: &str| text.split(|c: char| !c.is_ascii_digit()).next().unwrap().parse().unwrap();
+    pairs.map(|(name, rest)| (name.to_string(), number(rest))).collect()
+}
+
+#[test]
+fn fields_have_the_numbers_of_the_rust_side() {
+    let mut rust: Vec<(String, usize)> = fields::NAMES.map(|(name, number)| (name.to_string(), number)).to_vec();
+    rust.push(("COUNT".to_string(), fields::FIELDS));
+    assert_eq!(enumerators("HERRINGNET_FIELD_"), rust);
+    assert!(fields::NAMES.iter().enumerate().all(|(place, row)| row.1 == place));
+}
+
+#[test]
+fn sections_have_the_numbers_of_the_rust_side() {
+    let rust = SectionName::ALL.map(|name| (name.word().to_uppercase(), name.number() as usize));
+    assert_eq!(enumerators("HERRINGNET_SECTION_"), rust);
+}
+
+#[test]
+fn numbers_have_the_names_of_the_rust_side() {
+    let all = enumerators("HERRINGNET_");
+    let numbers = all.iter().filter(|(name, _)| !name.contains("FIELD_") && !name.contains("SECTION_"));
+    let numbers: Vec<(&str, usize)> = numbers.map(|(name, number)| (name.as_str(), *number)).collect();
+    assert_eq!(numbers[0], ("OK", 0));
+    assert_eq!(numbers.len(), 16);
+    for (name, number) in &numbers[1..] {
+        assert_eq!(Fault::of(*number as u8).name(), *name);
+    }
+}

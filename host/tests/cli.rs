@@ -1,0 +1,331 @@
+//! The command line: every command, one file and several, refusals, files that cannot be read, standard input.
+mod common;
+
+use common::{folder, program, run_on, text, SAMPLE};
+use herringnet::record::{Header, Info, InfoUnicode, Label, Local, Network, NetworkUnicode, Record};
+use std::ffi::OsStr;
+use std::fs;
+use std::io::Write;
+use std::os::unix::ffi::OsStrExt;
+use std::os::unix::fs::{symlink, MetadataExt, PermissionsExt};
+use std::path::{Path, PathBuf};
+use std::process::{Command, Output, Stdio};
+
+const SAMPLE_LISTING: &str = "ok 459\nheader 0 76\nitems 76 191\ninfo 267 60\nrelative 327 16\nworkdir 343 16\n\
+                              block 359 96\nend 455 4\n";
+
+/// A folder with shortcuts in it.
+struct Shortcuts {
+    folder: PathBuf,
+}
+
+impl Shortcuts {
+    /// The sample, the shortest shortcut, one that is cut, one that is too long, and one that is not canonical.
+    fn new(name: &str) -> Shortcuts {
+        let shortcuts = Shortcuts { folder: folder(name) };
+        let mut loose = z();
+        loose[76] = 3;
+        shortcuts.put("a.lnk", SAMPLE);
+        shortcuts.put("z.lnk", &z());
+        shortcuts.put("cut.lnk", &z()[..79]);
+        shortcuts.put("long.lnk", &vec![0; 1 << 20]);
+        shortcuts.put("loose.lnk", &loose);
+        shortcuts
+    }
+
+    fn put(&self, name: &str, bytes: &[u8]) {
+        fs::write(self.folder.join(name), bytes).unwrap();
+    }
+
+    fn get(&self, name: &str) -> Vec<u8> {
+        fs::read(self.folder.join(name)).unwrap()
+    }
+
+    /// The system's own number of a file: another one after it was replaced.
+    fn number(&self, name: &str) -> u64 {
+        fs::metadata(self.folder.join(name)).unwrap().ino()
+    }
+
+    fn names(&self) -> Vec<String> {
+        let entries = fs::read_dir(&self.folder).unwrap();
+        let mut names: Vec<String> = entries.map(|entry| entry.unwrap().file_name().into_string().unwrap()).collect();
+        names.sort();
+        names
+    }
+
+    fn command(&self, words: &[&str]) -> Command {
+        let mut command = program(env!("CARGO_BIN_EXE_herringnet"));
+        command.args(words).current_dir(&self.folder);
+        command
+    }
+
+    /// Runs the program with nothing on standard input.
+    fn run(&self, words: &[&str]) -> Said {
+        Said::of(self.command(words).stdin(Stdio::null()).output().unwrap())
+    }
+
+    /// Runs the program with a file on standard input.
+    fn run_on(&self, words: &[&str], input: &str) -> Said {
+        Said::of(run_on(&mut self.command(words), &self.folder.join(input)))
+    }
+}
+
+/// What a run wrote, and its exit status.
+struct Said {
+    status: i32,
+    out: Vec<u8>,
+    err: String,
+}
+
+impl Said {
+    fn of(output: Output) -> Said {
+        let err = text(&output.stderr).to_string();
+        Said { status: output.status.code().unwrap(), out: output.stdout, err }
+    }
+
+    #[track_caller]
+    fn is(&self, status: i32, out: &str, err: &str) {
+        assert_eq!((self.status, text(&self.out), self.err.as_str()), (status, out, err));
+    }
+}
+
+/// The 80-byte shortcut of document 01.
+fn z() -> Vec<u8> {
+    Record::default().to_vec().unwrap()
+}
+
+#[test]
+fn check_says_a_line_for_each_file() {
+    let s = Shortcuts::new("check");
+    s.run(&["check", "a.lnk"]).is(0, "a.lnk: ok 459\n", "");
+    s.run(&["check", "a.lnk", "z.lnk"]).is(0, "a.lnk: ok 459\nz.lnk: ok 80\n", "");
+    let cut = "cut.lnk: refused 2 CUT at 76: the bytes end before a field or declared size does\n";
+    let long = "long.lnk: refused 1 LONG at 65536: it has more than 65,536 bytes\n";
+    s.run(&["check", "cut.lnk"]).is(1, cut, "");
+    s.run(&["check", "cut.lnk", "z.lnk", "long.lnk"]).is(1, &format!("{}z.lnk: ok 80\n{}", cut, long), "");
+}
+
+#[test]
+fn list_prints_the_listing() {
+    let s = Shortcuts::new("list");
+    s.run(&["list", "a.lnk"]).is(0, SAMPLE_LISTING, "");
+    s.run(&["list", "z.lnk"]).is(0, "ok 80\nheader 0 76\nend 76 4\n", "");
+    s.run(&["list", "cut.lnk"]).is(1, "refused 2 76\n", "");
+    s.run(&["list", "long.lnk"]).is(1, "refused 1 65536\n", "");
+    let several = "z.lnk:\nok 80\nheader 0 76\nend 76 4\n\ncut.lnk:\nrefused 2 76\n";
+    s.run(&["list", "z.lnk", "cut.lnk"]).is(1, several, "");
+}
+
+#[test]
+fn target_prints_the_text() {
+    let s = Shortcuts::new("target");
+    let local = Local { drive: 3, serial: 0, label: Label::Byte(b""), path: b"C:\\caf\xE9 <1>" };
+    let info = Info { local: Some(local), ..Info::default() };
+    s.put("e.lnk", &Record { info: Some(info), ..Record::default() }.to_vec().unwrap());
+    s.run(&["target", "a.lnk"]).is(0, "C:\\test\\a.txt\n", "");
+    s.run(&["target", "e.lnk"]).is(0, "C:\\caf<E9> <3C>1>\n", "");
+    assert_eq!(s.run(&["target", "--raw", "e.lnk"]).out, b"C:\\caf\xE9 <1>");
+    let refused = "herringnet: z.lnk: refused 13 NOTARGET at 0: it has no target text\n";
+    s.run(&["target", "z.lnk", "a.lnk"]).is(1, "a.lnk: C:\\test\\a.txt\n", refused);
+    assert_eq!(s.run(&["target", "--raw", "a.lnk", "e.lnk"]).status, 2);
+}
+
+#[test]
+fn show_prints_every_field() {
+    let s = Shortcuts::new("show");
+    s.run(&["show", "a.lnk"]).is(0, include_str!("shown/a.txt"), "");
+    s.put("network.lnk", &network());
+    s.run(&["show", "network.lnk"]).is(0, include_str!("shown/network.txt"), "");
+    let cut = "herringnet: cut.lnk: refused 2 CUT at 76: the bytes end before a field or declared size does\n";
+    let both = format!("a.lnk:\n{}\na.lnk:\n{0}", include_str!("shown/a.txt"));
+    s.run(&["show", "a.lnk", "a.lnk"]).is(0, &both, "");
+    s.run(&["show", "cut.lnk"]).is(1, "", cut);
+}
+
+/// A shortcut with all that the sample lacks.
+fn network() -> Vec<u8> {
+    let label = Label::Unicode(b"L\0<\0");
+    let local = Local { drive: 4, serial: 1, label, path: b"Z:\\\x01" };
+    let network = Network {
+        provider: Some(0x0042_0000),
+        net: br"\\farm\tools",
+        device: Some(b"Z:"),
+        unicode: Some(NetworkUnicode { net: b"\\\0\xE9\0", device: b"Z\0" }),
+    };
+    let unicode = Some(InfoUnicode { local: b"Z\0\x00\xD8", suffix: b"\x3D\xD8\x00\xDE" });
+    let header = Header { creation: u64::MAX, icon_index: -7, command: 7, hotkey: 0x0646, ..Header::default() };
+    Record {
+        header,
+        info: Some(Info { local: Some(local), network: Some(network), suffix: b"cc", unicode }),
+        name: Some(b"one\0two"),
+        relative: Some(b""),
+        icon: Some(b"\xE9.ico"),
+        blocks: b"\x08\0\0\0\x01\0\0\0\x0C\0\0\0\x04\0\0\xA0\x07\0\0\0",
+        ..Record::default()
+    }
+    .to_vec()
+    .unwrap()
+}
+
+#[test]
+fn rewrite_writes_the_canonical_form() {
+    let s = Shortcuts::new("rewrite");
+    let said = s.run(&["rewrite", "loose.lnk"]);
+    assert_eq!((said.status, said.out, said.err.as_str()), (0, z(), ""));
+    assert_eq!(s.run(&["rewrite", "a.lnk"]).out, SAMPLE);
+    let refused = "herringnet: cut.lnk: refused 2 CUT at 76: the bytes end before a field or declared size does\n";
+    s.run(&["rewrite", "cut.lnk"]).is(1, "", refused);
+    assert_eq!(s.run(&["rewrite", "a.lnk", "z.lnk"]).status, 2);
+}
+
+#[test]
+fn rewrite_to_a_named_file() {
+    let s = Shortcuts::new("rewrite_to");
+    let before = s.names();
+    s.run(&["rewrite", "-o", "new.lnk", "loose.lnk"]).is(0, "new.lnk: 80 bytes, from 80\n", "");
+    assert_eq!(s.get("new.lnk"), z());
+    s.run(&["rewrite", "a.lnk", "--output", "new.lnk"]).is(0, "new.lnk: 459 bytes, from 459\n", "");
+    assert_eq!(s.get("new.lnk"), SAMPLE);
+    assert_eq!(s.run(&["rewrite", "-o", "new.lnk", "cut.lnk"]).status, 1);
+    assert_eq!(s.get("new.lnk"), SAMPLE);
+    fs::remove_file(s.folder.join("new.lnk")).unwrap();
+    assert_eq!(s.run(&["rewrite", "-o", "new.lnk", "cut.lnk"]).status, 1);
+    let folder = "herringnet: .: cannot be written: it is not an ordinary file\n";
+    s.run(&["rewrite", "-o", ".", "a.lnk"]).is(1, "", folder);
+    let nowhere = "herringnet: no/where: cannot be written: No such file or directory\n";
+    s.run(&["rewrite", "-o", "no/where", "a.lnk"]).is(1, "", nowhere);
+    let device = "herringnet: /dev/null: cannot be written: it is not an ordinary file\n";
+    s.run(&["rewrite", "-o", "/dev/null", "a.lnk"]).is(1, "", device);
+    assert_eq!(s.names(), before);
+}
+
+#[test]
+fn rewrite_in_place() {
+    let s = Shortcuts::new("rewrite_in_place");
+    let loose = s.folder.join("loose.lnk");
+    fs::set_permissions(&loose, fs::Permissions::from_mode(0o640)).unwrap();
+    symlink("loose.lnk", s.folder.join("link.lnk")).unwrap();
+    let (before, untouched) = (s.names(), s.number("a.lnk"));
+    let said = s.run(&["rewrite", "--in-place", "cut.lnk", "link.lnk", "a.lnk"]);
+    let refused = "herringnet: cut.lnk: refused 2 CUT at 76: the bytes end before a field or declared size does\n";
+    said.is(1, "link.lnk: 80 bytes, from 80\na.lnk: 459 bytes, from 459\n", refused);
+    assert_eq!((s.get("cut.lnk"), s.get("loose.lnk"), s.get("a.lnk")), (z()[..79].to_vec(), z(), SAMPLE.to_vec()));
+    assert_eq!(fs::metadata(&loose).unwrap().permissions().mode() & 0o777, 0o640);
+    assert!(fs::symlink_metadata(s.folder.join("link.lnk")).unwrap().is_symlink());
+    assert_eq!(s.number("a.lnk"), untouched);
+    assert_eq!(s.names(), before);
+}
+
+#[test]
+fn rewrite_beside() {
+    let s = Shortcuts::new("rewrite_beside");
+    let said = s.run(&["rewrite", "--suffix", ".new", "loose.lnk", "cut.lnk", "a.lnk"]);
+    assert_eq!(
+        (said.status, text(&said.out)),
+        (1, "loose.lnk.new: 80 bytes, from 80\na.lnk.new: 459 bytes, from 459\n")
+    );
+    assert_eq!((s.get("loose.lnk.new"), s.get("a.lnk.new"), s.get("loose.lnk")[76]), (z(), SAMPLE.to_vec(), 3));
+    assert!(!s.folder.join("cut.lnk.new").exists());
+    let there = "herringnet: a.lnk.new: cannot be written: File exists\n";
+    s.run(&["rewrite", "--suffix", ".new", "a.lnk"]).is(1, "", there);
+    assert_eq!(s.get("a.lnk.new"), SAMPLE);
+}
+
+#[test]
+fn files_that_cannot_be_read_are_passed_over() {
+    let s = Shortcuts::new("unreadable");
+    let missing = "herringnet: none.lnk: cannot be read: No such file or directory\n";
+    let folder = "herringnet: .: cannot be read: Is a directory\n";
+    for command in ["check", "list", "target", "show", "rewrite"] {
+        s.run(&[command, "none.lnk"]).is(1, "", missing);
+    }
+    let said = s.run(&["check", "none.lnk", ".", "z.lnk"]);
+    said.is(1, "z.lnk: ok 80\n", &format!("{}{}", missing, folder));
+    let said = s.run(&["rewrite", "--in-place", "none.lnk", "loose.lnk"]);
+    said.is(1, "loose.lnk: 80 bytes, from 80\n", missing);
+    s.run(&["check", "two\nlines"]).is(1, "", "herringnet: two\\nlines: cannot be read: No such file or directory\n");
+}
+
+#[test]
+fn standard_input_is_a_file_like_others() {
+    let s = Shortcuts::new("standard");
+    s.run_on(&["check"], "a.lnk").is(0, "standard input: ok 459\n", "");
+    s.run_on(&["check", "z.lnk", "-"], "a.lnk").is(0, "z.lnk: ok 80\nstandard input: ok 459\n", "");
+    s.run_on(&["list", "-"], "a.lnk").is(0, SAMPLE_LISTING, "");
+    s.run_on(&["list"], "long.lnk").is(1, "refused 1 65536\n", "");
+    s.run_on(&["target"], "a.lnk").is(0, "C:\\test\\a.txt\n", "");
+    s.run_on(&["show"], "a.lnk").is(0, include_str!("shown/a.txt"), "");
+    assert_eq!(s.run_on(&["rewrite"], "loose.lnk").out, z());
+    assert_eq!(s.run_on(&["rewrite", "--in-place"], "loose.lnk").status, 2);
+    assert_eq!(s.run_on(&["check", "-", "-"], "a.lnk").status, 2);
+    s.run(&["list"]).is(1, "refused 2 0\n", "");
+}
+
+#[test]
+fn names_need_not_be_text() {
+    let s = Shortcuts::new("names");
+    let name = OsStr::from_bytes(b"caf\xE9.lnk");
+    fs::write(s.folder.join(name), z()).unwrap();
+    let said = Said::of(s.command(&["check"]).arg(name).output().unwrap());
+    said.is(0, "caf\u{FFFD}.lnk: ok 80\n", "");
+}
+
+#[test]
+fn no_more_is_read_than_needed() {
+    let s = Shortcuts::new("endless");
+    let endless = Path::new("/dev/zero");
+    let said = Said::of(run_on(&mut s.command(&["list"]), endless));
+    said.is(1, "refused 1 65536\n", "");
+    s.run(&["list", "/dev/zero"]).is(1, "refused 1 65536\n", "");
+}
+
+#[test]
+fn a_closed_pipe_ends_the_run_quietly() {
+    let s = Shortcuts::new("pipe");
+    let mut command = s.command(&["check"]);
+    let mut child = command.stdin(Stdio::piped()).stdout(Stdio::piped()).stderr(Stdio::piped()).spawn().unwrap();
+    drop(child.stdout.take());
+    child.stdin.take().unwrap().write_all(SAMPLE).unwrap();
+    Said::of(child.wait_with_output().unwrap()).is(1, "", "");
+}
+
+#[test]
+fn help_and_version() {
+    let s = Shortcuts::new("help");
+    let version = format!("herringnet {}\n", env!("CARGO_PKG_VERSION"));
+    s.run(&["--version"]).is(0, &version, "");
+    let all = s.run(&["--help"]);
+    assert!(all.status == 0 && all.err.is_empty());
+    for command in ["check", "list", "target", "show", "rewrite"] {
+        assert!(text(&all.out).contains(&format!("\n  {} ", command)));
+        let said = s.run(&[command, "--help"]);
+        assert!(said.status == 0 && text(&said.out).starts_with(&format!("usage: herringnet {}", command)));
+    }
+}
+
+#[test]
+fn words_that_make_no_sense() {
+    let s = Shortcuts::new("usage");
+    let see = "herringnet: see herringnet --help\n";
+    let wrong: [(&[&str], &str); 11] = [
+        (&[], "a command is missing"),
+        (&["frobnicate"], "there is no command frobnicate"),
+        (&["check", "--raw"], "check has no option --raw"),
+        (&["list", "-x", "a.lnk"], "list has no option -x"),
+        (&["rewrite", "-o"], "-o needs a value"),
+        (&["rewrite", "--suffix", "", "a.lnk"], "a suffix is not empty and has no slash"),
+        (&["rewrite", "--suffix", "/x", "a.lnk"], "a suffix is not empty and has no slash"),
+        (&["rewrite", "-o", "x", "a.lnk", "z.lnk"], "-o takes one input"),
+        (&["rewrite", "a.lnk", "z.lnk"], "without --in-place or --suffix there can be one input"),
+        (&["rewrite", "--suffix", ".x"], "--in-place and --suffix need files"),
+        (
+            &["rewrite", "--in-place", "-o", "x", "a.lnk"],
+            "-o, --in-place and --suffix exclude each other, and each may stand once",
+        ),
+    ];
+    for (words, why) in wrong {
+        s.run(words).is(2, "", &format!("herringnet: {}\n{}", why, see));
+    }
+    s.put("-x", &z());
+    s.run(&["check", "--", "-x"]).is(0, "-x: ok 80\n", "");
+}

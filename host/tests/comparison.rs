@@ -1,0 +1,285 @@
+//! The proved library against the independent implementation, on many inputs.
+//! HERRINGNET_INPUTS says how many, HERRINGNET_FIRST the number of the first.
+
+mod disturb;
+mod independent;
+mod inputs;
+
+use herringnet::boundary as proved;
+use independent::{FIELDS, LIMIT};
+use inputs::{Random, Tally};
+
+/// Bytes at each side of an output buffer that no call may touch.
+const GUARD: usize = 16;
+
+#[test]
+fn proved_and_independent_agree() {
+    let count = number_from("HERRINGNET_INPUTS", 100_000);
+    let first = number_from("HERRINGNET_FIRST", 0);
+    let mut comparison = Comparison::new();
+    for number in first..first + count {
+        comparison.input(number);
+    }
+    let (verdicts, tally) = (&comparison.verdicts, &comparison.tally);
+    println!(
+        "{} inputs, {} accepted, refused by number {}; {} calls, refused by number {}",
+        count,
+        verdicts.counts[0],
+        verdicts.refused(),
+        tally.calls,
+        tally.refused()
+    );
+}
+
+#[test]
+fn both_agree_on_the_printed_examples() {
+    let file = from_hex(include_str!("examples/file.hex"));
+    let printed = from_hex(include_str!("examples/disassembly.hex"));
+    let mut mended = printed.clone();
+    mended[5] = 0x14;
+    let mut with_icon = mended.clone();
+    with_icon[20] = 0x7F;
+    let mut comparison = Comparison::new();
+    for shortcut in [file, printed, mended, with_icon] {
+        for number in 0..200 {
+            comparison.compare(number, &shortcut);
+        }
+    }
+    assert_eq!(comparison.verdicts.counts[..4], [400, 0, 200, 200]);
+}
+
+fn from_hex(text: &str) -> Vec<u8> {
+    text.split_whitespace().map(|byte| u8::from_str_radix(byte, 16).unwrap()).collect()
+}
+
+fn number_from(variable: &str, otherwise: u64) -> u64 {
+    match std::env::var(variable) {
+        Ok(text) => text.parse().expect("a number is wanted"),
+        Err(_) => otherwise,
+    }
+}
+
+struct Comparison {
+    number: u64,
+    /// Of all calls.
+    tally: Tally,
+    /// Of the first check of each input.
+    verdicts: Tally,
+    proved_out: Vec<u8>,
+    independent_out: Vec<u8>,
+}
+
+/// What is written: the numbers of a record and its body buffer.
+struct Writing<'a> {
+    fields: &'a [u64],
+    body: &'a [u8],
+}
+
+impl Comparison {
+    fn new() -> Comparison {
+        let room = LIMIT + 1000;
+        Comparison {
+            number: 0,
+            tally: Tally::default(),
+            verdicts: Tally::default(),
+            proved_out: vec![0; room],
+            independent_out: vec![0; room],
+        }
+    }
+
+    fn input(&mut self, number: u64) {
+        let shortcut = inputs::input(number);
+        self.compare(number, &shortcut);
+    }
+
+    /// All calls on one shortcut; its number decides which rooms and disturbances it gets.
+    fn compare(&mut self, number: u64, shortcut: &[u8]) {
+        self.number = number;
+        let mut random = inputs::random_of(!number);
+        let answer = self.check(shortcut);
+        self.verdicts.add(answer);
+        self.read(shortcut, &mut random);
+        self.sections(shortcut, &mut random);
+        self.target(shortcut, &mut random);
+        if answer & 0xFF != 0 {
+            return;
+        }
+        let record = independent::read(shortcut).unwrap();
+        let fields = record.to_fields();
+        self.write(&Writing { fields: &fields, body: shortcut }, &mut random);
+        let long = shortcut.len() > 20_000;
+        for _ in 0..if long { 1 } else { random.from_to(1, 3) } {
+            let (fields, body) = disturb::disturbed(&fields, shortcut, &mut random);
+            self.write(&Writing { fields: &fields, body: &body }, &mut random);
+        }
+    }
+
+    fn agree(&mut self, call: &str, proved: u64, independent: u64, given: &dyn Fn() -> String) {
+        self.tally.add(independent);
+        if proved != independent {
+            self.differ(call, &format!("proved {} independent {}", show(proved), show(independent)), given);
+        }
+    }
+
+    fn differ(&self, call: &str, what: &str, given: &dyn Fn() -> String) -> ! {
+        panic!("input {}: {}: {}\n{}", self.number, call, what, given());
+    }
+
+    fn check(&mut self, shortcut: &[u8]) -> u64 {
+        let independent = independent::boundary_check(shortcut);
+        self.agree("check", proved::check(shortcut), independent, &|| hex(shortcut));
+        independent
+    }
+
+    fn read(&mut self, shortcut: &[u8], random: &mut Random) {
+        let count = match random.below(16) {
+            0 => random.pick(&[0, 1, FIELDS - 1, FIELDS + 1]),
+            _ => FIELDS,
+        };
+        let mut proved_fields = [0x5EED_0000_0000_0000 | self.number; FIELDS + 1];
+        let mut independent_fields = proved_fields;
+        let proved = proved::read(shortcut, &mut proved_fields[..count]);
+        let independent = independent::boundary_read(shortcut, &mut independent_fields[..count]);
+        self.agree("read", proved, independent, &|| hex(shortcut));
+        if proved_fields != independent_fields {
+            let what = format!("{:?}\n{:?}", proved_fields, independent_fields);
+            self.differ("fields read", &what, &|| hex(shortcut));
+        }
+    }
+
+    fn sections(&mut self, shortcut: &[u8], random: &mut Random) {
+        let listed = independent::sections(shortcut).unwrap_or_default();
+        self.listed_end_to_end(&listed, shortcut);
+        let blocks = listed.iter().filter(|section| section.0 == 8).count();
+        if random.chance(20) && shortcut.len() < 20_000 && !listed.is_empty() {
+            for name in 0..=10 {
+                self.section(shortcut, name, random.below(2));
+            }
+            for block in 0..blocks.min(4) {
+                self.section(shortcut, 8, block);
+            }
+        }
+        self.section(shortcut, random.below(10) as u32, 0);
+        let block = random.pick(&[0, blocks.saturating_sub(1), blocks, blocks + 1, usize::MAX]);
+        self.section(shortcut, 8, block);
+        if random.chance(10) {
+            self.section(shortcut, random.pick(&[10, 11, 256, 264, u32::MAX]), 0);
+        }
+    }
+
+    fn section(&mut self, shortcut: &[u8], name: u32, block: usize) {
+        let proved = proved::section(shortcut, name, block);
+        let independent = independent::boundary_section(shortcut, name, block);
+        let given = || format!("name {} block {}\n{}", name, block, hex(shortcut));
+        self.agree("section", proved, independent, &given);
+    }
+
+    fn listed_end_to_end(&self, listed: &[(u8, usize, usize)], shortcut: &[u8]) {
+        let mut end = 0;
+        for (_, start, length) in listed {
+            assert_eq!(*start, end, "input {}: a section's start", self.number);
+            end += length;
+        }
+        assert!(listed.is_empty() || end == shortcut.len(), "input {}: lengths", self.number);
+    }
+
+    fn target(&mut self, shortcut: &[u8], random: &mut Random) {
+        let mut scratch = std::mem::take(&mut self.independent_out);
+        let answer = independent::boundary_target(shortcut, &mut scratch);
+        self.independent_out = scratch;
+        let rooms = rooms_about(answer, random);
+        for room in rooms {
+            self.with_room("target", room, &|| hex(shortcut), &|out| {
+                (proved::target(shortcut, &mut *out.0), independent::boundary_target(shortcut, out.1))
+            });
+            if answer & 0xFF != 0 {
+                break;
+            }
+        }
+    }
+
+    fn write(&mut self, writing: &Writing, random: &mut Random) {
+        let mut scratch = std::mem::take(&mut self.independent_out);
+        let answer = independent::boundary_write(writing.fields, writing.body, &mut scratch);
+        self.independent_out = scratch;
+        let given = || format!("{:?}\n{}", writing.fields, hex(writing.body));
+        for room in rooms_about(answer, random) {
+            let answer = self.with_room("write", room, &given, &|out| {
+                let proved = proved::write(writing.fields, writing.body, &mut *out.0);
+                (proved, independent::boundary_write(writing.fields, writing.body, out.1))
+            });
+            if answer & 0xFF == 0 {
+                self.reads_back(writing, (answer >> 8) as usize, &given);
+            }
+            if ![0, 12].contains(&(answer & 0xFF)) {
+                break;
+            }
+        }
+    }
+
+    /// What was written reads as the same record, on both sides.
+    fn reads_back(&mut self, writing: &Writing, length: usize, given: &dyn Fn() -> String) {
+        let written = self.independent_out[GUARD..GUARD + length].to_vec();
+        let record = independent::Record::from_fields(writing.fields).unwrap();
+        match independent::read(&written) {
+            Ok(again) if record.same(writing.body, &again, &written) => {}
+            _ => self.differ("write", "reads back otherwise", given),
+        }
+        let mut fields = [0; FIELDS];
+        let proved = proved::read(&written, &mut fields);
+        let mut expected = [0; FIELDS];
+        let independent = independent::boundary_read(&written, &mut expected);
+        self.agree("read of written", proved, independent, given);
+        if fields != expected {
+            self.differ("read of written", &format!("{:?}\n{:?}", fields, expected), given);
+        }
+    }
+
+    /// Both sides on buffers of this room, filled alike and compared whole.
+    fn with_room(
+        &mut self,
+        call: &str,
+        room: usize,
+        given: &dyn Fn() -> String,
+        both: &dyn Fn((&mut [u8], &mut [u8])) -> (u64, u64),
+    ) -> u64 {
+        let fill = (self.number % 255) as u8 + 1;
+        let whole = room + 2 * GUARD;
+        self.proved_out[..whole].fill(fill);
+        self.independent_out[..whole].fill(fill);
+        let (proved, independent) =
+            both((&mut self.proved_out[GUARD..GUARD + room], &mut self.independent_out[GUARD..GUARD + room]));
+        let given = || format!("room {}\n{}", room, given());
+        self.agree(call, proved, independent, &given);
+        if self.proved_out[..whole] != self.independent_out[..whole] {
+            let outs = [&self.proved_out[..whole], &self.independent_out[..whole]].map(hex);
+            self.differ(call, &format!("bytes differ\n{}\n{}", outs[0], outs[1]), &given);
+        }
+        let changed = if independent & 0xFF == 0 { (independent >> 8) as usize } else { 0 };
+        let rest = &self.independent_out[GUARD + changed..whole];
+        if rest.iter().any(|&byte| byte != fill) {
+            self.differ(call, "bytes changed after the length", &given);
+        }
+        independent
+    }
+}
+
+/// Rooms of interest for a call that gave this answer with room enough.
+fn rooms_about(answer: u64, random: &mut Random) -> [usize; 2] {
+    let length = if answer & 0xFF == 0 { (answer >> 8) as usize } else { 0 };
+    let short = random.pick(&[0, length.saturating_sub(1), length.saturating_sub(1), length / 2]);
+    let enough = random.pick(&[length, length, length + 1, length + 37]);
+    if random.chance(50) {
+        [short, enough]
+    } else {
+        [enough, short]
+    }
+}
+
+fn show(answer: u64) -> String {
+    format!("{} with {}", answer & 0xFF, answer >> 8)
+}
+
+fn hex(bytes: &[u8]) -> String {
+    bytes.iter().map(|byte| format!("{:02x}", byte)).collect()
+}

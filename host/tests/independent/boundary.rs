@@ -1,0 +1,49 @@
+//! The calls as the C boundary gives them: number + 256 x value.
+
+use super::{check, section, target, walk, write, Record, Refusal, FIELDS};
+
+pub const WRONG_COUNT: u64 = 201;
+pub const NO_RECORD: u64 = 202;
+
+fn answer(result: Result<usize, Refusal>) -> u64 {
+    match result {
+        Ok(length) => 256 * length as u64,
+        Err(refusal) => u64::from(refusal.number) + 256 * refusal.position as u64,
+    }
+}
+
+pub fn boundary_check(shortcut: &[u8]) -> u64 {
+    answer(check(shortcut))
+}
+
+pub fn boundary_target(shortcut: &[u8], out: &mut [u8]) -> u64 {
+    answer(target(shortcut, out))
+}
+
+pub fn boundary_section(shortcut: &[u8], name: u32, block: usize) -> u64 {
+    let (place, length) = section(shortcut, name, block);
+    256 * (place as u64 + 65_537 * length as u64)
+}
+
+pub fn boundary_read(shortcut: &[u8], fields: &mut [u64]) -> u64 {
+    let fields: &mut [u64; FIELDS] = match fields.try_into() {
+        Ok(fields) => fields,
+        Err(_) => return WRONG_COUNT,
+    };
+    let mut record = Record::default();
+    let result = walk(shortcut, &mut record);
+    if result.is_ok() {
+        record.put_fields(fields);
+    }
+    answer(result)
+}
+
+pub fn boundary_write(fields: &[u64], body: &[u8], out: &mut [u8]) -> u64 {
+    if fields.len() != FIELDS {
+        return WRONG_COUNT;
+    }
+    match Record::from_fields(fields) {
+        Some(record) => answer(write(&record, body, out)),
+        None => NO_RECORD,
+    }
+}

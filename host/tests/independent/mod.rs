@@ -1,0 +1,364 @@
+//! A reader and writer of shortcuts in plain Rust, made from the rules alone,
+//! for the proved library to be compared with and timed against.
+
+#![allow(dead_code)]
+
+mod boundary;
+mod info;
+mod record;
+mod writer;
+
+pub use boundary::*;
+pub use record::*;
+pub use writer::write;
+
+pub const LIMIT: usize = 65_536;
+pub const HEADER_LENGTH: usize = 76;
+
+pub const LONG: u8 = 1;
+pub const CUT: u8 = 2;
+pub const MAGIC: u8 = 3;
+pub const HEAD: u8 = 4;
+pub const ITEMS: u8 = 5;
+pub const INFO: u8 = 6;
+pub const PIECE: u8 = 7;
+pub const BLOCK: u8 = 8;
+pub const TRAIL: u8 = 9;
+pub const PLACE: u8 = 10;
+pub const UNWRITABLE: u8 = 11;
+pub const ROOM: u8 = 12;
+pub const NOTARGET: u8 = 13;
+
+pub const SECTION_HEADER: u8 = 0;
+pub const SECTION_ITEMS: u8 = 1;
+pub const SECTION_INFO: u8 = 2;
+pub const SECTION_NAME: u8 = 3;
+pub const SECTION_ICON: u8 = 7;
+pub const SECTION_BLOCK: u8 = 8;
+pub const SECTION_END: u8 = 9;
+
+/// Header size and class identifier.
+const MAGIC_BYTES: [u8; 20] = [0x4C, 0, 0, 0, 0x01, 0x14, 0x02, 0, 0, 0, 0, 0, 0xC0, 0, 0, 0, 0, 0, 0, 0x46];
+
+#[derive(Clone, Copy, PartialEq, Eq, Debug)]
+pub struct Refusal {
+    pub number: u8,
+    pub position: usize,
+}
+
+impl Refusal {
+    fn at(position: usize) -> impl Fn(u8) -> Refusal {
+        move |number| Refusal { number, position }
+    }
+}
+
+/// What a walk over a shortcut passes by, in file order.
+trait Visit {
+    fn header(&mut self, _header: &Header) {}
+    fn section(&mut self, _name: u8, _start: usize, _length: usize) {}
+    fn info(&mut self, _info: &Info) {}
+    fn blocks(&mut self, _body: Body) {}
+}
+
+struct Nothing;
+
+impl Visit for Nothing {}
+
+impl Visit for Record {
+    fn header(&mut self, header: &Header) {
+        self.header = *header;
+    }
+
+    fn section(&mut self, name: u8, start: usize, length: usize) {
+        match name {
+            SECTION_ITEMS => self.items = Body::new(start + 2, length - 4),
+            SECTION_NAME..=SECTION_ICON => {
+                self.strings[usize::from(name - SECTION_NAME)] = Body::new(start + 2, length - 2)
+            }
+            _ => {}
+        }
+    }
+
+    fn info(&mut self, info: &Info) {
+        self.info = *info;
+    }
+
+    fn blocks(&mut self, body: Body) {
+        self.blocks = body;
+    }
+}
+
+pub fn check(shortcut: &[u8]) -> Result<usize, Refusal> {
+    walk(shortcut, &mut Nothing)
+}
+
+pub fn read(shortcut: &[u8]) -> Result<Record, Refusal> {
+    let mut record = Record::default();
+    walk(shortcut, &mut record)?;
+    Ok(record)
+}
+
+struct Listing(Vec<(u8, usize, usize)>);
+
+impl Visit for Listing {
+    fn section(&mut self, name: u8, start: usize, length: usize) {
+        self.0.push((name, start, length));
+    }
+}
+
+/// Name, start and length of every section, as the listing shows them.
+pub fn sections(shortcut: &[u8]) -> Result<Vec<(u8, usize, usize)>, Refusal> {
+    let mut listing = Listing(Vec::new());
+    walk(shortcut, &mut listing)?;
+    Ok(listing.0)
+}
+
+struct Wanted {
+    name: u32,
+    block: usize,
+    passed: usize,
+    found: (usize, usize),
+}
+
+impl Visit for Wanted {
+    fn section(&mut self, name: u8, start: usize, length: usize) {
+        if u32::from(name) != self.name {
+            return;
+        }
+        if name != SECTION_BLOCK || self.passed == self.block {
+            self.found = (start, length);
+        }
+        self.passed += 1;
+    }
+}
+
+/// Place and length of a section; (0, 0) for an empty one.
+pub fn section(shortcut: &[u8], name: u32, block: usize) -> (usize, usize) {
+    let mut wanted = Wanted { name, block, passed: 0, found: (0, 0) };
+    match walk(shortcut, &mut wanted) {
+        Ok(_) => wanted.found,
+        Err(_) => (0, 0),
+    }
+}
+
+/// The two texts of the target, once the walk has passed LinkInfo.
+#[derive(Default)]
+struct Texts {
+    link_flags: u32,
+    found: Option<[Body; 2]>,
+}
+
+impl Visit for Texts {
+    fn header(&mut self, header: &Header) {
+        self.link_flags = header.link_flags;
+    }
+
+    fn info(&mut self, info: &Info) {
+        self.found = match info.flags {
+            _ if self.link_flags & 0x100 != 0 => None,
+            flags if flags & 1 != 0 => Some([info.local_path, info.suffix]),
+            flags if flags & 2 != 0 => Some([info.network.net_name, info.suffix]),
+            _ => None,
+        };
+    }
+}
+
+pub fn target(shortcut: &[u8], out: &mut [u8]) -> Result<usize, Refusal> {
+    let mut texts = Texts::default();
+    walk(shortcut, &mut texts)?;
+    let refuse = Refusal::at(0);
+    let [first, suffix] = texts.found.ok_or_else(|| refuse(NOTARGET))?;
+    let length = first.length + suffix.length;
+    let room = out.get_mut(..length).ok_or_else(|| refuse(ROOM))?;
+    let (front, back) = room.split_at_mut(first.length);
+    front.copy_from_slice(&shortcut[first.place..first.place + first.length]);
+    back.copy_from_slice(&shortcut[suffix.place..suffix.place + suffix.length]);
+    Ok(length)
+}
+
+/// The window shown.
+pub fn window(show_command: u32) -> u32 {
+    match show_command {
+        3 | 7 => show_command,
+        _ => 1,
+    }
+}
+
+fn walk<V: Visit>(shortcut: &[u8], visit: &mut V) -> Result<usize, Refusal> {
+    if shortcut.len() > LIMIT {
+        return Err(Refusal { number: LONG, position: LIMIT });
+    }
+    let header = read_header(shortcut).map_err(Refusal::at(0))?;
+    visit.header(&header);
+    visit.section(SECTION_HEADER, 0, HEADER_LENGTH);
+    let flags = header.link_flags;
+    let mut at = HEADER_LENGTH;
+    if flags & 1 != 0 {
+        let length = item_list(&shortcut[at..]).map_err(Refusal::at(at))?;
+        visit.section(SECTION_ITEMS, at, length);
+        at += length;
+    }
+    if flags & 2 != 0 {
+        let (info, length) = info::read(&shortcut[at..], at).map_err(Refusal::at(at))?;
+        visit.section(SECTION_INFO, at, length);
+        visit.info(&info);
+        at += length;
+    }
+    let width = if flags & 0x80 != 0 { 2 } else { 1 };
+    for name in SECTION_NAME..=SECTION_ICON {
+        if flags >> (name - 1) & 1 != 0 {
+            let length = string(&shortcut[at..], width).map_err(Refusal::at(at))?;
+            visit.section(name, at, length);
+            at += length;
+        }
+    }
+    walk_blocks(shortcut, at, visit)
+}
+
+fn read_header(shortcut: &[u8]) -> Result<Header, u8> {
+    let bytes = shortcut.get(..HEADER_LENGTH).ok_or(CUT)?;
+    if bytes[..20] != MAGIC_BYTES {
+        return Err(MAGIC);
+    }
+    let header = Header {
+        link_flags: u32_at(bytes, 20),
+        file_attributes: u32_at(bytes, 24),
+        creation_time: u64_at(bytes, 28),
+        access_time: u64_at(bytes, 36),
+        write_time: u64_at(bytes, 44),
+        file_size: u32_at(bytes, 52),
+        icon_index: u32_at(bytes, 56) as i32,
+        show_command: u32_at(bytes, 60),
+        hot_key: u16_at(bytes, 64),
+    };
+    if header.follows_rules() && bytes[66..] == [0; 10] {
+        Ok(header)
+    } else {
+        Err(HEAD)
+    }
+}
+
+/// The length of an item list with its size field.
+fn item_list(rest: &[u8]) -> Result<usize, u8> {
+    let size = usize::from(u16_at(rest.get(..2).ok_or(CUT)?, 0));
+    let list = rest.get(2..2 + size).ok_or(CUT)?;
+    if ends_items(list) {
+        Ok(2 + size)
+    } else {
+        Err(ITEMS)
+    }
+}
+
+/// Items and then two zero bytes, exactly at the end.
+fn ends_items(list: &[u8]) -> bool {
+    list.ends_with(&[0, 0]) && are_items(&list[..list.len() - 2])
+}
+
+fn are_items(body: &[u8]) -> bool {
+    let mut rest = body;
+    while let [low, high, ..] = *rest {
+        let size = usize::from(u16::from_le_bytes([low, high]));
+        if size < 2 {
+            return false;
+        }
+        match rest.get(size..) {
+            Some(next) => rest = next,
+            None => return false,
+        }
+    }
+    rest.is_empty()
+}
+
+/// The length of a string with its count.
+fn string(rest: &[u8], width: usize) -> Result<usize, u8> {
+    let count = usize::from(u16_at(rest.get(..2).ok_or(CUT)?, 0));
+    let length = 2 + count * width;
+    if length > rest.len() {
+        return Err(CUT);
+    }
+    Ok(length)
+}
+
+fn walk_blocks<V: Visit>(shortcut: &[u8], start: usize, visit: &mut V) -> Result<usize, Refusal> {
+    let mut at = start;
+    loop {
+        let rest = &shortcut[at..];
+        let size = u32_at(rest.get(..4).ok_or_else(|| Refusal::at(at)(CUT))?, 0) as usize;
+        if size < 4 {
+            break;
+        }
+        judge_block(rest, size).map_err(Refusal::at(at))?;
+        visit.section(SECTION_BLOCK, at, size);
+        at += size;
+    }
+    let end = at + 4;
+    if end < shortcut.len() {
+        return Err(Refusal { number: TRAIL, position: end });
+    }
+    visit.blocks(Body::new(start, at - start));
+    visit.section(SECTION_END, at, 4);
+    Ok(end)
+}
+
+/// A block of this size, not the terminal one, at the start of the rest.
+#[inline(always)]
+fn judge_block(rest: &[u8], size: usize) -> Result<(), u8> {
+    if size < 8 {
+        return Err(BLOCK);
+    }
+    let block = rest.get(..size).ok_or(CUT)?;
+    if fits_signature(block) {
+        Ok(())
+    } else {
+        Err(BLOCK)
+    }
+}
+
+#[inline(always)]
+fn fits_signature(block: &[u8]) -> bool {
+    let size = block.len();
+    match u32_at(block, 4) {
+        0xA000_0001 | 0xA000_0006 | 0xA000_0007 => size == 0x314 && texts_end(block),
+        0xA000_0002 => size == 0xCC,
+        0xA000_0003 => size == 0x60,
+        0xA000_0004 => size == 0x0C,
+        0xA000_0005 => size == 0x10,
+        0xA000_0008 => size >= 0x88,
+        0xA000_0009 => size >= 0x0C,
+        0xA000_000B => size == 0x1C,
+        0xA000_000C => size >= 0x0A && ends_items(&block[8..]),
+        _ => true,
+    }
+}
+
+fn texts_end(block: &[u8]) -> bool {
+    block[8..268].contains(&0) && block[268..788].chunks_exact(2).any(|unit| unit == [0, 0])
+}
+
+/// Blocks end to end, none of them terminal.
+fn are_blocks(body: &[u8]) -> bool {
+    let mut rest = body;
+    while rest.len() >= 4 {
+        let size = u32_at(rest, 0) as usize;
+        if judge_block(rest, size).is_err() {
+            return false;
+        }
+        rest = &rest[size..];
+    }
+    rest.is_empty()
+}
+
+#[inline]
+fn u16_at(bytes: &[u8], at: usize) -> u16 {
+    u16::from_le_bytes(bytes[at..at + 2].try_into().unwrap())
+}
+
+#[inline]
+fn u32_at(bytes: &[u8], at: usize) -> u32 {
+    u32::from_le_bytes(bytes[at..at + 4].try_into().unwrap())
+}
+
+#[inline]
+fn u64_at(bytes: &[u8], at: usize) -> u64 {
+    u64::from_le_bytes(bytes[at..at + 8].try_into().unwrap())
+}
