@@ -3,6 +3,9 @@ use crate::refusal::{answer, Refusal};
 use crate::{boundary, check};
 use std::fmt;
 
+/// How many bytes the terminal block has.
+const TERMINAL: usize = 4;
+
 /// The name of a section, in the order of the listing.
 #[derive(Clone, Copy, Debug, PartialEq, Eq, Hash)]
 pub enum SectionName {
@@ -97,15 +100,29 @@ pub fn section(shortcut: &[u8], name: SectionName, block: usize) -> Option<Secti
 ///
 /// The verdict of [`check`], where that is a refusal.
 pub fn sections(shortcut: &[u8]) -> Result<Vec<Section<'_>>, Refusal> {
-    check(shortcut)?;
+    let length = check(shortcut)?;
     let mut found = Vec::new();
     for name in SectionName::ALL {
         match name {
-            Block => found.extend((0..).map_while(|number| section(shortcut, name, number))),
+            Block => found.extend(blocks(shortcut, found.iter().map(Section::length).sum(), length - TERMINAL)),
             _ => found.extend(section(shortcut, name, 0)),
         }
     }
     Ok(found)
+}
+
+/// The blocks of an accepted shortcut from one place to another. Each begins with its own length; to ask for them one
+/// by one would read the shortcut once for each.
+fn blocks(shortcut: &[u8], from: usize, to: usize) -> impl Iterator<Item = Section<'_>> {
+    let mut start = from;
+    std::iter::from_fn(move || {
+        let size = shortcut.get(start..to)?.get(..4)?;
+        let length = u32::from_le_bytes([size[0], size[1], size[2], size[3]]) as usize;
+        let bytes = shortcut.get(start..start + length)?;
+        let block = Section { name: Block, start, bytes };
+        start += length;
+        Some(block)
+    })
 }
 
 /// The listing of document 01: a line of `ok` and the length, then a line per section of name, start and length.

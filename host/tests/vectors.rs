@@ -1,5 +1,5 @@
 //! The rows of the program `vectors`: the safe calls list and rewrite them as its expected output has it.
-use herringnet::{listing, Record};
+use herringnet::{listing, section, sections, Record, SectionName};
 
 const ROWS: &[u8] = include_bytes!("../../crates/vectors/stdin");
 const EXPECTED: &[u8] = include_bytes!("../../crates/vectors/stdout");
@@ -45,4 +45,16 @@ fn rows_are_listed_and_rewritten_as_expected() {
         rest = &rest[shown.len()..];
     }
     assert!(rest.is_empty());
+}
+
+#[test]
+fn listed_sections_are_those_asked_for() {
+    for shortcut in shortcuts() {
+        let mut blocks = 0;
+        for listed in sections(shortcut).unwrap_or_default() {
+            assert_eq!(section(shortcut, listed.name, blocks), Some(listed));
+            blocks += usize::from(listed.name == SectionName::Block);
+        }
+        assert_eq!(section(shortcut, SectionName::Block, blocks), None);
+    }
 }
