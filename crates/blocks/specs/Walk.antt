@@ -2,29 +2,18 @@
 use Prim.Native.Nat.{ℕ, zero, suc, _+_, _≤_}
 use mathlib.Core.Path.{_≡_}
 use mathlib.Core.List.{List, [], _∷_}
-use mathlib.Core.Bool.{Bool, true, false, _||_, cond}
+use mathlib.Core.Bool.{Bool, false}
 use lib.ListN.{length, drop}
-use lib.Dec.{leb, eqb}
 use Rattle.format.specs.declared.Place.{Place}
 use Rattle.format.specs.Tests.{Outcome, got, refused, place, noPlace}
-use Rattle.format.specs.Blocks.{blocks}
+use Rattle.format.specs.Blocks.{blockTable, blocks}
 use Rattle.format.specs.Shortcut.{sum}
 use Rattle.blocks.specs.declared.Walked.{Walked}
 use Rattle.blocks.specs.declared.Walked.the-variants.{Body, Refused}
 
--- a block that is right by its size alone: the table without those that have a rule beyond it
+-- a block that is right by signature and size alone: those that have a rule beyond their size are not
 unfoldable pub plainOk : ℕ → ℕ → Bool
-plainOk signature n =
-    cond (eqb signature 0xA0000001 || eqb signature 0xA0000006 || eqb signature 0xA0000007) false
-    (cond (eqb signature 0xA0000002) (eqb n 0xCC)
-    (cond (eqb signature 0xA0000003) (eqb n 0x60)
-    (cond (eqb signature 0xA0000004) (eqb n 0x0C)
-    (cond (eqb signature 0xA0000005) (eqb n 0x10)
-    (cond (eqb signature 0xA0000008) (leb 0x88 n)
-    (cond (eqb signature 0xA0000009) (leb 0x0C n)
-    (cond (eqb signature 0xA000000B) (eqb n 0x1C)
-    (cond (eqb signature 0xA000000C) false
-    true))))))))
+plainOk signature n = blockTable signature n false false
 
 -- all blocks before the terminal as one body, that starts at p
 abbrev pub walkedFrom : ℕ → Outcome (List ℕ) → Walked

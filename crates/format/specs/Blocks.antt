@@ -14,12 +14,11 @@ use Rattle.format.specs.Pieces.{textEnds}
 abbrev pub pathTexts : List ℕ → Bool
 pathTexts b = textEnds false (take 260 (drop 8 b)) && textEnds true (take 520 (drop 268 b))
 
--- b is one block: Signature | Size. Other signatures pass and may repeat; so may known ones
-unfoldable pub blockOk : List ℕ → Bool
-blockOk b =
-    let n = length b in
-    let signature = u32At b 4 in
-    cond (eqb signature 0xA0000001 || eqb signature 0xA0000006 || eqb signature 0xA0000007) (eqb n 0x314 && pathTexts b)
+-- Signature | Size. Of those that have a rule beyond their size it is given what that says: of the three of 0x314, and of the item list.
+-- Other signatures pass and may repeat; so may known ones
+abbrev pub blockTable : ℕ → ℕ → Bool → Bool → Bool
+blockTable signature n paths list =
+    cond (eqb signature 0xA0000001 || eqb signature 0xA0000006 || eqb signature 0xA0000007) paths
     (cond (eqb signature 0xA0000002) (eqb n 0xCC)
     (cond (eqb signature 0xA0000003) (eqb n 0x60)
     (cond (eqb signature 0xA0000004) (eqb n 0x0C)
@@ -27,8 +26,14 @@ blockOk b =
     (cond (eqb signature 0xA0000008) (leb 0x88 n)
     (cond (eqb signature 0xA0000009) (leb 0x0C n)
     (cond (eqb signature 0xA000000B) (eqb n 0x1C)
-    (cond (eqb signature 0xA000000C) (leb 0x0A n && itemList (drop 8 b))
+    (cond (eqb signature 0xA000000C) list
     true))))))))
+
+-- b is one block; at least 0x0A, and from byte 8 an item list without its size field
+unfoldable pub blockOk : List ℕ → Bool
+blockOk b =
+    let n = length b in
+    blockTable (u32At b 4) n (eqb n 0x314 && pathTexts b) (leb 0x0A n && itemList (drop 8 b))
 
 abbrev pub blockSize : List ℕ → ℕ
 blockSize s = u32At s 0

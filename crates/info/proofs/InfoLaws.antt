@@ -15,7 +15,7 @@ use Rattle.format.specs.declared.Info.{Info}
 use Rattle.format.specs.Tests.{Outcome, got, refused, Test, _else_, tests, all, bit}
 use Rattle.format.specs.Pieces.{absentZero, pieceTests, allApart}
 use Rattle.format.specs.Info.{infoSize, infoHead, longHead, hasLocal, hasNetwork, infoPieces, infoRules, infoFields}
-use Rattle.format.proofs.Bools.{or-true, and-true}
+use Rattle.format.proofs.Bools.{or-true, and-true, and-assoc, and-yes}
 use Rattle.format.proofs.Chains.{tests-append, all-pass}
 use Rattle.info.specs.declared.InfoTaken.the-variants.{Got, Refused}
 use Rattle.info.specs.declared.Text.{Text}
@@ -24,7 +24,7 @@ use Rattle.info.specs.declared.NetworkFound.{NetworkFound}
 use Rattle.info.specs.declared.Pieces.{Pieces}
 use Rattle.info.specs.Found.{fieldIf, textFound, volumeFound, networkFound, infoFixed, piecesFound}
 use Rattle.info.specs.Taken.{infoTaken, infoAt}
-use Rattle.info.proofs.TestLaws.{and-assoc, and-one, one-fault, judge, pieces-judged}
+use Rattle.info.proofs.TestLaws.{one-fault, judge, pieces-judged}
 use Rattle.info.proofs.TextLaws.{text-field, zero-field}
 use Rattle.info.proofs.StructLaws.{first-number}
 
@@ -59,7 +59,7 @@ module _ (l : List ℕ) {head : ℕ} (eh : head ≡ u32At l 4) where
       → ((((leb flags 3 && x₁) && x₂) && x₃) && x₄) ≡ all (infoFixed l)
   unfolding infoFixed
   head-passes t ef ea e₁ f₁ e₂ f₂ eb e₃ f₃ e₄ f₄ =
-      rw (← eh, not-false (headFits head (length l)) t, f₁, f₂, f₃, f₄, e₁, e₂, e₃, e₄, zero-field _ (leb 0x24 head) l 28, ea, eb, ef) (simp (and-assoc, and-one))
+      rw (← eh, not-false (headFits head (length l)) t, f₁, f₂, f₃, f₄, e₁, e₂, e₃, e₄, zero-field _ (leb 0x24 head) l 28, ea, eb, ef) (simp (and-assoc, and-yes))
 
 -- ---- the pieces
 
@@ -105,7 +105,7 @@ module _ (p : ℕ) (l : List ℕ) {a : VolumeFound} {b : Text} {c : NetworkFound
       let fs : ((a .ok, a .span) ∷ (b .ok, b .span) ∷ (c .ok, c .span) ∷ (d .ok, d .span) ∷ (e .ok, e .span) ∷ (f .ok, f .span) ∷ []) ≡ map (judge h) (infoPieces l)
       = rw (S .volume, S .local, S .network, S .suffix, S .localUnicode, S .suffixUnicode) in
       let j = pieces-judged h (infoPieces l) fs ef in
-      simp (and-assoc, and-one) (simp (and-assoc, and-one) at (sym j))
+      simp (and-assoc, and-yes) (simp (and-assoc, and-yes) at (sym j))
 
   pub pieces-are : {flags head : ℕ} → flags ≡ u32At l 8 → head ≡ u32At l 4
       → _≡_ {A = Pieces} (record {

@@ -12,14 +12,14 @@ use Rattle.format.specs.declared.Network.{Network}
 use Rattle.format.specs.Tests.{all, bit}
 use Rattle.format.specs.Pieces.{absentZero, pieceTests, allApart}
 use Rattle.format.specs.Network.{hasDevice, networkUnicode, networkHead, networkPieces, networkRules, networkFields, networkPiece, networkAt, noNetwork}
-use Rattle.format.proofs.Bools.{every-out}
+use Rattle.format.proofs.Bools.{every-out, and-assoc, and-yes, and-no}
 use Rattle.format.proofs.Chains.{all-pass}
 use Rattle.info.specs.declared.Text.{Text}
 use Rattle.info.specs.declared.NetworkFound.{NetworkFound}
 use Rattle.info.specs.declared.NetworkRead.{NetworkRead}
 use Rattle.info.specs.declared.NetworkRead.the-variants.{Good, Bad}
 use Rattle.info.specs.Found.{fieldIf, found, textFound, networkFixed, networkIf, networkIn, providerOf, makeNetwork, networkFound}
-use Rattle.info.proofs.TestLaws.{and-assoc, and-one, and-zero, room, all-append, judge, pieces-judged}
+use Rattle.info.proofs.TestLaws.{room, all-append, judge, pieces-judged}
 use Rattle.info.proofs.TextLaws.{text-body, text-field, zero-field}
 use Rattle.info.proofs.StructLaws.{Kind}
 
@@ -31,13 +31,13 @@ module _ (v : List ℕ) {flags name head : ℕ} (ef : flags ≡ u32At v 4) (en :
 
   pub network-short : length v < head → false ≡ all (networkFixed v)
   unfolding networkFixed
-  network-short h = rw (head-fits false (lt-leb head (length v) h), and-zero, and-zero)
+  network-short h = rw (head-fits false (lt-leb head (length v) h), and-no, and-no)
 
   pub network-long : {device x y : Bool} {o₁ o₂ : ℕ} → head ≤ length v → device ≡ bit 0 flags → o₁ ≡ u32At v 12 → x ≡ absentZero device o₁
       → o₂ ≡ fieldIf (ltb 0x14 name) v 24 → y ≡ absentZero device o₂ → (((leb flags 3 && leb 0x14 name) && x) && y) ≡ all (networkFixed v)
   unfolding networkFixed
   network-long h ed e₁ ex e₂ ey =
-      rw (head-fits true (le-leb head (length v) h), ex, ey, e₁, e₂, zero-field _ (ltb 0x14 name) v 24, ed, ef, en) (simp (and-assoc, and-one))
+      rw (head-fits true (le-leb head (length v) h), ex, ey, e₁, e₂, zero-field _ (ltb 0x14 name) v 24, ed, ef, en) (simp (and-assoc, and-yes))
 
 -- a head that passes its tests lies inside
 pub network-room : (v : List ℕ) {fixed : Bool} {name : ℕ} → fixed ≡ all (networkFixed v) → not fixed ≡ false → name ≡ u32At v 8 → ltb 0x14 name ≡ true → 0x1C ≤ length v
@@ -100,7 +100,7 @@ module _ (p : ℕ) (v : List ℕ) {fixed : Bool} (ex : fixed ≡ all (networkFix
         let h : ℕ = networkHead (networkUnicode v) in
         let fs : ((a .ok, a .span) ∷ (b .ok, b .span) ∷ (c .ok, c .span) ∷ (d .ok, d .span) ∷ []) ≡ map (judge h) (networkPieces v)
         = rw (f .net, f .device, f .netUnicode, f .deviceUnicode) in
-        rules-split v ∙ rw (← ex, not-false fixed t, pieces-judged h (networkPieces v) fs ef) (simp (and-assoc, and-one))
+        rules-split v ∙ rw (← ex, not-false fixed t, pieces-judged h (networkPieces v) fs ef) (simp (and-assoc, and-yes))
 
     pub network-read : {flags name kept provider : ℕ} {r : NetworkRead} → flags ≡ u32At v 4 → name ≡ u32At v 8 → kept ≡ u32At v 16 → provider ≡ providerOf flags kept
         → r ≡ networkIf (fourPass a b c d far) (fourFields flags provider (ltb 0x14 name) a b c d) → r ≡ networkIn p v
@@ -111,7 +111,7 @@ module _ (p : ℕ) (v : List ℕ) {fixed : Bool} (ex : fixed ≡ all (networkFix
         go : (k : Bool) → fourPass a b c d far ≡ k → networkIf k (fourFields flags provider (ltb 0x14 name) a b c d) ≡ networkIf k (networkFields p v)
         go true e =
             let h : ℕ = networkHead (networkUnicode v) in
-            let w = every-out (a .ok ∷ b .ok ∷ c .ok ∷ d .ok ∷ far ∷ []) (simp (and-one, ← and-assoc) e) in
+            let w = every-out (a .ok ∷ b .ok ∷ c .ok ∷ d .ok ∷ far ∷ []) (simp (and-yes, ← and-assoc) e) in
             ap Good (rw (
               ep,
               ek,

@@ -11,22 +11,10 @@ use Rattle.format.specs.declared.Place.{Place}
 use Rattle.format.specs.Tests.{Outcome, refused, Test, tests, all, noPlace}
 use Rattle.format.specs.Pieces.{Piece, pieceOk, span, apart, allApart, eachOk, pieceTests}
 use Rattle.format.specs.Writing.{every}
-use Rattle.format.proofs.Bools.{and-true}
+use Rattle.format.proofs.Bools.{and-true, and-assoc, and-yes}
 use Rattle.info.specs.Found.{foundSpan, found}
 
 -- ---- conjunctions
-
-pub and-assoc : (a b c : Bool) → ((a && b) && c) ≡ (a && (b && c))
-and-assoc true b c = refl
-and-assoc false b c = refl
-
-pub and-one : (a : Bool) → (a && true) ≡ a
-and-one true = refl
-and-one false = refl
-
-pub and-zero : (a : Bool) → (a && false) ≡ false
-and-zero true = refl
-and-zero false = refl
 
 pub or-false : (a b : Bool) → (a || b) ≡ false → (a ≡ false) × (b ≡ false)
 or-false true b e = (e, cc)
@@ -82,7 +70,7 @@ spans-found h (x ∷ xs) e =
 -- and where one fails the answer is the same
 pieces-found : (h : ℕ) (xs : List Piece) → all (pieceTests h xs) ≡ (passes (map (judge h) xs) && allApart (spansOf (map (judge h) xs)))
 pieces-found h xs =
-    all-append (eachOk h xs) _ ∙ ap₂ (λ (a b : Bool). a && b) (each-ok h xs) (and-one (allApart (map span xs))) ∙ go (passes (map (judge h) xs)) refl
+    all-append (eachOk h xs) _ ∙ ap₂ (λ (a b : Bool). a && b) (each-ok h xs) (and-yes (allApart (map span xs))) ∙ go (passes (map (judge h) xs)) refl
   where
     go : (b : Bool) → passes (map (judge h) xs) ≡ b → (b && allApart (map span xs)) ≡ (b && allApart (spansOf (map (judge h) xs)))
     go true e = ap allApart (sym (spans-found h xs e))
@@ -96,12 +84,12 @@ pieces-judged h xs p e = pieces-found h xs ∙ rw (e, p)
 
 pub four-apart : (a b c d : Place) {x₁ x₂ x₃ x₄ x₅ x₆ : Bool} → x₁ ≡ apart a b → x₂ ≡ apart a c → x₃ ≡ apart a d → x₄ ≡ apart b c → x₅ ≡ apart b d → x₆ ≡ apart c d
     → (((((x₁ && x₂) && x₃) && x₄) && x₅) && x₆) ≡ allApart (a ∷ b ∷ c ∷ d ∷ [])
-four-apart a b c d e₁ e₂ e₃ e₄ e₅ e₆ = rw (← e₁, ← e₂, ← e₃, ← e₄, ← e₅, ← e₆) (simp (and-assoc, and-one))
+four-apart a b c d e₁ e₂ e₃ e₄ e₅ e₆ = rw (← e₁, ← e₂, ← e₃, ← e₄, ← e₅, ← e₆) (simp (and-assoc, and-yes))
 
 pub six-apart : (a b c d e f : Place) {x₁ x₂ x₃ x₄ x₅ x₆ x₇ x₈ x₉ y : Bool} → x₁ ≡ apart a b → x₂ ≡ apart a c → x₃ ≡ apart a d → x₄ ≡ apart a e → x₅ ≡ apart a f
     → x₆ ≡ apart b c → x₇ ≡ apart b d → x₈ ≡ apart b e → x₉ ≡ apart b f → y ≡ allApart (c ∷ d ∷ e ∷ f ∷ [])
     → (((((((((x₁ && x₂) && x₃) && x₄) && x₅) && x₆) && x₇) && x₈) && x₉) && y) ≡ allApart (a ∷ b ∷ c ∷ d ∷ e ∷ f ∷ [])
-six-apart a b c d e f e₁ e₂ e₃ e₄ e₅ e₆ e₇ e₈ e₉ g = rw (← g, ← e₁, ← e₂, ← e₃, ← e₄, ← e₅, ← e₆, ← e₇, ← e₈, ← e₉) (simp (and-assoc, and-one))
+six-apart a b c d e f e₁ e₂ e₃ e₄ e₅ e₆ e₇ e₈ e₉ g = rw (← g, ← e₁, ← e₂, ← e₃, ← e₄, ← e₅, ← e₆, ← e₇, ← e₈, ← e₉) (simp (and-assoc, and-yes))
 
 -- ---- a piece that was found
 

@@ -13,13 +13,13 @@ use Rattle.format.specs.declared.Volume.{Volume}
 use Rattle.format.specs.Tests.{all}
 use Rattle.format.specs.Pieces.{pieceOk, textPiece}
 use Rattle.format.specs.Volume.{labelUnicode, labelLeast, labelOf, volumeRules, volumeFields, volumeAt, volumePiece, noVolume}
-use Rattle.format.proofs.Bools.{or-true}
+use Rattle.format.proofs.Bools.{or-true, and-yes, and-no}
 use Rattle.info.specs.declared.Text.{Text}
 use Rattle.info.specs.declared.VolumeFound.{VolumeFound}
 use Rattle.info.specs.declared.VolumeRead.{VolumeRead}
 use Rattle.info.specs.declared.VolumeRead.the-variants.{Good, Bad}
 use Rattle.info.specs.Found.{found, labelAt, textFound, makeVolume, volumeFound, volumeIn}
-use Rattle.info.proofs.TestLaws.{and-one, and-zero, or-false, room}
+use Rattle.info.proofs.TestLaws.{or-false, room}
 use Rattle.info.proofs.TextLaws.{text-ok, text-body}
 use Rattle.info.proofs.StructLaws.{Kind}
 
@@ -30,14 +30,14 @@ label-room v {least} u a e h = room 0x14 0x10 u e (ltb-false (length v) least (o
 
 module _ (p : ℕ) (v : List ℕ) {drive least : ℕ} {u : Bool} (ed : drive ≡ u32At v 4) (eu : u ≡ labelUnicode v) (el : least ≡ labelLeast u) where
   rules-are : all (volumeRules v) ≡ (leb drive 6 && (leb least (length v) && pieceOk least (textPiece true u v (labelAt v u))))
-  rules-are = rw (and-one, el, eu, ed)
+  rules-are = rw (and-yes, el, eu, ed)
 
   pub volume-fixed : (ltb 6 drive || ltb (length v) least) ≡ true → Bad ≡ volumeIn p v
   unfolding volumeIn
   volume-fixed h =
       or-true (ltb 6 drive) (ltb (length v) least) h
       (λ i. rw (rules-are, lt-leb drive 6 (ltb-true 6 drive i)))
-      (λ i. rw (rules-are, lt-leb least (length v) (ltb-true (length v) least i), and-zero))
+      (λ i. rw (rules-are, lt-leb least (length v) (ltb-true (length v) least i), and-no))
 
   module _ {o : ℕ} {t : Text} (h : (ltb 6 drive || ltb (length v) least) ≡ false) (eo : o ≡ labelAt v u) (et : t ≡ textFound true u v p least o) where
     rules-text : all (volumeRules v) ≡ t .ok

@@ -1,5 +1,6 @@
 pub mod NumberLaws
 pub mod CharacterLaws
+pub mod AndLaws
 pub mod ChoiceLaws
 pub mod ReadLaws
 pub mod CursorLaws

@@ -7,12 +7,13 @@ use native.Mathlib.Omega.{arith}
 use lib.ListN.{length, take, drop, length-drop}
 use lib.Seq.{drop-drop}
 use lib.Dec.{eqb, leb·suc-suc}
-use borrow.Author.Tests.{lt-ltb, eqb-false, not-true}
+use borrow.Author.Tests.{lt-ltb, eqb-false, not-true, not-false}
 use Rattle.octets.specs.Numbers.{number, numberAt}
 use Rattle.octets.specs.Characters.{bytesOf, units, characters, beforeZero, hasZero, zeroFrom}
-use Rattle.octets.specs.Scans.{scanOn, scanAt, other, others, OthersIn, Passed}
+use Rattle.octets.specs.Scans.{scanOn, scanAt, other, others, Passed}
 use Rattle.octets.specs.declared.Zero.{Zero}
 use Rattle.octets.specs.declared.Zero.the-variants.{After, Nowhere}
+use Rattle.octets.proofs.AndLaws.{and-true, and-assoc, and-yes}
 use Rattle.octets.proofs.CharacterLaws.{bytes-of-add}
 use Rattle.octets.proofs.ChoiceLaws.{cond-first, cond-second}
 
@@ -78,18 +79,6 @@ module _ (u : Bool) (s : List ℕ) (i n : ℕ) {r : Zero} (inv : scanAt u s i n 
 
 -- ---- many characters at once
 
-split : (a b : Bool) → (a && b) ≡ true → (a ≡ true) × (b ≡ true)
-split true b e = (refl, e)
-split false b e = (cc, cc)
-
-regroup : (a b c : Bool) → (a && b && c) ≡ (a && (b && c))
-regroup true b c = refl
-regroup false b c = refl
-
-both : (a : Bool) → (a && true) ≡ a
-both true = refl
-both false = refl
-
 no-bytes : (u : Bool) (i : ℕ) → i + bytesOf u 0 ≡ i
 no-bytes true i = omega arith
 no-bytes false i = omega arith
@@ -105,17 +94,17 @@ unfolding others
 others-more u s i j k e g = rw (e, g) (go k)
   where
     go : (k : ℕ) → (others u s i j && others u s (i + bytesOf u j) k) ≡ others u s i (j + k)
-    go zero = let z : j + 0 ≡ j = omega arith in rw z (both (others u s i j))
+    go zero = let z : j + 0 ≡ j = omega arith in rw z (and-yes (others u s i j))
     go (suc k) =
         let z : j + suc k ≡ suc (j + k) = omega arith in
         let e : i + bytesOf u j + bytesOf u k ≡ i + bytesOf u (j + k) = omega (arith, bytes-of-add u j k) in
-        rw z (sym (regroup (others u s i j) (others u s (i + bytesOf u j) k) (other u s (i + bytesOf u j + bytesOf u k))) ∙ rw (go k, e))
+        rw z (sym (and-assoc (others u s i j) (others u s (i + bytesOf u j) k) (other u s (i + bytesOf u j + bytesOf u k))) ∙ rw (go k, e))
 
 scan-others : (u : Bool) (s : List ℕ) (i n k : ℕ) {r : Zero} → others u s i k ≡ true → i + bytesOf u k ≤ length s → scanAt u s i n ≡ r → scanAt u s (i + bytesOf u k) (n + k) ≡ r
 unfolding others
 scan-others u s i n zero o h e = let z : n + 0 ≡ n = omega arith in rw (no-bytes u i, z) e
 scan-others u s i n (suc k) o h e =
-    let p = split (others u s i k) (other u s (i + bytesOf u k)) o in
+    let p = and-true (others u s i k) (other u s (i + bytesOf u k)) o in
     let m = bytes-of-add u k 1 in
     let z : suc k ≡ k + 1 = omega arith in
     let f : i + bytesOf u k + bytesOf u 1 ≤ length s = let g = rw z at h in omega (arith, g, m) in
@@ -128,16 +117,13 @@ scan-others u s i n (suc k) o h e =
 pub passed-none : (u : Bool) (s : List ℕ) (i : ℕ) → Passed u s i i
 passed-none u s i = record { count = 0; place = sym (no-bytes u i); rest = scan-start u s i }
 
-pub passed-more : (u : Bool) (s : List ℕ) (i r k : ℕ) → Passed u s i r → OthersIn u s r k → Passed u s i (r + bytesOf u k)
-passed-more u s i r k p o =
+pub passed-more : (u : Bool) (s : List ℕ) (i r k : ℕ) {b : Bool} → Passed u s i r → b ≡ others u s r k → not b ≡ false → r + bytesOf u k ≤ length s → Passed u s i (r + bytesOf u k)
+passed-more u s i r k {b = b} p e o h =
     record {
       count = p .count + k;
       place = omega (arith, p .place, bytes-of-add u (p .count) k);
-      rest = scan-others u s r (p .count) k (o .are) (o .inside) (p .rest);
+      rest = scan-others u s r (p .count) k (sym e ∙ not-false b o) h (p .rest);
     }
-
-pub others-in : (u : Bool) (s : List ℕ) (i k : ℕ) {b : Bool} → i + bytesOf u k ≤ length s → b ≡ others u s i k → b ≡ true → OthersIn u s i k
-others-in u s i k h e o = record { inside = h; are = sym e ∙ o }
 
 -- ---- from an answer to the facts
 

@@ -2,8 +2,8 @@
 use mathlib.Core.Path.{_≡_}
 use mathlib.Core.List.{List}
 use mathlib.Core.Bool.{Bool, true, not, cond, _&&_}
-use Prim.Native.Nat.{ℕ, zero, suc, _+_, _≤_}
-use lib.ListN.{length, drop}
+use Prim.Native.Nat.{ℕ, zero, suc, _+_}
+use lib.ListN.{drop}
 use lib.Dec.{eqb}
 use Rattle.octets.specs.Numbers.{numberAt}
 use Rattle.octets.specs.Characters.{bytesOf, characters, beforeZero, hasZero, zeroFrom}
@@ -26,11 +26,6 @@ other u s i = not (eqb (numberAt (bytesOf u 1) s i) 0)
 unfoldable pub others : Bool → List ℕ → ℕ → ℕ → Bool
 others u s i zero = true
 others u s i (suc k) = others u s i k && other u s (i + bytesOf u k)
-
--- k characters stand there, and none is zero
-pub record OthersIn (u : Bool) (s : List ℕ) (i k : ℕ) : Type 0 where
-  pub inside : i + bytesOf u k ≤ length s
-  pub are : others u s i k ≡ true
 
 -- a scan from the place i on may go on from the place r
 pub record Passed (u : Bool) (s : List ℕ) (i r : ℕ) : Type 0 where

@@ -11,9 +11,8 @@ use Rattle.format.specs.declared.Network.{Network}
 use Rattle.format.specs.declared.Info.{Info}
 use Rattle.format.specs.declared.Record.{Record}
 use Rattle.format.specs.Contents.{labelPlace, bodies, allInside}
-use Rattle.format.proofs.Bools.{by-order, joined-every}
+use Rattle.format.proofs.Bools.{by-order, joined-every, and-assoc}
 use Rattle.writable.specs.Bodies.{networkBodies, infoBodies}
-use Rattle.writable.proofs.TestLaws.{and-assoc}
 
 abbrev insideOf : ℕ → Place → Bool
 insideOf n b = leb (b .at + b .len) n

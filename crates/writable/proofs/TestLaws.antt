@@ -6,18 +6,7 @@ use Prim.Native.Nat.{ℕ}
 use lib.Dec.{eqb}
 use borrow.Author.Tests.{eqb-true, eqb-false, eq-eqb, ne-eqb}
 use Rattle.format.specs.Writing.{every}
-
-pub and-assoc : (a b c : Bool) → (a && b && c) ≡ (a && (b && c))
-and-assoc true b c = refl
-and-assoc false b c = refl
-
-pub and-no : (t : Bool) → (t && false) ≡ false
-and-no true = refl
-and-no false = refl
-
-pub and-yes : (t : Bool) → (t && true) ≡ t
-and-yes true = refl
-and-yes false = refl
+use Rattle.format.proofs.Bools.{and-assoc, and-yes}
 
 pub every-last : (bs : List Bool) (b : Bool) → every (bs ++ b ∷ []) ≡ (every bs && b)
 every-last [] b = and-yes b

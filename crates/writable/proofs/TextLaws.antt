@@ -13,7 +13,8 @@ use Rattle.octets.proofs.CharacterLaws.{before-le, characters-fit}
 use Rattle.format.specs.declared.Place.{Place}
 use Rattle.format.specs.Contents.{bytesAt}
 use Rattle.format.specs.Writing.{writableText, writableString}
-use Rattle.writable.proofs.TestLaws.{and-no, and-yes, same-test}
+use Rattle.format.proofs.Bools.{and-no, and-yes}
+use Rattle.writable.proofs.TestLaws.{same-test}
 
 -- ---- the bytes at a place
 

@@ -11,12 +11,12 @@ use Rattle.format.specs.declared.Record.{Record}
 use Rattle.format.specs.Shortcut.{most}
 use Rattle.format.specs.Contents.{bodies, allInside, bodiesOf}
 use Rattle.format.specs.Writing.{every, canonical, writable}
-use Rattle.format.proofs.Bools.{by-order, clash}
+use Rattle.format.proofs.Bools.{by-order, clash, and-no, and-yes}
 use Rattle.canonical.specs.Sizes.{canonicalSize}
 use Rattle.canonical.proofs.FitsLaws.{record-inside, canonical-size}
 use Rattle.writable.specs.Sections.{sectionTests, sectionsWritable}
 use Rattle.writable.specs.Lengths.{capped}
-use Rattle.writable.proofs.TestLaws.{and-no, and-yes, every-last}
+use Rattle.writable.proofs.TestLaws.{every-last}
 use Rattle.writable.proofs.LengthLaws.{count-most, count-back, count-over}
 
 module _ (d : List ℕ) (q : Record) (placed : allInside (length d) (bodies q) ≡ true) where

@@ -1,5 +1,4 @@
-use borrow.Author.Tests.{not-false}
-use Rattle.octets.proofs.ZeroLaws.{passed-none, passed-more, others-in}
+use Rattle.octets.proofs.ZeroLaws.{passed-none, passed-more}
 use Rattle.octets.specs.Scans.{Passed}
 use lib.ListN.{length}
 use mathlib.Core.Bool.{false}
@@ -37,7 +36,7 @@ loop-less c = omega arith
 
 loop-again : tie.Need-loop-again Inv-loop μ-loop
 loop-again c =
-    passed-more _ _ _ _ 16 (c .before .before .before .loop .inv) (others-in _ _ _ 16 (omega arith) (c .before .sixteen-bytes .ensures) (not-false _ (c .if2 .left)))
+    passed-more _ _ _ _ 16 (c .before .before .before .loop .inv) (c .before .sixteen-bytes .ensures) (c .if2 .left) (omega arith)
 
 returns-3 : tie.Need-returns-3 Inv-loop μ-loop
 returns-3 c = c .before .loop .inv
