@@ -130,8 +130,9 @@ enum herringnet_field {
 /* Tests a shortcut by all rules. Success: its length. Refusals: 1 to 9. */
 uint64_t herringnet_check(const uint8_t *shortcut, size_t shortcut_len);
 
-/* Puts the target text, local path or net name and then the suffix, into out. Success: its length. Refusals: as
- * herringnet_check, then NOTARGET, then ROOM. */
+/* Puts the target text into out: local path or net name, and then the suffix; a backslash between them if neither is
+ * empty and the first does not end in one. Success: its length. Refusals: as herringnet_check, then NOTARGET, then
+ * ROOM. */
 uint64_t herringnet_target(const uint8_t *shortcut, size_t shortcut_len, uint8_t *out, size_t out_len);
 
 /* Says where a section stands, all of it as listed: HERRINGNET_START and HERRINGNET_LENGTH of the answer. block is the

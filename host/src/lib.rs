@@ -40,7 +40,8 @@ pub fn check(shortcut: &[u8]) -> Result<usize, Refusal> {
     answer(boundary::check(shortcut))
 }
 
-/// The target text of a shortcut: local path or net name, and then the suffix, as bytes.
+/// The target text of a shortcut: local path or net name, and then the suffix, as bytes; a backslash between them if
+/// neither is empty and the first does not end in one.
 ///
 /// # Errors
 ///
@@ -50,7 +51,8 @@ pub fn check(shortcut: &[u8]) -> Result<usize, Refusal> {
 #[doc = include_str!("../examples/target.rs")]
 /// ```
 pub fn target(shortcut: &[u8]) -> Result<Vec<u8>, Refusal> {
-    // The texts share no byte, so they are never longer than the shortcut; and no more is accepted than the longest.
+    // Texts and terminators share no byte, so even with a separator they are no longer than the shortcut, nor that
+    // than the longest.
     let mut text = vec![0; shortcut.len().min(LONGEST)];
     let length = target_into(shortcut, &mut text)?;
     text.truncate(length);

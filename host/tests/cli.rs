@@ -125,6 +125,8 @@ fn target_prints_the_text() {
     s.run(&["target", "a.lnk"]).is(0, "C:\\test\\a.txt\n", "");
     s.run(&["target", "e.lnk"]).is(0, "C:\\caf<E9> <3C>1>\n", "");
     assert_eq!(s.run(&["target", "--raw", "e.lnk"]).out, b"C:\\caf\xE9 <1>");
+    s.put("network.lnk", &network());
+    s.run(&["target", "network.lnk"]).is(0, "Z:\\<01>\\cc\n", "");
     let refused = "herringnet: z.lnk: refused 13 NOTARGET at 0: it has no target text\n";
     s.run(&["target", "z.lnk", "a.lnk"]).is(1, "a.lnk: C:\\test\\a.txt\n", refused);
     assert_eq!(s.run(&["target", "--raw", "a.lnk", "e.lnk"]).status, 2);

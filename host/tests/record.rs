@@ -227,9 +227,9 @@ fn sections_lie_end_to_end() {
 #[test]
 fn the_target_is_the_local_path_or_the_net_name() {
     let both = record(0b1000_0000_0100 | 1 << 9);
-    assert_eq!(target(&both.to_vec().unwrap()).unwrap(), br"C:\localsuffix");
+    assert_eq!(target(&both.to_vec().unwrap()).unwrap(), br"C:\local\suffix");
     let network = record(0b1000_0000_0100);
-    assert_eq!(target(&network.to_vec().unwrap()).unwrap(), br"\\net\sharesuffix");
+    assert_eq!(target(&network.to_vec().unwrap()).unwrap(), br"\\net\share\suffix");
     let neither = record(0b100).to_vec().unwrap();
     assert_eq!(target(&neither).unwrap_err().fault, Fault::NoTarget);
     let mut hidden = both;

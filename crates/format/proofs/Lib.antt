@@ -18,5 +18,6 @@ pub mod ReadingLaws
 pub mod FoundLaws
 pub mod TypedLaws
 pub mod AcceptedLaws
+pub mod TargetRows
 pub mod Demands
 pub mod ProbeLaws

@@ -1,9 +1,9 @@
 -- Target text.
-use Prim.Native.Nat.{ℕ}
+use Prim.Native.Nat.{ℕ, _-_}
 use mathlib.Core.List.{List, [], _∷_, _++_}
 use mathlib.Core.Bool.{Bool, not, _&&_, _||_, cond}
-use lib.ListN.{length}
-use lib.Dec.{leb}
+use lib.ListN.{length, getD}
+use lib.Dec.{leb, eqb}
 use Rattle.format.specs.declared.Record.{Record}
 use Rattle.format.specs.declared.Verdict.{Verdict}
 use Rattle.format.specs.declared.Fault.the-variants.{Room as ROOM, NoTarget as NOTARGET}
@@ -17,10 +17,23 @@ abbrev pub hasTarget : Record → Bool
 hasTarget r =
     not (bit 8 (r .header .flags)) && bit 1 (r .header .flags) && (bit 0 (r .info .flags) || bit 1 (r .info .flags))
 
+-- One byte 5C is put between the first text and the suffix if the suffix is not empty and the first text is not empty and does not end in 5C
+abbrev pub separated : List ℕ → List ℕ → Bool
+separated first suffix =
+    not (eqb (length suffix) 0) && not (eqb (length first) 0) && not (eqb (getD first (length first - 1) 0) 0x5C)
+
+abbrev pub backslash : List ℕ
+backslash = 0x5C ∷ []
+
+abbrev pub separator : List ℕ → List ℕ → List ℕ
+separator first suffix = cond (separated first suffix) backslash []
+
 -- With LinkInfo bit 0: local path, then suffix, as bytes. Otherwise with bit 1: net name, then suffix
 abbrev pub targetText : List ℕ → Record → List ℕ
 targetText s r =
-    cond (bit 0 (r .info .flags)) (bytesAt s (r .info .local)) (bytesAt s (r .info .network .net)) ++ bytesAt s (r .info .suffix)
+    let first = cond (bit 0 (r .info .flags)) (bytesAt s (r .info .local)) (bytesAt s (r .info .network .net)) in
+    let suffix = bytesAt s (r .info .suffix) in
+    first ++ (separator first suffix ++ suffix)
 
 -- The target call tests as reading does, then 13, then 12
 unfoldable pub target : List ℕ → ℕ → Outcome (List ℕ)

@@ -34,7 +34,7 @@ module _ (s f : List ℕ) where
         (rw n (rw e at c), rw (n, v))
 
     module _ {n : ℕ} (t : g .verdict ≡ Accepted n) where
-      pub read-small : n ≤ 131072
+      pub read-small : n ≤ 131073
       read-small = let v : reading s .verdict ≡ Accepted n = rw e at t in accepted-small v (check-small s)
 
       pub read-filled : {x : List ℕ} → x ≡ fieldsOf (g .held) → (256 * n ≡ readCode s f) × (x ≡ readFields s f)

@@ -22,7 +22,7 @@ use Rattle.format.specs.Blocks.{blockSize, blockTests, blocks}
 use Rattle.format.specs.Shortcut.{most, Section, Sections, found, sectionIf, stringSection, tail, sections, shortcut, recordOf, verdictOf, reading}
 use Rattle.format.specs.Contents.{bytesAt, Contents, placed, contents}
 use Rattle.format.specs.Writing.{every, canonical, writable, writing, writeAnswer}
-use Rattle.format.specs.Target.{hasTarget, targetText, target, targetAnswer}
+use Rattle.format.specs.Target.{hasTarget, separated, backslash, separator, targetText, target, targetAnswer}
 use Rattle.format.proofs.Bools.{and-true, by-order}
 use Rattle.format.proofs.Chains.{Pass}
 use Rattle.format.proofs.BlockLaws.{none-left, the-end, one-more}
@@ -164,25 +164,39 @@ small s = go (leb (length s) most) refl
 body-small : (s : List ℕ) (b : Place) → length (bytesAt s b) ≤ length s
 body-small s b = omega (arith, length-take (b .len) (drop (b .at) s), length-drop (b .at) s)
 
-text-small : (s : List ℕ) (r : Record) → length (targetText s r) ≤ length s + length s
+text-small : (s : List ℕ) (r : Record) → length (targetText s r) ≤ length s + 1 + length s
 text-small s r = go (bit 0 (r .info .flags))
   where
-    go : (b : Bool) → length (cond b (bytesAt s (r .info .local)) (bytesAt s (r .info .network .net)) ++ bytesAt s (r .info .suffix)) ≤ length s + length s
-    go true = omega (arith, length-append (bytesAt s (r .info .local)) (bytesAt s (r .info .suffix)), body-small s (r .info .local), body-small s (r .info .suffix))
-    go false = omega (arith, length-append (bytesAt s (r .info .network .net)) (bytesAt s (r .info .suffix)), body-small s (r .info .network .net), body-small s (r .info .suffix))
+    put : (b : Bool) → length (cond b backslash []) ≤ 1
+    put true = omega arith
+    put false = omega arith
 
--- a target has two texts
-pub target-small : (s out : List ℕ) → answerValue (targetAnswer s out) ≤ 131072
+    either : (a b : Place) → length (bytesAt s a ++ (separator (bytesAt s a) (bytesAt s b) ++ bytesAt s b)) ≤ length s + 1 + length s
+    either a b =
+        let x = bytesAt s a in
+        let y = bytesAt s b in
+        let k : length (separator x y) ≤ 1 = put (separated x y) in
+        omega (arith, length-append x (separator x y ++ y), length-append (separator x y) y, k, body-small s a, body-small s b)
+
+    joined : List ℕ → List ℕ
+    joined first = first ++ (separator first (bytesAt s (r .info .suffix)) ++ bytesAt s (r .info .suffix))
+
+    go : (b : Bool) → length (joined (cond b (bytesAt s (r .info .local)) (bytesAt s (r .info .network .net)))) ≤ length s + 1 + length s
+    go true = either (r .info .local) (r .info .suffix)
+    go false = either (r .info .network .net) (r .info .suffix)
+
+-- a target has two texts and a separator
+pub target-small : (s out : List ℕ) → answerValue (targetAnswer s out) ≤ 131073
 unfolding answerValue targetAnswer target reading
 target-small s out = go (shortcut s) refl
   where
-    either : (w : List ℕ) → length w ≤ 131072 → (a b : Bool) → answerValue (verdictOf (cond a (cond b (got w (length w)) (refused ROOM 0)) (refused NOTARGET 0))) ≤ 131072
+    either : (w : List ℕ) → length w ≤ 131073 → (a b : Bool) → answerValue (verdictOf (cond a (cond b (got w (length w)) (refused ROOM 0)) (refused NOTARGET 0))) ≤ 131073
     either w h true true = h
     either w h true false = omega arith
     either w h false b = omega arith
 
     go : (o : Outcome Sections) → shortcut s ≡ o
-        → answerValue (verdictOf (andThen o (λ c n. tests 0 (hasTarget (recordOf c) else NOTARGET ∷ leb (length (targetText s (recordOf c))) (length out) else ROOM ∷ []) (got (targetText s (recordOf c)) (length (targetText s (recordOf c))))))) ≤ 131072
+        → answerValue (verdictOf (andThen o (λ c n. tests 0 (hasTarget (recordOf c) else NOTARGET ∷ leb (length (targetText s (recordOf c))) (length out) else ROOM ∷ []) (got (targetText s (recordOf c)) (length (targetText s (recordOf c))))))) ≤ 131073
     go (got c n) i =
         let w = shortcut-whole s c n i in
         either (targetText s (recordOf c)) (omega (arith, w .limit, text-small s (recordOf c))) (hasTarget (recordOf c)) (leb (length (targetText s (recordOf c))) (length out))
@@ -191,7 +205,7 @@ target-small s out = go (shortcut s) refl
         let k : q ≤ 65536 = rw i at h in
         omega arith
 
-pub check-small : (s : List ℕ) → answerValue (reading s .verdict) ≤ 131072
+pub check-small : (s : List ℕ) → answerValue (reading s .verdict) ≤ 131073
 check-small s = let h = small s in omega arith
 
 -- what can be written is no longer than a shortcut
@@ -201,14 +215,14 @@ writable-few c e =
     let last = leb (length (canonical c)) most in
     leb-true (length (canonical c)) most (and-true (every (sectionTests c)) last (sym (every-last (sectionTests c) last) ∙ e) .1)
 
-pub write-small : (r : Record) (d out : List ℕ) → answerValue (writeAnswer r d out) ≤ 131072
+pub write-small : (r : Record) (d out : List ℕ) → answerValue (writeAnswer r d out) ≤ 131073
 unfolding answerValue writeAnswer writing
 write-small r d out =
     let w = canonical (contents d r) in
     go w (placed (length d) r) (writable (contents d r)) (leb (length w) (length out)) (λ e. writable-few (contents d r) e)
   where
     go : (w : List ℕ) (a b c : Bool) → (b ≡ true → length w ≤ most)
-        → answerValue (verdictOf (cond a (cond b (cond c (got w (length w)) (refused ROOM 0)) (refused UNWRITABLE 0)) (refused PLACE 0))) ≤ 131072
+        → answerValue (verdictOf (cond a (cond b (cond c (got w (length w)) (refused ROOM 0)) (refused UNWRITABLE 0)) (refused PLACE 0))) ≤ 131073
     go w true true true h = omega (arith, h refl)
     go w true true false h = omega arith
     go w true false c h = omega arith

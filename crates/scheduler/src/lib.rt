@@ -10,7 +10,7 @@ ghost use Rattle.scheduler.specs.Code.{codeOf, sectionCode};
 ghost use Rattle.scheduler.specs.Fields.{readCode, readFields, writeCode, writtenFields};
 
 fn code_of(v: Verdict) -> u64
-    requires { ⌜ answerValue v ≤ 131072 ⌝ }
+    requires { ⌜ answerValue v ≤ 131073 ⌝ }
     ensures { λ r. ⌜ r ≡ codeOf v ⌝ }
 {
     match v {

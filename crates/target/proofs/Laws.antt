@@ -2,12 +2,12 @@
 use mathlib.Core.Path.{_≡_, refl, sym, ap, _∙_}
 use mathlib.Core.List.{List, [], _∷_, _++_}
 use mathlib.Core.Bool.{Bool, true, false, not, cond}
-use Prim.Native.Nat.{ℕ, _+_, _≤_, _<_}
+use Prim.Native.Nat.{ℕ, _+_, _-_, _≤_, _<_}
 use native.Mathlib.Omega.{arith}
-use lib.ListN.{length, drop, length-append, length-drop}
-use lib.Seq.{length-take-le}
+use lib.ListN.{length, take, drop, getD, length-append, length-drop}
+use lib.Seq.{length-take-le, getD-take, getD-drop}
 use lib.Dec.{leb}
-use borrow.Author.Tests.{le-leb, lt-leb, not-true, not-false}
+use borrow.Author.Tests.{le-leb, lt-leb, ne-eqb, not-true, not-false}
 use Rattle.octets.specs.Parts.{part, put}
 use Rattle.octets.proofs.PartLaws.{part-in, put-put, length-put}
 use Rattle.format.specs.declared.Place.{Place}
@@ -21,10 +21,11 @@ use Rattle.format.specs.Tests.{Outcome, got, refused, _else_, tests, bit}
 use Rattle.format.specs.Shortcut.{Sections, shortcut, verdictOf, reading}
 use Rattle.format.specs.Contents.{bytesAt, bodies, allInside, placed}
 use Rattle.format.specs.Writing.{outputOf}
-use Rattle.format.specs.Target.{hasTarget, targetText, target, targetAnswer, targetOutput}
+use Rattle.format.specs.Target.{hasTarget, separated, backslash, separator, targetText, target, targetAnswer, targetOutput}
 use Rattle.format.proofs.PlaceLaws.{all-in}
 use Rattle.format.proofs.AcceptedLaws.{accepted-read, accepted-inside, accepted-present, accepted-limit}
-use Rattle.target.specs.Text.{firstText}
+use Rattle.target.specs.declared.Text.{Text}
+use Rattle.target.specs.Text.{firstText, between, textOf, Stands, textLength, textBytes}
 
 -- ---- where the texts stand
 
@@ -52,13 +53,79 @@ texts-inside s r n e =
 text-length : (s : List ℕ) (b : Place) → b .at + b .len ≤ length s → length (bytesAt s b) ≡ b .len
 text-length s b h = length-take-le (b .len) (drop (b .at) s) (omega (arith, length-drop (b .at) s))
 
-text-is : (s : List ℕ) (r : Record) → targetText s r ≡ bytesAt s (firstText r) ++ bytesAt s (r .info .suffix)
-unfolding firstText
-text-is s r = ap (λ (l : List ℕ). l ++ bytesAt s (r .info .suffix)) (go (bit 0 (r .info .flags)))
+-- ---- the text
+
+-- the separator is as many bytes 5C as are counted
+counted : (first suffix : List ℕ) → take (length (separator first suffix)) backslash ≡ separator first suffix
+counted first suffix = go (separated first suffix)
   where
-    go : (b : Bool) → cond b (bytesAt s (r .info .local)) (bytesAt s (r .info .network .net)) ≡ bytesAt s (cond b (r .info .local) (r .info .network .net))
+    go : (b : Bool) → take (length (cond b backslash [])) backslash ≡ cond b backslash []
     go true = refl
     go false = refl
+
+few : (s : List ℕ) (a b : Place) → between s a b ≤ 1
+few s a b = go (separated (bytesAt s a) (bytesAt s b))
+  where
+    go : (b : Bool) → length (cond b backslash []) ≤ 1
+    go true = omega arith
+    go false = omega arith
+
+text-is : (s : List ℕ) (r : Record) → targetText s r ≡ textBytes s (textOf s r)
+unfolding firstText textOf textBytes
+text-is s r = go (bit 0 (r .info .flags))
+  where
+    suffix : List ℕ
+    suffix = bytesAt s (r .info .suffix)
+
+    joined : List ℕ → List ℕ
+    joined first = first ++ (separator first suffix ++ suffix)
+
+    at : Place → List ℕ
+    at a = bytesAt s a ++ (take (between s a (r .info .suffix)) backslash ++ suffix)
+
+    go : (b : Bool) → joined (cond b (bytesAt s (r .info .local)) (bytesAt s (r .info .network .net))) ≡ at (cond b (r .info .local) (r .info .network .net))
+    go true = rw (counted (bytesAt s (r .info .local)) suffix)
+    go false = rw (counted (bytesAt s (r .info .network .net)) suffix)
+
+-- one law for each way out of the count
+
+module _ (s : List ℕ) (a b : Place) (ha : a .at + a .len ≤ length s) (hb : b .at + b .len ≤ length s) where
+  suffix-long : length (bytesAt s b) ≡ b .len
+  suffix-long = text-length s b hb
+
+  first-long : length (bytesAt s a) ≡ a .len
+  first-long = text-length s a ha
+
+  pub between-no-suffix : b .len ≡ 0 → 0 ≡ between s a b
+  between-no-suffix z = rw (suffix-long ∙ z)
+
+  module _ (suffix : b .len ≡ 0 → ⊥) where
+    pub between-no-first : a .len ≡ 0 → 0 ≡ between s a b
+    between-no-first z = rw (suffix-long, ne-eqb (b .len) 0 suffix, first-long ∙ z)
+
+    module _ (first : a .len ≡ 0 → ⊥) where
+      -- the byte that the code looks at is the last of the text
+      last-is : getD (bytesAt s a) (a .len - 1) 0 ≡ getD s (a .at + a .len - 1) 0
+      last-is =
+          let i : a .at + (a .len - 1) ≡ a .at + a .len - 1 = omega arith in
+          getD-take (a .len) (drop (a .at) s) (a .len - 1) 0 (omega arith) ∙ getD-drop (a .at) s (a .len - 1) 0 ∙ rw i
+
+      pub between-ended : getD s (a .at + a .len - 1) 0 ≡ 0x5C → 0 ≡ between s a b
+      between-ended z = rw (suffix-long, ne-eqb (b .len) 0 suffix, first-long, ne-eqb (a .len) 0 first, last-is ∙ z)
+
+      pub between-one : (getD s (a .at + a .len - 1) 0 ≡ 0x5C → ⊥) → 1 ≡ between s a b
+      between-one z = rw (suffix-long, ne-eqb (b .len) 0 suffix, first-long, ne-eqb (a .len) 0 first, last-is, ne-eqb (getD s (a .at + a .len - 1) 0) 0x5C z)
+
+separator-length : {k : ℕ} → k ≤ 1 → length (take k backslash) ≡ k
+separator-length {k} h = length-take-le k backslash h
+
+text-long : (s : List ℕ) (t : Text) → Stands s t → length (textBytes s t) ≡ textLength t
+unfolding textBytes
+text-long s t h =
+    let p = bytesAt s (t .first) in
+    let q = take (t .between) backslash in
+    let w = bytesAt s (t .suffix) in
+    omega (arith, length-append p (q ++ w), length-append q w, text-length s (t .first) (h .0), separator-length (h .2), text-length s (t .suffix) (h .1))
 
 -- ---- the ways out
 
@@ -89,6 +156,17 @@ module _ (s out : List ℕ) {g : Reading} (e : g ≡ reading s) where
     pub inside : Inside s (g .held)
     inside = texts-inside s (g .held) n accepted
 
+    -- where the code has the text, the numbers are small
+    pub record Found (t : Text) : Type 0 where
+      pub stands : Stands s t
+      pub small : length s ≤ 65536
+
+    pub text-stands : {t : Text} → t ≡ textOf s (g .held) → Found t
+    unfolding textOf
+    text-stands is =
+        let i = inside in
+        rw is (record { stands = (i .first, i .suffix, few s (firstText (g .held)) (g .held .info .suffix)); small = i .small })
+
     -- the target of what was read
     target-is : target s (length out) ≡ tests 0 (hasTarget (g .held) else NOTARGET ∷ leb (length (targetText s (g .held))) (length out) else ROOM ∷ []) (got (targetText s (g .held)) (length (targetText s (g .held))))
     unfolding target
@@ -101,20 +179,12 @@ module _ (s out : List ℕ) {g : Reading} (e : g ≡ reading s) where
           let z : target s (length out) ≡ refused NOTARGET 0 = target-is ∙ rw (sym h ∙ not-true k t) in
           (rw z, rw z)
 
-      module _ (has : not k ≡ false) {a : Place} {m : ℕ} (first : a ≡ firstText (g .held)) (sum : m ≡ a .len + g .held .info .suffix .len) where
-        texts : List ℕ
-        texts = bytesAt s a ++ bytesAt s (g .held .info .suffix)
+      module _ (has : not k ≡ false) {t : Text} {m : ℕ} (is : t ≡ textOf s (g .held)) (sum : m ≡ textLength t) where
+        text-are : targetText s (g .held) ≡ textBytes s t
+        text-are = text-is s (g .held) ∙ rw (← is)
 
-        text-are : targetText s (g .held) ≡ texts
-        unfolding texts
-        text-are = text-is s (g .held) ∙ rw (← first)
-
-        long : length texts ≡ m
-        unfolding texts
-        long =
-            let i = inside in
-            length-append (bytesAt s a) (bytesAt s (g .held .info .suffix))
-            ∙ rw (text-length s a (rw first (i .first)), text-length s (g .held .info .suffix) (i .suffix)) (sym sum)
+        long : length (textBytes s t) ≡ m
+        long = text-long s t (text-stands is .stands) ∙ sym sum
 
         pub target-room : length out < m → (Refused ROOM 0 ≡ targetAnswer s out) × (out ≡ targetOutput s out)
         unfolding targetAnswer targetOutput outputOf
@@ -123,43 +193,50 @@ module _ (s out : List ℕ) {g : Reading} (e : g ≡ reading s) where
             = target-is ∙ rw (text-are, long, sym h ∙ not-false k has, lt-leb m (length out) o) in
             (rw z, rw z)
 
-        pub target-written : {x : List ℕ} → m ≤ length out → x ≡ put out 0 (bytesAt s a ++ bytesAt s (g .held .info .suffix)) → (Accepted m ≡ targetAnswer s out) × (x ≡ targetOutput s out)
-        unfolding targetAnswer targetOutput outputOf texts
+        pub target-written : {x : List ℕ} → m ≤ length out → x ≡ put out 0 (textBytes s t) → (Accepted m ≡ targetAnswer s out) × (x ≡ targetOutput s out)
+        unfolding targetAnswer targetOutput outputOf
         target-written o w =
-            let z : target s (length out) ≡ got texts m
+            let z : target s (length out) ≡ got (textBytes s t) m
             = target-is ∙ rw (text-are, long, sym h ∙ not-false k has, le-leb m (length out) o) in
             (rw z, rw z w)
 
-    -- both texts, where the code has them
-    pub record Texts (a b : Place) : Type 0 where
-      pub first : a .at + a .len ≤ length s
-      pub second : b .at + b .len ≤ length s
-      pub small : length s ≤ 65536
+-- ---- putting the text
 
-    pub texts-stand : {a : Place} → a ≡ firstText (g .held) → Texts a (g .held .info .suffix)
-    texts-stand k = let i = inside in record { first = rw k (i .first); second = i .suffix; small = i .small }
+part-is : (s : List ℕ) (b : Place) {p : List ℕ} → b .at + b .len ≤ length s → p ≡ part s (b .at) (b .len) → p ≡ bytesAt s b
+part-is s b h e = e ∙ sym (part-in s (b .at) (b .len) h)
 
--- ---- putting two parts
+part-long : (s : List ℕ) (b : Place) {p : List ℕ} → b .at + b .len ≤ length s → p ≡ part s (b .at) (b .len) → length p ≡ b .len
+part-long s b h e = ap length (part-is s b h e) ∙ text-length s b h
 
-part-length : (s : List ℕ) (b : Place) {p : List ℕ} → b .at + b .len ≤ length s → p ≡ part s (b .at) (b .len) → length p ≡ b .len
-part-length s b h e = ap length (e ∙ sym (part-in s (b .at) (b .len) h)) ∙ text-length s b h
+separator-is : {k : ℕ} {q : List ℕ} → k ≤ 1 → q ≡ part backslash 0 k → q ≡ take k backslash
+separator-is {k} h e = e ∙ sym (part-in backslash 0 k (omega arith))
 
-module _ (s d : List ℕ) (a b : Place) (ha : a .at + a .len ≤ length s) (hb : b .at + b .len ≤ length s) (room : a .len + b .len ≤ length d) where
-  pub first-fits : {p : List ℕ} → p ≡ part s (a .at) (a .len) → 0 + length p ≤ length d
-  first-fits e = omega (arith, part-length s a ha e)
+module _ (s d : List ℕ) (t : Text) (h : Stands s t) (room : textLength t ≤ length d) where
+  pub first-fits : {p : List ℕ} → p ≡ part s (t .first .at) (t .first .len) → 0 + length p ≤ length d
+  first-fits e = omega (arith, part-long s (t .first) (h .0) e)
 
-  module _ {p x : List ℕ} (ep : p ≡ part s (a .at) (a .len)) (ex : x ≡ put d 0 p) where
-    same : length x ≡ length d
-    same = ap length ex ∙ length-put d 0 p (first-fits ep)
+  module _ {p x : List ℕ} (ep : p ≡ part s (t .first .at) (t .first .len)) (ex : x ≡ put d 0 p) where
+    same-x : length x ≡ length d
+    same-x = ap length ex ∙ length-put d 0 p (first-fits ep)
 
-    pub second-fits : {q : List ℕ} → q ≡ part s (b .at) (b .len) → a .len + length q ≤ length x
-    second-fits e = omega (arith, part-length s b hb e, same)
+    pub between-fits : {q : List ℕ} → q ≡ part backslash 0 (t .between) → t .first .len + length q ≤ length x
+    between-fits {q} e = omega (arith, same-x, ap length (separator-is (h .2) e), separator-length (h .2))
 
-    pub texts-put : {q y : List ℕ} → q ≡ part s (b .at) (b .len) → y ≡ put x (a .len) q → y ≡ put d 0 (bytesAt s a ++ bytesAt s b)
-    texts-put {q} {y} eq ey =
-        let l : length p ≡ a .len = part-length s a ha ep in
-        let m : length q ≡ b .len = part-length s b hb eq in
-        let n : put x (a .len) q ≡ put d 0 (p ++ q) = rw ex (put-put d 0 p q {k = a .len} (omega arith) (omega arith)) in
-        let o : p ≡ bytesAt s a = ep ∙ sym (part-in s (a .at) (a .len) ha) in
-        let r : q ≡ bytesAt s b = eq ∙ sym (part-in s (b .at) (b .len) hb) in
-        ey ∙ n ∙ rw (o, r)
+    module _ {q y : List ℕ} (eq : q ≡ part backslash 0 (t .between)) (ey : y ≡ put x (t .first .len) q) where
+      same-y : length y ≡ length d
+      same-y = ap length ey ∙ length-put x (t .first .len) q (between-fits eq) ∙ same-x
+
+      pub suffix-fits : {w : List ℕ} → w ≡ part s (t .suffix .at) (t .suffix .len) → t .first .len + t .between + length w ≤ length y
+      suffix-fits e = omega (arith, same-y, part-long s (t .suffix) (h .1) e)
+
+      pub text-put : {w z : List ℕ} → w ≡ part s (t .suffix .at) (t .suffix .len) → z ≡ put y (t .first .len + t .between) w → z ≡ put d 0 (textBytes s t)
+      unfolding textBytes
+      text-put {w} {z} ew ez =
+          let lp = part-long s (t .first) (h .0) ep in
+          let lq : length q ≡ t .between = ap length (separator-is (h .2) eq) ∙ separator-length (h .2) in
+          let lw = part-long s (t .suffix) (h .1) ew in
+          let back : put y (t .first .len + t .between) w ≡ put x (t .first .len) (q ++ w)
+          = rw ey (put-put x (t .first .len) q w {k = t .first .len + t .between} (omega (arith, lq)) (omega (arith, same-x, lw))) in
+          let front : put x (t .first .len) (q ++ w) ≡ put d 0 (p ++ (q ++ w))
+          = rw ex (put-put d 0 p (q ++ w) {k = t .first .len} (omega (arith, lp)) (omega (arith, length-append q w, lq, lw))) in
+          ez ∙ back ∙ front ∙ rw (part-is s (t .first) (h .0) ep, separator-is (h .2) eq, part-is s (t .suffix) (h .1) ew)

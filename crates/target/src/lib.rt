@@ -4,13 +4,18 @@ use format::Place;
 use format::Record;
 use format::Verdict;
 ghost use mathlib.Core.Path.{_≡_};
-ghost use mathlib.Core.List.{_++_};
 ghost use Prim.Native.Nat.{_+_, _≤_};
 ghost use lib.ListN.{length};
 ghost use Rattle.octets.specs.Parts.{put};
-ghost use Rattle.format.specs.Contents.{bytesAt};
 ghost use Rattle.format.specs.Target.{hasTarget, targetAnswer, targetOutput};
-ghost use Rattle.target.specs.Text.{firstText};
+ghost use Rattle.target.specs.Text.{firstText, between, textOf, Stands, textLength, textBytes};
+
+// The two texts, and how many separators stand between them.
+struct Text {
+    first: Place,
+    between: usize,
+    suffix: Place,
+}
 
 fn has_target(r: Record) -> bool
     ensures { λ b. ⌜ b ≡ hasTarget r ⌝ }
@@ -30,13 +35,47 @@ fn first_text(r: Record) -> Place
     r.info.network.net
 }
 
-// Two texts that stand in s, one after the other.
-fn put_texts(s: &[u8], a: Place, b: Place, out: &mut [u8])
-    requires { ⌜ (a .at + a .len ≤ length (now s)) × (b .at + b .len ≤ length (now s)) × (a .len + b .len ≤ length (now out)) ⌝ }
-    ensures { λ _. ⌜ now (out .exit) ≡ put (now (out .entry)) 0 (bytesAt (now (s .entry)) a ++ bytesAt (now (s .entry)) b) ⌝ }
+// One separator, or none. Only the end of the first text is looked at.
+fn between(s: &[u8], a: Place, b: Place) -> usize
+    requires { ⌜ (a .at + a .len ≤ length (now s)) × (b .at + b .len ≤ length (now s)) ⌝ }
+    ensures { λ n. ⌜ n ≡ between (now (s .entry)) a b ⌝ }
 {
-    octets::put_bytes(out, 0, octets::part(s, a.at, a.len));
-    octets::put_bytes(out, a.len, octets::part(s, b.at, b.len));
+    if b.len == 0 {
+        return 0;
+    }
+    if a.len == 0 {
+        return 0;
+    }
+    if s[a.at + a.len - 1] == 0x5C {
+        return 0;
+    }
+    1
+}
+
+fn text_of(s: &[u8], r: Record) -> Text
+    requires { ⌜ (firstText r .at + firstText r .len ≤ length (now s)) × (r .info .suffix .at + r .info .suffix .len ≤ length (now s)) ⌝ }
+    ensures { λ t. ⌜ t ≡ textOf (now (s .entry)) r ⌝ }
+{
+    let first = first_text(r);
+    let suffix = r.info.suffix;
+    Text {
+        first,
+        between: between(s, first, suffix),
+        suffix,
+    }
+}
+
+fn put_text(s: &[u8], t: Text, out: &mut [u8])
+    requires { ⌜ Stands (now s) t × (textLength t ≤ length (now out)) ⌝ }
+    ensures { λ _. ⌜ now (out .exit) ≡ put (now (out .entry)) 0 (textBytes (now (s .entry)) t) ⌝ }
+{
+    octets::put_bytes(out, 0, octets::part(s, t.first.at, t.first.len));
+    octets::put_bytes(out, t.first.len, octets::part(b"\\", 0, t.between));
+    octets::put_bytes(
+        out,
+        t.first.len + t.between,
+        octets::part(s, t.suffix.at, t.suffix.len),
+    );
 }
 
 pub fn target(s: &[u8], out: &mut [u8]) -> Verdict
@@ -52,12 +91,11 @@ pub fn target(s: &[u8], out: &mut [u8]) -> Verdict
     if !has_target(r) {
         return Verdict::Refused(Fault::NoTarget, 0);
     }
-    let a = first_text(r);
-    let b = r.info.suffix;
-    let n = a.len + b.len;
+    let t = text_of(s, r);
+    let n = t.first.len + t.between + t.suffix.len;
     if out.len() < n {
         return Verdict::Refused(Fault::Room, 0);
     }
-    put_texts(s, a, b, out);
+    put_text(s, t, out);
     Verdict::Accepted(n)
 }

@@ -163,16 +163,24 @@ impl Visit for Texts {
     }
 }
 
+/// Whether a backslash is put between the two texts: neither is empty, and the first does not end in one.
+fn is_parted(first: &[u8], suffix: &[u8]) -> bool {
+    !suffix.is_empty() && matches!(first.last(), Some(&last) if last != b'\\')
+}
+
 pub fn target(shortcut: &[u8], out: &mut [u8]) -> Result<usize, Refusal> {
     let mut texts = Texts::default();
     walk(shortcut, &mut texts)?;
     let refuse = Refusal::at(0);
-    let [first, suffix] = texts.found.ok_or_else(|| refuse(NOTARGET))?;
-    let length = first.length + suffix.length;
-    let room = out.get_mut(..length).ok_or_else(|| refuse(ROOM))?;
-    let (front, back) = room.split_at_mut(first.length);
-    front.copy_from_slice(&shortcut[first.place..first.place + first.length]);
-    back.copy_from_slice(&shortcut[suffix.place..suffix.place + suffix.length]);
+    let [first, suffix] = texts.found.ok_or_else(|| refuse(NOTARGET))?.map(|body| &shortcut[body.place..body.place + body.length]);
+    let between: &[u8] = if is_parted(first, suffix) { b"\\" } else { b"" };
+    let length = first.len() + between.len() + suffix.len();
+    let mut room = out.get_mut(..length).ok_or_else(|| refuse(ROOM))?;
+    for text in [first, between, suffix] {
+        let (front, back) = room.split_at_mut(text.len());
+        front.copy_from_slice(text);
+        room = back;
+    }
     Ok(length)
 }
 

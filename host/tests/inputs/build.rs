@@ -314,6 +314,7 @@ impl Draft {
         if width == 1 {
             self.random_bytes(random, count);
             self.bytes[start..].iter_mut().filter(|byte| **byte == 0).for_each(|byte| *byte = 0x5C);
+            self.backslash_at_an_end(random, start);
         } else {
             self.bytes.extend((0..count).flat_map(|_| any_unit(random).to_le_bytes()));
         }
@@ -321,6 +322,19 @@ impl Draft {
         let end = self.bytes.len();
         self.set(base + field, 4, start - base);
         self.pieces.push(Piece { field: base + field, base, start, end, terminator: width });
+    }
+
+    /// Often enough that a target's separator is seen to heed one of the two.
+    fn backslash_at_an_end(&mut self, random: &mut Random, start: usize) {
+        let text = &mut self.bytes[start..];
+        let end = match random.below(4) {
+            0 => text.first_mut(),
+            1 => text.last_mut(),
+            _ => None,
+        };
+        if let Some(byte) = end {
+            *byte = 0x5C;
+        }
     }
 
     fn structure(&mut self, info: usize, field: usize, start: usize) {

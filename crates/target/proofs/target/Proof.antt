@@ -1,6 +1,6 @@
-use mathlib.Core.Path.{refl}
-use Rattle.target.proofs.Laws.{target-left, target-none, target-room, target-written, texts-stand}
+use Rattle.target.proofs.Laws.{inside, target-left, target-none, target-room, target-written, text-stands}
 use native.Mathlib.Omega.{arith}
+use mathlib.Core.Path.{refl}
 use borrow.Author.Needs.{needs}
 use Rattle.target.proofs.target.Statement.{statement}
 use Rattle.target.proofs.target.Tie as tie
@@ -24,29 +24,36 @@ returns-2 : tie.Need-returns-2
 returns-2 c =
     target-none _ _ (c .before .before .before .before .before .read .ensures) (c .before .before .before .enum-told .given .1) (c .before .has-target .ensures) (c .if1 .taken)
 
-first-text-requires : tie.Need-first-text-requires
-first-text-requires c κs = search needs
+text-of-requires : tie.Need-text-of-requires
+text-of-requires c κs =
+    let i = inside _ (c .before .before .before .before .before .before .before .before .args .out .now) (c .before .before .before .before .before .read .ensures) (c .before .before .before .enum-told .given .1) in
+    (i .first, i .suffix)
 
 add-n : tie.Need-add-n
 add-n c =
-    let i = texts-stand _ (c .before .before .before .before .before .before .before .before .before .before .before .before .args .out .now) (c .before .before .before .before .before .before .before .before .before .read .ensures) (c .before .before .before .before .before .before .before .enum-told .given .1) (c .before .before .before .first-text .ensures) in
-    omega (arith, i .first, i .second, i .small)
+    let i = text-stands _ (c .before .before .before .before .before .before .before .before .before .before .args .out .now) (c .before .before .before .before .before .before .before .read .ensures) (c .before .before .before .before .before .enum-told .given .1) (c .before .text-of .ensures) in
+    omega (arith, i .stands .0, i .stands .2, i .small)
+
+add-n-2 : tie.Need-add-n-2
+add-n-2 c =
+    let i = text-stands _ (c .before .before .before .before .before .before .before .before .before .before .before .args .out .now) (c .before .before .before .before .before .before .before .before .read .ensures) (c .before .before .before .before .before .before .enum-told .given .1) (c .before .before .text-of .ensures) in
+    omega (arith, i .stands .0, i .stands .1, i .stands .2, i .small)
 
 returns-3 : tie.Need-returns-3
 returns-3 c =
-    target-room _ _ (c .before .before .before .before .before .before .before .before .before .before .read .ensures) (c .before .before .before .before .before .before .before .before .enum-told .given .1) (c .before .before .before .before .before .before .has-target .ensures) (c .before .before .before .before .before .if1 .left) (c .before .before .before .before .first-text .ensures) refl (c .if2 .taken)
+    target-room _ _ (c .before .before .before .before .before .before .before .before .before .read .ensures) (c .before .before .before .before .before .before .before .enum-told .given .1) (c .before .before .before .before .before .has-target .ensures) (c .before .before .before .before .if1 .left) (c .before .before .before .text-of .ensures) refl (c .if2 .taken)
 
-put-texts-requires : tie.Need-put-texts-requires
-put-texts-requires c κs =
-    let i = texts-stand _ (c .before .before .before .before .before .before .before .before .before .before .before .before .before .before .args .out .now) (c .before .before .before .before .before .before .before .before .before .before .before .read .ensures) (c .before .before .before .before .before .before .before .before .before .enum-told .given .1) (c .before .before .before .before .before .first-text .ensures) in
-    (i .first, i .second, omega arith)
+put-text-requires : tie.Need-put-text-requires
+put-text-requires c κs =
+    let i = text-stands _ (c .before .before .before .before .before .before .before .before .before .before .before .before .before .args .out .now) (c .before .before .before .before .before .before .before .before .before .before .read .ensures) (c .before .before .before .before .before .before .before .before .enum-told .given .1) (c .before .before .before .before .text-of .ensures) in
+    (i .stands, omega arith)
 
 same-length : tie.Need-same-length
 same-length c = search needs
 
 returns-4 : tie.Need-returns-4
 returns-4 c =
-    target-written _ _ (c .before .before .before .before .before .before .before .before .before .before .before .before .before .before .read .ensures) (c .before .before .before .before .before .before .before .before .before .before .before .before .enum-told .given .1) (c .before .before .before .before .before .before .before .before .before .before .has-target .ensures) (c .before .before .before .before .before .before .before .before .before .if1 .left) (c .before .before .before .before .before .before .before .before .first-text .ensures) refl (omega arith) (c .before .before .put-texts .ensures)
+    target-written _ _ (c .before .before .before .before .before .before .before .before .before .before .before .before .before .read .ensures) (c .before .before .before .before .before .before .before .before .before .before .before .enum-told .given .1) (c .before .before .before .before .before .before .before .before .before .has-target .ensures) (c .before .before .before .before .before .before .before .before .if1 .left) (c .before .before .before .before .before .before .before .text-of .ensures) refl (omega arith) (c .before .before .put-text .ensures)
 
 pub target-spec : {M : Type 1} → statement M
 target-spec =
@@ -58,9 +65,10 @@ target-spec =
     returns
     has-target-requires
     returns-2
-    first-text-requires
+    text-of-requires
     add-n
+    add-n-2
     returns-3
-    put-texts-requires
+    put-text-requires
     same-length
     returns-4)

@@ -1,0 +1,57 @@
+use Rattle.target.proofs.Laws.{first-fits, between-fits, suffix-fits, text-put}
+use borrow.Author.Needs.{needs}
+use Rattle.target.proofs.put_text.Statement.{statement}
+use Rattle.target.proofs.put_text.Tie as tie
+
+part-requires : tie.Need-part-requires
+part-requires c κs = search needs
+
+put-bytes-requires : tie.Need-put-bytes-requires
+put-bytes-requires c κs =
+    let u = c .before .before .before .before in
+    first-fits _ (u .args .out .now) _ (u .pre .0) (u .pre .1) (c .part .ensures)
+
+slice-aggregate-part : tie.Need-slice-aggregate-part
+slice-aggregate-part c = search needs
+
+part-requires-2 : tie.Need-part-requires-2
+part-requires-2 c κs = search needs
+
+put-bytes-requires-2 : tie.Need-put-bytes-requires-2
+put-bytes-requires-2 c κs =
+    let u = c .before .before .before .before .before .before .before .before .before .before in
+    between-fits _ _ _ (u .pre .0) (u .pre .1) (c .before .before .before .before .before .before .part .ensures) (c .before .before .before .before .before .put-bytes .ensures) (c .part2 .ensures)
+
+add-put-bytes : tie.Need-add-put-bytes
+add-put-bytes c = search needs
+
+part-requires-3 : tie.Need-part-requires-3
+part-requires-3 c κs = search needs
+
+put-bytes-requires-3 : tie.Need-put-bytes-requires-3
+put-bytes-requires-3 c κs =
+    let u = c .before .before .before .before .before .before .before .before .before .before .before .before .before .before .before .before in
+    suffix-fits _ _ _ (u .pre .0) (u .pre .1) (c .before .before .before .before .before .before .before .before .before .before .before .before .part .ensures) (c .before .before .before .before .before .before .before .before .before .before .before .put-bytes .ensures) (c .before .before .before .before .before .before .part2 .ensures) (c .before .before .before .before .before .put-bytes2 .ensures) (c .part3 .ensures)
+
+same-length : tie.Need-same-length
+same-length c = search needs
+
+returns : tie.Need-returns
+returns c =
+    let u = c .before .before .before .before .before .before .before .before .before .before .before .before .before .before .before .before .before .before .before in
+    text-put _ _ _ (u .pre .0) (u .pre .1) (c .before .before .before .before .before .before .before .before .before .before .before .before .before .before .before .part .ensures) (c .before .before .before .before .before .before .before .before .before .before .before .before .before .before .put-bytes .ensures) (c .before .before .before .before .before .before .before .before .before .part2 .ensures) (c .before .before .before .before .before .before .before .before .put-bytes2 .ensures) (c .before .before .before .part3 .ensures) (c .before .before .put-bytes3 .ensures)
+
+pub put-text-spec : {M : Type 1} → statement M
+put-text-spec =
+    tie.close
+    (tie.spec
+    part-requires
+    put-bytes-requires
+    slice-aggregate-part
+    part-requires-2
+    put-bytes-requires-2
+    add-put-bytes
+    part-requires-3
+    put-bytes-requires-3
+    same-length
+    returns)
