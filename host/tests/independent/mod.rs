@@ -172,15 +172,18 @@ pub fn target(shortcut: &[u8], out: &mut [u8]) -> Result<usize, Refusal> {
     let mut texts = Texts::default();
     walk(shortcut, &mut texts)?;
     let refuse = Refusal::at(0);
-    let [first, suffix] = texts.found.ok_or_else(|| refuse(NOTARGET))?.map(|body| &shortcut[body.place..body.place + body.length]);
-    let between: &[u8] = if is_parted(first, suffix) { b"\\" } else { b"" };
-    let length = first.len() + between.len() + suffix.len();
-    let mut room = out.get_mut(..length).ok_or_else(|| refuse(ROOM))?;
-    for text in [first, between, suffix] {
-        let (front, back) = room.split_at_mut(text.len());
-        front.copy_from_slice(text);
-        room = back;
+    let texts = texts.found.ok_or_else(|| refuse(NOTARGET))?;
+    let [first, suffix] = texts.map(|text| &shortcut[text.place..text.place + text.length]);
+    let parted = is_parted(first, suffix);
+    let length = first.len() + usize::from(parted) + suffix.len();
+    let room = out.get_mut(..length).ok_or_else(|| refuse(ROOM))?;
+    let (front, mut rest) = room.split_at_mut(first.len());
+    front.copy_from_slice(first);
+    if parted {
+        rest[0] = b'\\';
+        rest = &mut rest[1..];
     }
+    rest.copy_from_slice(suffix);
     Ok(length)
 }
 
