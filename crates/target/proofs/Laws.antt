@@ -24,8 +24,8 @@ use Rattle.format.specs.Writing.{outputOf}
 use Rattle.format.specs.Target.{hasTarget, separated, backslash, separator, targetText, target, targetAnswer, targetOutput}
 use Rattle.format.proofs.PlaceLaws.{all-in}
 use Rattle.format.proofs.AcceptedLaws.{accepted-read, accepted-inside, accepted-present, accepted-limit}
-use Rattle.target.specs.declared.Text.{Text}
-use Rattle.target.specs.Text.{firstText, between, textOf, Stands, textLength, textBytes}
+use Rattle.target.specs.declared.Texts.{Texts}
+use Rattle.target.specs.Texts.{firstText, separators, textsOf, Stands, textsLength, textsBytes}
 
 -- ---- where the texts stand
 
@@ -63,16 +63,16 @@ counted first suffix = go (separated first suffix)
     go true = refl
     go false = refl
 
-few : (s : List ℕ) (a b : Place) → between s a b ≤ 1
+few : (s : List ℕ) (a b : Place) → separators s a b ≤ 1
 few s a b = go (separated (bytesAt s a) (bytesAt s b))
   where
     go : (b : Bool) → length (cond b backslash []) ≤ 1
     go true = omega arith
     go false = omega arith
 
-text-is : (s : List ℕ) (r : Record) → targetText s r ≡ textBytes s (textOf s r)
-unfolding firstText textOf textBytes
-text-is s r = go (bit 0 (r .info .flags))
+texts-are : (s : List ℕ) (r : Record) → targetText s r ≡ textsBytes s (textsOf s r)
+unfolding firstText textsOf textsBytes
+texts-are s r = go (bit 0 (r .info .flags))
   where
     suffix : List ℕ
     suffix = bytesAt s (r .info .suffix)
@@ -81,7 +81,7 @@ text-is s r = go (bit 0 (r .info .flags))
     joined first = first ++ (separator first suffix ++ suffix)
 
     at : Place → List ℕ
-    at a = bytesAt s a ++ (take (between s a (r .info .suffix)) backslash ++ suffix)
+    at a = bytesAt s a ++ (take (separators s a (r .info .suffix)) backslash ++ suffix)
 
     go : (b : Bool) → joined (cond b (bytesAt s (r .info .local)) (bytesAt s (r .info .network .net))) ≡ at (cond b (r .info .local) (r .info .network .net))
     go true = rw (counted (bytesAt s (r .info .local)) suffix)
@@ -96,12 +96,12 @@ module _ (s : List ℕ) (a b : Place) (ha : a .at + a .len ≤ length s) (hb : b
   first-long : length (bytesAt s a) ≡ a .len
   first-long = text-length s a ha
 
-  pub between-no-suffix : b .len ≡ 0 → 0 ≡ between s a b
-  between-no-suffix z = rw (suffix-long ∙ z)
+  pub separators-no-suffix : b .len ≡ 0 → 0 ≡ separators s a b
+  separators-no-suffix z = rw (suffix-long ∙ z)
 
   module _ (suffix : b .len ≡ 0 → ⊥) where
-    pub between-no-first : a .len ≡ 0 → 0 ≡ between s a b
-    between-no-first z = rw (suffix-long, ne-eqb (b .len) 0 suffix, first-long ∙ z)
+    pub separators-no-first : a .len ≡ 0 → 0 ≡ separators s a b
+    separators-no-first z = rw (suffix-long, ne-eqb (b .len) 0 suffix, first-long ∙ z)
 
     module _ (first : a .len ≡ 0 → ⊥) where
       -- the byte that the code looks at is the last of the text
@@ -110,20 +110,20 @@ module _ (s : List ℕ) (a b : Place) (ha : a .at + a .len ≤ length s) (hb : b
           let i : a .at + (a .len - 1) ≡ a .at + a .len - 1 = omega arith in
           getD-take (a .len) (drop (a .at) s) (a .len - 1) 0 (omega arith) ∙ getD-drop (a .at) s (a .len - 1) 0 ∙ rw i
 
-      pub between-ended : getD s (a .at + a .len - 1) 0 ≡ 0x5C → 0 ≡ between s a b
-      between-ended z = rw (suffix-long, ne-eqb (b .len) 0 suffix, first-long, ne-eqb (a .len) 0 first, last-is ∙ z)
+      pub separators-ended : getD s (a .at + a .len - 1) 0 ≡ 0x5C → 0 ≡ separators s a b
+      separators-ended z = rw (suffix-long, ne-eqb (b .len) 0 suffix, first-long, ne-eqb (a .len) 0 first, last-is ∙ z)
 
-      pub between-one : (getD s (a .at + a .len - 1) 0 ≡ 0x5C → ⊥) → 1 ≡ between s a b
-      between-one z = rw (suffix-long, ne-eqb (b .len) 0 suffix, first-long, ne-eqb (a .len) 0 first, last-is, ne-eqb (getD s (a .at + a .len - 1) 0) 0x5C z)
+      pub separators-one : (getD s (a .at + a .len - 1) 0 ≡ 0x5C → ⊥) → 1 ≡ separators s a b
+      separators-one z = rw (suffix-long, ne-eqb (b .len) 0 suffix, first-long, ne-eqb (a .len) 0 first, last-is, ne-eqb (getD s (a .at + a .len - 1) 0) 0x5C z)
 
 separator-length : {k : ℕ} → k ≤ 1 → length (take k backslash) ≡ k
 separator-length {k} h = length-take-le k backslash h
 
-text-long : (s : List ℕ) (t : Text) → Stands s t → length (textBytes s t) ≡ textLength t
-unfolding textBytes
-text-long s t h =
+texts-long : (s : List ℕ) (t : Texts) → Stands s t → length (textsBytes s t) ≡ textsLength t
+unfolding textsBytes
+texts-long s t h =
     let p = bytesAt s (t .first) in
-    let q = take (t .between) backslash in
+    let q = take (t .separators) backslash in
     let w = bytesAt s (t .suffix) in
     omega (arith, length-append p (q ++ w), length-append q w, text-length s (t .first) (h .0), separator-length (h .2), text-length s (t .suffix) (h .1))
 
@@ -157,13 +157,13 @@ module _ (s out : List ℕ) {g : Reading} (e : g ≡ reading s) where
     inside = texts-inside s (g .held) n accepted
 
     -- where the code has the text, the numbers are small
-    pub record Found (t : Text) : Type 0 where
+    pub record Found (t : Texts) : Type 0 where
       pub stands : Stands s t
       pub small : length s ≤ 65536
 
-    pub text-stands : {t : Text} → t ≡ textOf s (g .held) → Found t
-    unfolding textOf
-    text-stands is =
+    pub texts-stand : {t : Texts} → t ≡ textsOf s (g .held) → Found t
+    unfolding textsOf
+    texts-stand is =
         let i = inside in
         rw is (record { stands = (i .first, i .suffix, few s (firstText (g .held)) (g .held .info .suffix)); small = i .small })
 
@@ -179,25 +179,25 @@ module _ (s out : List ℕ) {g : Reading} (e : g ≡ reading s) where
           let z : target s (length out) ≡ refused NOTARGET 0 = target-is ∙ rw (sym h ∙ not-true k t) in
           (rw z, rw z)
 
-      module _ (has : not k ≡ false) {t : Text} {m : ℕ} (is : t ≡ textOf s (g .held)) (sum : m ≡ textLength t) where
-        text-are : targetText s (g .held) ≡ textBytes s t
-        text-are = text-is s (g .held) ∙ rw (← is)
+      module _ (has : not k ≡ false) {t : Texts} {m : ℕ} (is : t ≡ textsOf s (g .held)) (sum : m ≡ textsLength t) where
+        target-text : targetText s (g .held) ≡ textsBytes s t
+        target-text = texts-are s (g .held) ∙ rw (← is)
 
-        long : length (textBytes s t) ≡ m
-        long = text-long s t (text-stands is .stands) ∙ sym sum
+        long : length (textsBytes s t) ≡ m
+        long = texts-long s t (texts-stand is .stands) ∙ sym sum
 
         pub target-room : length out < m → (Refused ROOM 0 ≡ targetAnswer s out) × (out ≡ targetOutput s out)
         unfolding targetAnswer targetOutput outputOf
         target-room o =
             let z : target s (length out) ≡ refused ROOM 0
-            = target-is ∙ rw (text-are, long, sym h ∙ not-false k has, lt-leb m (length out) o) in
+            = target-is ∙ rw (target-text, long, sym h ∙ not-false k has, lt-leb m (length out) o) in
             (rw z, rw z)
 
-        pub target-written : {x : List ℕ} → m ≤ length out → x ≡ put out 0 (textBytes s t) → (Accepted m ≡ targetAnswer s out) × (x ≡ targetOutput s out)
+        pub target-written : {x : List ℕ} → m ≤ length out → x ≡ put out 0 (textsBytes s t) → (Accepted m ≡ targetAnswer s out) × (x ≡ targetOutput s out)
         unfolding targetAnswer targetOutput outputOf
         target-written o w =
-            let z : target s (length out) ≡ got (textBytes s t) m
-            = target-is ∙ rw (text-are, long, sym h ∙ not-false k has, le-leb m (length out) o) in
+            let z : target s (length out) ≡ got (textsBytes s t) m
+            = target-is ∙ rw (target-text, long, sym h ∙ not-false k has, le-leb m (length out) o) in
             (rw z, rw z w)
 
 -- ---- putting the text
@@ -211,7 +211,7 @@ part-long s b h e = ap length (part-is s b h e) ∙ text-length s b h
 separator-is : {k : ℕ} {q : List ℕ} → k ≤ 1 → q ≡ part backslash 0 k → q ≡ take k backslash
 separator-is {k} h e = e ∙ sym (part-in backslash 0 k (omega arith))
 
-module _ (s d : List ℕ) (t : Text) (h : Stands s t) (room : textLength t ≤ length d) where
+module _ (s d : List ℕ) (t : Texts) (h : Stands s t) (room : textsLength t ≤ length d) where
   pub first-fits : {p : List ℕ} → p ≡ part s (t .first .at) (t .first .len) → 0 + length p ≤ length d
   first-fits e = omega (arith, part-long s (t .first) (h .0) e)
 
@@ -219,24 +219,24 @@ module _ (s d : List ℕ) (t : Text) (h : Stands s t) (room : textLength t ≤ l
     same-x : length x ≡ length d
     same-x = ap length ex ∙ length-put d 0 p (first-fits ep)
 
-    pub between-fits : {q : List ℕ} → q ≡ part backslash 0 (t .between) → t .first .len + length q ≤ length x
-    between-fits {q} e = omega (arith, same-x, ap length (separator-is (h .2) e), separator-length (h .2))
+    pub separators-fits : {q : List ℕ} → q ≡ part backslash 0 (t .separators) → t .first .len + length q ≤ length x
+    separators-fits {q} e = omega (arith, same-x, ap length (separator-is (h .2) e), separator-length (h .2))
 
-    module _ {q y : List ℕ} (eq : q ≡ part backslash 0 (t .between)) (ey : y ≡ put x (t .first .len) q) where
+    module _ {q y : List ℕ} (eq : q ≡ part backslash 0 (t .separators)) (ey : y ≡ put x (t .first .len) q) where
       same-y : length y ≡ length d
-      same-y = ap length ey ∙ length-put x (t .first .len) q (between-fits eq) ∙ same-x
+      same-y = ap length ey ∙ length-put x (t .first .len) q (separators-fits eq) ∙ same-x
 
-      pub suffix-fits : {w : List ℕ} → w ≡ part s (t .suffix .at) (t .suffix .len) → t .first .len + t .between + length w ≤ length y
+      pub suffix-fits : {w : List ℕ} → w ≡ part s (t .suffix .at) (t .suffix .len) → t .first .len + t .separators + length w ≤ length y
       suffix-fits e = omega (arith, same-y, part-long s (t .suffix) (h .1) e)
 
-      pub text-put : {w z : List ℕ} → w ≡ part s (t .suffix .at) (t .suffix .len) → z ≡ put y (t .first .len + t .between) w → z ≡ put d 0 (textBytes s t)
-      unfolding textBytes
-      text-put {w} {z} ew ez =
+      pub texts-put : {w z : List ℕ} → w ≡ part s (t .suffix .at) (t .suffix .len) → z ≡ put y (t .first .len + t .separators) w → z ≡ put d 0 (textsBytes s t)
+      unfolding textsBytes
+      texts-put {w} {z} ew ez =
           let lp = part-long s (t .first) (h .0) ep in
-          let lq : length q ≡ t .between = ap length (separator-is (h .2) eq) ∙ separator-length (h .2) in
+          let lq : length q ≡ t .separators = ap length (separator-is (h .2) eq) ∙ separator-length (h .2) in
           let lw = part-long s (t .suffix) (h .1) ew in
-          let back : put y (t .first .len + t .between) w ≡ put x (t .first .len) (q ++ w)
-          = rw ey (put-put x (t .first .len) q w {k = t .first .len + t .between} (omega (arith, lq)) (omega (arith, same-x, lw))) in
+          let back : put y (t .first .len + t .separators) w ≡ put x (t .first .len) (q ++ w)
+          = rw ey (put-put x (t .first .len) q w {k = t .first .len + t .separators} (omega (arith, lq)) (omega (arith, same-x, lw))) in
           let front : put x (t .first .len) (q ++ w) ≡ put d 0 (p ++ (q ++ w))
           = rw ex (put-put d 0 p (q ++ w) {k = t .first .len} (omega (arith, lp)) (omega (arith, length-append q w, lq, lw))) in
           ez ∙ back ∙ front ∙ rw (part-is s (t .first) (h .0) ep, separator-is (h .2) eq, part-is s (t .suffix) (h .1) ew)

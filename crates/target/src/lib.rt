@@ -8,12 +8,12 @@ ghost use Prim.Native.Nat.{_+_, _≤_};
 ghost use lib.ListN.{length};
 ghost use Rattle.octets.specs.Parts.{put};
 ghost use Rattle.format.specs.Target.{hasTarget, targetAnswer, targetOutput};
-ghost use Rattle.target.specs.Text.{firstText, between, textOf, Stands, textLength, textBytes};
+ghost use Rattle.target.specs.Texts.{firstText, separators, textsOf, Stands, textsLength, textsBytes};
 
 // The two texts, and how many separators stand between them.
-struct Text {
+struct Texts {
     first: Place,
-    between: usize,
+    separators: usize,
     suffix: Place,
 }
 
@@ -36,9 +36,9 @@ fn first_text(r: Record) -> Place
 }
 
 // One separator, or none. Only the end of the first text is looked at.
-fn between(s: &[u8], a: Place, b: Place) -> usize
+fn separators(s: &[u8], a: Place, b: Place) -> usize
     requires { ⌜ (a .at + a .len ≤ length (now s)) × (b .at + b .len ≤ length (now s)) ⌝ }
-    ensures { λ n. ⌜ n ≡ between (now (s .entry)) a b ⌝ }
+    ensures { λ n. ⌜ n ≡ separators (now (s .entry)) a b ⌝ }
 {
     if b.len == 0 {
         return 0;
@@ -52,28 +52,28 @@ fn between(s: &[u8], a: Place, b: Place) -> usize
     1
 }
 
-fn text_of(s: &[u8], r: Record) -> Text
+fn texts_of(s: &[u8], r: Record) -> Texts
     requires { ⌜ (firstText r .at + firstText r .len ≤ length (now s)) × (r .info .suffix .at + r .info .suffix .len ≤ length (now s)) ⌝ }
-    ensures { λ t. ⌜ t ≡ textOf (now (s .entry)) r ⌝ }
+    ensures { λ t. ⌜ t ≡ textsOf (now (s .entry)) r ⌝ }
 {
     let first = first_text(r);
     let suffix = r.info.suffix;
-    Text {
+    Texts {
         first,
-        between: between(s, first, suffix),
+        separators: separators(s, first, suffix),
         suffix,
     }
 }
 
-fn put_text(s: &[u8], t: Text, out: &mut [u8])
-    requires { ⌜ Stands (now s) t × (textLength t ≤ length (now out)) ⌝ }
-    ensures { λ _. ⌜ now (out .exit) ≡ put (now (out .entry)) 0 (textBytes (now (s .entry)) t) ⌝ }
+fn put_texts(s: &[u8], t: Texts, out: &mut [u8])
+    requires { ⌜ Stands (now s) t × (textsLength t ≤ length (now out)) ⌝ }
+    ensures { λ _. ⌜ now (out .exit) ≡ put (now (out .entry)) 0 (textsBytes (now (s .entry)) t) ⌝ }
 {
     octets::put_bytes(out, 0, octets::part(s, t.first.at, t.first.len));
-    octets::put_bytes(out, t.first.len, octets::part(b"\\", 0, t.between));
+    octets::put_bytes(out, t.first.len, octets::part(b"\\", 0, t.separators));
     octets::put_bytes(
         out,
-        t.first.len + t.between,
+        t.first.len + t.separators,
         octets::part(s, t.suffix.at, t.suffix.len),
     );
 }
@@ -91,11 +91,11 @@ pub fn target(s: &[u8], out: &mut [u8]) -> Verdict
     if !has_target(r) {
         return Verdict::Refused(Fault::NoTarget, 0);
     }
-    let t = text_of(s, r);
-    let n = t.first.len + t.between + t.suffix.len;
+    let t = texts_of(s, r);
+    let n = t.first.len + t.separators + t.suffix.len;
     if out.len() < n {
         return Verdict::Refused(Fault::Room, 0);
     }
-    put_text(s, t, out);
+    put_texts(s, t, out);
     Verdict::Accepted(n)
 }

@@ -1,4 +1,4 @@
-use Rattle.target.proofs.Laws.{inside, target-left, target-none, target-room, target-written, text-stands}
+use Rattle.target.proofs.Laws.{inside, target-left, target-none, target-room, target-written, texts-stand}
 use native.Mathlib.Omega.{arith}
 use mathlib.Core.Path.{refl}
 use borrow.Author.Needs.{needs}
@@ -24,28 +24,28 @@ returns-2 : tie.Need-returns-2
 returns-2 c =
     target-none _ _ (c .before .before .before .before .before .read .ensures) (c .before .before .before .enum-told .given .1) (c .before .has-target .ensures) (c .if1 .taken)
 
-text-of-requires : tie.Need-text-of-requires
-text-of-requires c κs =
+texts-of-requires : tie.Need-texts-of-requires
+texts-of-requires c κs =
     let i = inside _ (c .before .before .before .before .before .before .before .before .args .out .now) (c .before .before .before .before .before .read .ensures) (c .before .before .before .enum-told .given .1) in
     (i .first, i .suffix)
 
 add-n : tie.Need-add-n
 add-n c =
-    let i = text-stands _ (c .before .before .before .before .before .before .before .before .before .before .args .out .now) (c .before .before .before .before .before .before .before .read .ensures) (c .before .before .before .before .before .enum-told .given .1) (c .before .text-of .ensures) in
+    let i = texts-stand _ (c .before .before .before .before .before .before .before .before .before .before .args .out .now) (c .before .before .before .before .before .before .before .read .ensures) (c .before .before .before .before .before .enum-told .given .1) (c .before .texts-of .ensures) in
     omega (arith, i .stands .0, i .stands .2, i .small)
 
 add-n-2 : tie.Need-add-n-2
 add-n-2 c =
-    let i = text-stands _ (c .before .before .before .before .before .before .before .before .before .before .before .args .out .now) (c .before .before .before .before .before .before .before .before .read .ensures) (c .before .before .before .before .before .before .enum-told .given .1) (c .before .before .text-of .ensures) in
+    let i = texts-stand _ (c .before .before .before .before .before .before .before .before .before .before .before .args .out .now) (c .before .before .before .before .before .before .before .before .read .ensures) (c .before .before .before .before .before .before .enum-told .given .1) (c .before .before .texts-of .ensures) in
     omega (arith, i .stands .0, i .stands .1, i .stands .2, i .small)
 
 returns-3 : tie.Need-returns-3
 returns-3 c =
-    target-room _ _ (c .before .before .before .before .before .before .before .before .before .read .ensures) (c .before .before .before .before .before .before .before .enum-told .given .1) (c .before .before .before .before .before .has-target .ensures) (c .before .before .before .before .if1 .left) (c .before .before .before .text-of .ensures) refl (c .if2 .taken)
+    target-room _ _ (c .before .before .before .before .before .before .before .before .before .read .ensures) (c .before .before .before .before .before .before .before .enum-told .given .1) (c .before .before .before .before .before .has-target .ensures) (c .before .before .before .before .if1 .left) (c .before .before .before .texts-of .ensures) refl (c .if2 .taken)
 
-put-text-requires : tie.Need-put-text-requires
-put-text-requires c κs =
-    let i = text-stands _ (c .before .before .before .before .before .before .before .before .before .before .before .before .before .args .out .now) (c .before .before .before .before .before .before .before .before .before .before .read .ensures) (c .before .before .before .before .before .before .before .before .enum-told .given .1) (c .before .before .before .before .text-of .ensures) in
+put-texts-requires : tie.Need-put-texts-requires
+put-texts-requires c κs =
+    let i = texts-stand _ (c .before .before .before .before .before .before .before .before .before .before .before .before .before .args .out .now) (c .before .before .before .before .before .before .before .before .before .before .read .ensures) (c .before .before .before .before .before .before .before .before .enum-told .given .1) (c .before .before .before .before .texts-of .ensures) in
     (i .stands, omega arith)
 
 same-length : tie.Need-same-length
@@ -53,7 +53,7 @@ same-length c = search needs
 
 returns-4 : tie.Need-returns-4
 returns-4 c =
-    target-written _ _ (c .before .before .before .before .before .before .before .before .before .before .before .before .before .read .ensures) (c .before .before .before .before .before .before .before .before .before .before .before .enum-told .given .1) (c .before .before .before .before .before .before .before .before .before .has-target .ensures) (c .before .before .before .before .before .before .before .before .if1 .left) (c .before .before .before .before .before .before .before .text-of .ensures) refl (omega arith) (c .before .before .put-text .ensures)
+    target-written _ _ (c .before .before .before .before .before .before .before .before .before .before .before .before .before .read .ensures) (c .before .before .before .before .before .before .before .before .before .before .before .enum-told .given .1) (c .before .before .before .before .before .before .before .before .before .has-target .ensures) (c .before .before .before .before .before .before .before .before .if1 .left) (c .before .before .before .before .before .before .before .texts-of .ensures) refl (omega arith) (c .before .before .put-texts .ensures)
 
 pub target-spec : {M : Type 1} → statement M
 target-spec =
@@ -65,10 +65,10 @@ target-spec =
     returns
     has-target-requires
     returns-2
-    text-of-requires
+    texts-of-requires
     add-n
     add-n-2
     returns-3
-    put-text-requires
+    put-texts-requires
     same-length
     returns-4)

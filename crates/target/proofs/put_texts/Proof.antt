@@ -1,7 +1,7 @@
-use Rattle.target.proofs.Laws.{first-fits, between-fits, suffix-fits, text-put}
+use Rattle.target.proofs.Laws.{first-fits, separators-fits, suffix-fits, texts-put}
 use borrow.Author.Needs.{needs}
-use Rattle.target.proofs.put_text.Statement.{statement}
-use Rattle.target.proofs.put_text.Tie as tie
+use Rattle.target.proofs.put_texts.Statement.{statement}
+use Rattle.target.proofs.put_texts.Tie as tie
 
 part-requires : tie.Need-part-requires
 part-requires c κs = search needs
@@ -20,7 +20,7 @@ part-requires-2 c κs = search needs
 put-bytes-requires-2 : tie.Need-put-bytes-requires-2
 put-bytes-requires-2 c κs =
     let u = c .before .before .before .before .before .before .before .before .before .before in
-    between-fits _ _ _ (u .pre .0) (u .pre .1) (c .before .before .before .before .before .before .part .ensures) (c .before .before .before .before .before .put-bytes .ensures) (c .part2 .ensures)
+    separators-fits _ _ _ (u .pre .0) (u .pre .1) (c .before .before .before .before .before .before .part .ensures) (c .before .before .before .before .before .put-bytes .ensures) (c .part2 .ensures)
 
 add-put-bytes : tie.Need-add-put-bytes
 add-put-bytes c = search needs
@@ -39,10 +39,10 @@ same-length c = search needs
 returns : tie.Need-returns
 returns c =
     let u = c .before .before .before .before .before .before .before .before .before .before .before .before .before .before .before .before .before .before .before in
-    text-put _ _ _ (u .pre .0) (u .pre .1) (c .before .before .before .before .before .before .before .before .before .before .before .before .before .before .before .part .ensures) (c .before .before .before .before .before .before .before .before .before .before .before .before .before .before .put-bytes .ensures) (c .before .before .before .before .before .before .before .before .before .part2 .ensures) (c .before .before .before .before .before .before .before .before .put-bytes2 .ensures) (c .before .before .before .part3 .ensures) (c .before .before .put-bytes3 .ensures)
+    texts-put _ _ _ (u .pre .0) (u .pre .1) (c .before .before .before .before .before .before .before .before .before .before .before .before .before .before .before .part .ensures) (c .before .before .before .before .before .before .before .before .before .before .before .before .before .before .put-bytes .ensures) (c .before .before .before .before .before .before .before .before .before .part2 .ensures) (c .before .before .before .before .before .before .before .before .put-bytes2 .ensures) (c .before .before .before .part3 .ensures) (c .before .before .put-bytes3 .ensures)
 
-pub put-text-spec : {M : Type 1} → statement M
-put-text-spec =
+pub put-texts-spec : {M : Type 1} → statement M
+put-texts-spec =
     tie.close
     (tie.spec
     part-requires
