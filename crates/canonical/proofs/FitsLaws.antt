@@ -2,7 +2,7 @@
 use mathlib.Core.Path.{_≡_, sym, ap, _∙_}
 use mathlib.Core.List.{List, [], _∷_}
 use mathlib.Core.Bool.{Bool, true}
-use Prim.Native.Nat.{ℕ, _+_, _≤_}
+use Prim.Native.Nat.{ℕ, _+_}
 use native.Mathlib.Omega.{arith}
 use lib.ListN.{length, length-append}
 use lib.Dec.{leb}
@@ -11,7 +11,6 @@ use Rattle.octets.proofs.NumberLaws.{length-little}
 use Rattle.format.specs.declared.Place.{Place}
 use Rattle.format.specs.declared.Record.{Record}
 use Rattle.format.specs.Tests.{bit}
-use Rattle.format.specs.Shortcut.{most}
 use Rattle.format.specs.Contents.{bytesAt, infoContents, bodies, allInside, bodiesOf}
 use Rattle.format.specs.Writing.{ifThere, itemsBytes, infoBytes, stringBytes, canonical}
 use Rattle.format.proofs.Bools.{and-true}

@@ -1,23 +1,20 @@
 -- What was written end to end is written as one.
-use mathlib.Core.Path.{_≡_, refl, sym, ap, _∙_}
-use mathlib.Core.List.{List, [], _∷_, _++_}
+use mathlib.Core.Path.{_≡_, refl, sym, _∙_}
+use mathlib.Core.List.{List, [], _++_, append-nil}
 use Prim.Native.Nat.{ℕ, _+_, _≤_}
 use native.Mathlib.Omega.{arith}
-use lib.ListN.{length, drop, length-append, length-take, length-drop, take-append-drop}
+use lib.ListN.{length, length-append, take-append-drop}
 use Rattle.octets.specs.Numbers.{little}
 use Rattle.octets.specs.Parts.{part, put}
 use Rattle.octets.proofs.NumberLaws.{length-little}
-use Rattle.octets.proofs.PartLaws.{part-in, put-put, length-put}
+use Rattle.octets.proofs.PartLaws.{put-put, length-put}
 use Rattle.format.specs.declared.Place.{Place}
 use Rattle.format.specs.Contents.{bytesAt}
+use Rattle.format.proofs.BodyLaws.{body-length, body-part, part-length}
 use Rattle.canonical.specs.Inside.{Inside}
 use Rattle.canonical.specs.Puts.{Wrote}
 
 -- ---- nothing, and one after another
-
-pub append-nil : (l : List ℕ) → l ++ [] ≡ l
-append-nil [] = refl
-append-nil (a ∷ l) = ap (λ (k : List ℕ). a ∷ k) (append-nil l)
 
 put-nil : (d : List ℕ) (at : ℕ) → d ≡ put d at []
 unfolding put
@@ -60,11 +57,11 @@ wrote-number w d at n e h = record { content = e; long = length-little w n; next
 
 module _ {d : List ℕ} {b : Place} (i : Inside d b) where
   pub length-body : length (bytesAt d b) ≡ b .len
-  length-body = let h = i .within in length-take (b .len) (drop (b .at) d) ∙ omega (arith, length-drop (b .at) d)
+  length-body = body-length d b (i .within)
 
-  pub body-part : part d (b .at) (b .len) ≡ bytesAt d b
-  body-part = sym (part-in d (b .at) (b .len) (i .within))
+  pub length-part : {y : List ℕ} → y ≡ part d (b .at) (b .len) → length y ≡ b .len
+  length-part = part-length d b (i .within)
 
   pub wrote-body : {out x y : List ℕ} {at : ℕ} → y ≡ part d (b .at) (b .len) → x ≡ put out at y → at + b .len ≤ length out
       → Wrote out at (bytesAt d b) (b .len) x (at + b .len)
-  wrote-body p e h = record { content = e ∙ rw (p, body-part); long = length-body; next = refl; fits = h }
+  wrote-body p e h = record { content = e ∙ rw (p, body-part d b (i .within)); long = length-body; next = refl; fits = h }

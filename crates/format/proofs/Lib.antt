@@ -18,6 +18,7 @@ pub mod ReadingLaws
 pub mod FoundLaws
 pub mod TypedLaws
 pub mod AcceptedLaws
-pub mod TargetRows
+pub mod BodyLaws
+pub mod TargetLaws
 pub mod Demands
 pub mod ProbeLaws

@@ -1,16 +1,15 @@
 -- Every refusal stands inside the shortcut, so number and position fit in one number.
 use mathlib.Core.Path.{_≡_, refl, sym, _∙_}
-use mathlib.Core.List.{List, [], _∷_, _++_}
+use mathlib.Core.List.{List, [], _∷_}
 use mathlib.Core.Bool.{Bool, true, false, cond}
 use Prim.Native.Nat.{ℕ, zero, suc, _+_, _-_, _≤_}
 use native.Mathlib.Omega.{arith}
-use lib.ListN.{length, take, drop, length-take, length-drop, length-append}
+use lib.ListN.{length, take, drop, length-drop}
 use lib.Dec.{leb, eqb}
 use borrow.Author.Tests.{leb-true}
 use Rattle.octets.specs.Numbers.{u16At}
 use Rattle.octets.specs.Characters.{bytesOf}
 use Rattle.format.specs.declared.Fault.the-variants.{Long as LONG, Trail as TRAIL, Cut as CUT, Info as INFO, Place as PLACE, Unwritable as UNWRITABLE, Room as ROOM, NoTarget as NOTARGET}
-use Rattle.format.specs.declared.Place.{Place}
 use Rattle.format.specs.declared.Record.{Record}
 use Rattle.format.specs.Numbers.{answerValue}
 use Rattle.format.specs.Tests.{Test, _else_, tests, Outcome, got, refused, Reader, andThen, chain, _then_, bit, place, noPlace}
@@ -20,13 +19,14 @@ use Rattle.format.specs.Info.{infoSize, infoRules, noInfo, infoFields, info}
 use Rattle.format.specs.Strings.{stringLength, string}
 use Rattle.format.specs.Blocks.{blockSize, blockTests, blocks}
 use Rattle.format.specs.Shortcut.{most, Section, Sections, found, sectionIf, stringSection, tail, sections, shortcut, recordOf, verdictOf, reading}
-use Rattle.format.specs.Contents.{bytesAt, Contents, placed, contents}
+use Rattle.format.specs.Contents.{Contents, placed, contents}
 use Rattle.format.specs.Writing.{every, canonical, writable, writing, writeAnswer}
-use Rattle.format.specs.Target.{hasTarget, separated, backslash, separator, targetText, target, targetAnswer}
+use Rattle.format.specs.Target.{hasTarget, targetText, target, targetAnswer}
 use Rattle.format.proofs.Bools.{and-true, by-order}
 use Rattle.format.proofs.Chains.{Pass}
 use Rattle.format.proofs.BlockLaws.{none-left, the-end, one-more}
 use Rattle.format.proofs.AcceptedLaws.{shortcut-whole}
+use Rattle.format.proofs.TargetLaws.{text-small}
 use Rattle.writable.specs.Sections.{sectionTests}
 use Rattle.writable.proofs.TestLaws.{every-last}
 
@@ -160,30 +160,6 @@ small s = go (leb (length s) most) refl
         → answerValue (verdictOf (cond b (andThen (sections 0 s) (λ c n. tests n (eqb n (length s) else TRAIL ∷ []) (got c n))) (refused LONG most))) ≤ 65536
     go true e = ends (leb-true (length s) most e) (sections 0 s) (near-sections .near 0 s)
     go false e = omega arith
-
-body-small : (s : List ℕ) (b : Place) → length (bytesAt s b) ≤ length s
-body-small s b = omega (arith, length-take (b .len) (drop (b .at) s), length-drop (b .at) s)
-
-text-small : (s : List ℕ) (r : Record) → length (targetText s r) ≤ length s + 1 + length s
-text-small s r = go (bit 0 (r .info .flags))
-  where
-    put : (b : Bool) → length (cond b backslash []) ≤ 1
-    put true = omega arith
-    put false = omega arith
-
-    either : (a b : Place) → length (bytesAt s a ++ (separator (bytesAt s a) (bytesAt s b) ++ bytesAt s b)) ≤ length s + 1 + length s
-    either a b =
-        let x = bytesAt s a in
-        let y = bytesAt s b in
-        let k : length (separator x y) ≤ 1 = put (separated x y) in
-        omega (arith, length-append x (separator x y ++ y), length-append (separator x y) y, k, body-small s a, body-small s b)
-
-    joined : List ℕ → List ℕ
-    joined first = first ++ (separator first (bytesAt s (r .info .suffix)) ++ bytesAt s (r .info .suffix))
-
-    go : (b : Bool) → length (joined (cond b (bytesAt s (r .info .local)) (bytesAt s (r .info .network .net)))) ≤ length s + 1 + length s
-    go true = either (r .info .local) (r .info .suffix)
-    go false = either (r .info .network .net) (r .info .suffix)
 
 -- a target has two texts and a separator
 pub target-small : (s out : List ℕ) → answerValue (targetAnswer s out) ≤ 131073

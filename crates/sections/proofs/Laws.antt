@@ -7,7 +7,6 @@ use native.Mathlib.Omega.{arith}
 use native.Mathlib.Nat.{add-zero}
 use lib.ListN.{length, take, drop, length-append, length-take, length-drop}
 use lib.Seq.{drop-drop}
-use lib.Dec.{leb}
 use borrow.Author.Tests.{le-leb, lt-leb, not-true, not-false}
 use Rattle.octets.specs.Numbers.{numberAt, u16At}
 use Rattle.octets.specs.Characters.{bytesOf}
@@ -16,7 +15,6 @@ use Rattle.octets.proofs.NumberLaws.{number-drop}
 use Rattle.format.specs.declared.Fault.the-variants.{Cut as CUT, Items as ITEMS}
 use Rattle.format.specs.Tests.{place}
 use Rattle.format.specs.Items.{itemList, items}
-use Rattle.format.specs.Strings.{string}
 use Rattle.format.proofs.Chains.{drop-take}
 use Rattle.format.proofs.ItemsLaws.{ends}
 use Rattle.sections.specs.declared.Taken.the-variants.{Got, Refused}

@@ -4,7 +4,7 @@ use mathlib.Core.List.{List, [], _∷_, _++_}
 use mathlib.Core.Bool.{Bool, true, false, not, cond}
 use Prim.Native.Nat.{ℕ, _+_, _-_, _≤_, _<_}
 use native.Mathlib.Omega.{arith}
-use lib.ListN.{length, take, drop, getD, length-append, length-drop}
+use lib.ListN.{length, take, drop, getD, length-append}
 use lib.Seq.{length-take-le, getD-take, getD-drop}
 use lib.Dec.{leb}
 use borrow.Author.Tests.{le-leb, lt-leb, ne-eqb, not-true, not-false}
@@ -22,6 +22,8 @@ use Rattle.format.specs.Shortcut.{Sections, shortcut, verdictOf, reading}
 use Rattle.format.specs.Contents.{bytesAt, bodies, allInside, placed}
 use Rattle.format.specs.Writing.{outputOf}
 use Rattle.format.specs.Target.{hasTarget, separated, backslash, separator, targetText, target, targetAnswer, targetOutput}
+use Rattle.format.proofs.BodyLaws.{body-length, body-part, part-length}
+use Rattle.format.proofs.TargetLaws.{separator-few}
 use Rattle.format.proofs.PlaceLaws.{all-in}
 use Rattle.format.proofs.AcceptedLaws.{accepted-read, accepted-inside, accepted-present, accepted-limit}
 use Rattle.target.specs.declared.Texts.{Texts}
@@ -50,9 +52,6 @@ texts-inside s r n e =
     either true x y p q = p
     either false x y p q = q
 
-text-length : (s : List ℕ) (b : Place) → b .at + b .len ≤ length s → length (bytesAt s b) ≡ b .len
-text-length s b h = length-take-le (b .len) (drop (b .at) s) (omega (arith, length-drop (b .at) s))
-
 -- ---- the text
 
 -- the separator is as many bytes 5C as are counted
@@ -62,13 +61,6 @@ counted first suffix = go (separated first suffix)
     go : (b : Bool) → take (length (cond b backslash [])) backslash ≡ cond b backslash []
     go true = refl
     go false = refl
-
-few : (s : List ℕ) (a b : Place) → separators s a b ≤ 1
-few s a b = go (separated (bytesAt s a) (bytesAt s b))
-  where
-    go : (b : Bool) → length (cond b backslash []) ≤ 1
-    go true = omega arith
-    go false = omega arith
 
 texts-are : (s : List ℕ) (r : Record) → targetText s r ≡ textsBytes s (textsOf s r)
 unfolding firstText textsOf textsBytes
@@ -91,10 +83,10 @@ texts-are s r = go (bit 0 (r .info .flags))
 
 module _ (s : List ℕ) (a b : Place) (ha : a .at + a .len ≤ length s) (hb : b .at + b .len ≤ length s) where
   suffix-long : length (bytesAt s b) ≡ b .len
-  suffix-long = text-length s b hb
+  suffix-long = body-length s b hb
 
   first-long : length (bytesAt s a) ≡ a .len
-  first-long = text-length s a ha
+  first-long = body-length s a ha
 
   pub separators-no-suffix : b .len ≡ 0 → 0 ≡ separators s a b
   separators-no-suffix z = rw (suffix-long ∙ z)
@@ -125,7 +117,7 @@ texts-long s t h =
     let p = bytesAt s (t .first) in
     let q = take (t .separators) backslash in
     let w = bytesAt s (t .suffix) in
-    omega (arith, length-append p (q ++ w), length-append q w, text-length s (t .first) (h .0), separator-length (h .2), text-length s (t .suffix) (h .1))
+    omega (arith, length-append p (q ++ w), length-append q w, body-length s (t .first) (h .0), separator-length (h .2), body-length s (t .suffix) (h .1))
 
 -- ---- the ways out
 
@@ -165,7 +157,7 @@ module _ (s out : List ℕ) {g : Reading} (e : g ≡ reading s) where
     unfolding textsOf
     texts-stand is =
         let i = inside in
-        rw is (record { stands = (i .first, i .suffix, few s (firstText (g .held)) (g .held .info .suffix)); small = i .small })
+        rw is (record { stands = (i .first, i .suffix, separator-few (bytesAt s (firstText (g .held))) (bytesAt s (g .held .info .suffix))); small = i .small })
 
     -- the target of what was read
     target-is : target s (length out) ≡ tests 0 (hasTarget (g .held) else NOTARGET ∷ leb (length (targetText s (g .held))) (length out) else ROOM ∷ []) (got (targetText s (g .held)) (length (targetText s (g .held))))
@@ -202,18 +194,12 @@ module _ (s out : List ℕ) {g : Reading} (e : g ≡ reading s) where
 
 -- ---- putting the text
 
-part-is : (s : List ℕ) (b : Place) {p : List ℕ} → b .at + b .len ≤ length s → p ≡ part s (b .at) (b .len) → p ≡ bytesAt s b
-part-is s b h e = e ∙ sym (part-in s (b .at) (b .len) h)
-
-part-long : (s : List ℕ) (b : Place) {p : List ℕ} → b .at + b .len ≤ length s → p ≡ part s (b .at) (b .len) → length p ≡ b .len
-part-long s b h e = ap length (part-is s b h e) ∙ text-length s b h
-
 separator-is : {k : ℕ} {q : List ℕ} → k ≤ 1 → q ≡ part backslash 0 k → q ≡ take k backslash
 separator-is {k} h e = e ∙ sym (part-in backslash 0 k (omega arith))
 
 module _ (s d : List ℕ) (t : Texts) (h : Stands s t) (room : textsLength t ≤ length d) where
   pub first-fits : {p : List ℕ} → p ≡ part s (t .first .at) (t .first .len) → 0 + length p ≤ length d
-  first-fits e = omega (arith, part-long s (t .first) (h .0) e)
+  first-fits e = omega (arith, part-length s (t .first) (h .0) e)
 
   module _ {p x : List ℕ} (ep : p ≡ part s (t .first .at) (t .first .len)) (ex : x ≡ put d 0 p) where
     same-x : length x ≡ length d
@@ -227,16 +213,16 @@ module _ (s d : List ℕ) (t : Texts) (h : Stands s t) (room : textsLength t ≤
       same-y = ap length ey ∙ length-put x (t .first .len) q (separators-fits eq) ∙ same-x
 
       pub suffix-fits : {w : List ℕ} → w ≡ part s (t .suffix .at) (t .suffix .len) → t .first .len + t .separators + length w ≤ length y
-      suffix-fits e = omega (arith, same-y, part-long s (t .suffix) (h .1) e)
+      suffix-fits e = omega (arith, same-y, part-length s (t .suffix) (h .1) e)
 
       pub texts-put : {w z : List ℕ} → w ≡ part s (t .suffix .at) (t .suffix .len) → z ≡ put y (t .first .len + t .separators) w → z ≡ put d 0 (textsBytes s t)
       unfolding textsBytes
       texts-put {w} {z} ew ez =
-          let lp = part-long s (t .first) (h .0) ep in
+          let lp = part-length s (t .first) (h .0) ep in
           let lq : length q ≡ t .separators = ap length (separator-is (h .2) eq) ∙ separator-length (h .2) in
-          let lw = part-long s (t .suffix) (h .1) ew in
+          let lw = part-length s (t .suffix) (h .1) ew in
           let back : put y (t .first .len + t .separators) w ≡ put x (t .first .len) (q ++ w)
           = rw ey (put-put x (t .first .len) q w {k = t .first .len + t .separators} (omega (arith, lq)) (omega (arith, same-x, lw))) in
           let front : put x (t .first .len) (q ++ w) ≡ put d 0 (p ++ (q ++ w))
           = rw ex (put-put d 0 p (q ++ w) {k = t .first .len} (omega (arith, lp)) (omega (arith, length-append q w, lq, lw))) in
-          ez ∙ back ∙ front ∙ rw (part-is s (t .first) (h .0) ep, separator-is (h .2) eq, part-is s (t .suffix) (h .1) ew)
+          ez ∙ back ∙ front ∙ rw (ep ∙ body-part s (t .first) (h .0), separator-is (h .2) eq, ew ∙ body-part s (t .suffix) (h .1))

@@ -1,6 +1,6 @@
 -- Where the target's two texts stand, and how many separators between them.
 use Prim.Native.Nat.{ℕ, _+_, _≤_}
-use mathlib.Core.List.{List, [], _∷_, _++_}
+use mathlib.Core.List.{List, _++_}
 use mathlib.Core.Bool.{cond}
 use lib.ListN.{length, take}
 use Rattle.format.specs.declared.Place.{Place}

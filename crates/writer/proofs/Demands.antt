@@ -1,5 +1,4 @@
 -- Demand 3 of the call, as its contract states it.
-use mathlib.Core.Path.{_≡_, refl, sym, _∙_}
 use mathlib.Core.List.{List}
 use Prim.Native.Nat.{ℕ}
 use lib.ListN.{length}
@@ -9,7 +8,6 @@ use denote.Ref.{now}
 use denote.Triple.Clauses.{AtExit}
 use Rattle.octets.specs.Numbers.{Bytes}
 use Rattle.format.specs.declared.Record.{Record}
-use Rattle.format.specs.declared.Verdict.{Verdict}
 use Rattle.format.specs.Tests.{Outcome}
 use Rattle.format.specs.Shortcut.{verdictOf}
 use Rattle.format.specs.Ranges.{FitsRecord}

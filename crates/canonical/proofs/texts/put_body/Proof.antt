@@ -1,6 +1,4 @@
-use Rattle.canonical.proofs.WroteLaws.{length-body, body-part, wrote-body}
-use lib.ListN.{length}
-use mathlib.Core.Path.{ap}
+use Rattle.canonical.proofs.WroteLaws.{length-part, wrote-body}
 use native.Mathlib.Omega.{arith}
 use borrow.Author.Needs.{needs}
 use Rattle.canonical.proofs.texts.put_body.Statement.{statement}
@@ -11,7 +9,7 @@ part-requires c κs = search needs
 
 put-bytes-requires : tie.Need-put-bytes-requires
 put-bytes-requires c κs =
-    omega (arith, ap length (c .part .ensures), ap length (body-part (c .before .before .before .before .pre .0)), length-body (c .before .before .before .before .pre .0))
+    omega (arith, length-part (c .before .before .before .before .pre .0) (c .part .ensures))
 
 add-result : tie.Need-add-result
 add-result c = search needs
