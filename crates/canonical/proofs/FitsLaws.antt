@@ -17,8 +17,8 @@ use Rattle.format.proofs.Bools.{and-true}
 use Rattle.format.proofs.HeaderLaws.{length-header}
 use Rattle.canonical.specs.Inside.{Inside, RecordInside}
 use Rattle.canonical.specs.Sizes.{sizedIf, stringsSize, canonicalSize}
-use Rattle.octets.specs.Parts.{put}
-use Rattle.canonical.specs.Puts.{Room, Wrote, Fits}
+use Rattle.octets.specs.Parts.{put, Wrote}
+use Rattle.canonical.specs.Puts.{Room, Fits}
 use Rattle.canonical.specs.Layout.{stringsBytes}
 use Rattle.canonical.proofs.WroteLaws.{length-body}
 use Rattle.canonical.proofs.SizeLaws.{length-if, info-size}

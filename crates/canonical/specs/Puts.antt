@@ -1,10 +1,9 @@
--- What a function that writes asks of the output buffer, and what it leaves there.
+-- What a function that writes asks of the output buffer.
 use Prim.Native.Nat.{ℕ, _+_, _≤_}
 use mathlib.Core.Path.{_≡_}
 use mathlib.Core.List.{List}
 use mathlib.Core.Bool.{true}
 use lib.ListN.{length}
-use Rattle.octets.specs.Parts.{put}
 use Rattle.format.specs.declared.Record.{Record}
 use Rattle.format.specs.Shortcut.{most}
 use Rattle.format.specs.Contents.{bodies, allInside, bodiesOf}
@@ -14,13 +13,6 @@ use Rattle.format.specs.Writing.{canonical}
 pub record Room (out : List ℕ) (at n : ℕ) : Type 0 where
   pub room : at + n ≤ length out
   pub few : n ≤ most
-
--- the n bytes w were put into the buffer out from the place at on, which made it x, and r is the place after them
-pub record Wrote (out : List ℕ) (at : ℕ) (w : List ℕ) (n : ℕ) (x : List ℕ) (r : ℕ) : Type 0 where
-  pub content : x ≡ put out at w
-  pub long : length w ≡ n
-  pub next : r ≡ at + n
-  pub fits : r ≤ length out
 
 -- the record's bodies lie in the body buffer d, and its canonical form has room in out and is no longer than a shortcut can be
 pub record Fits (d out : List ℕ) (q : Record) : Type 0 where

@@ -19,7 +19,8 @@ ghost use Rattle.format.specs.Contents.{labelPlace, volumeContents, networkCont
 ghost use Rattle.format.specs.Writing.{ifThere, labelFields, volumeBytes, networkBytes, infoBytes};
 ghost use Rattle.canonical.specs.Inside.{Inside, NetworkInside, InfoInside};
 ghost use Rattle.canonical.specs.Sizes.{volumeSize, networkSize, infoSize};
-ghost use Rattle.canonical.specs.Puts.{Room, Wrote};
+ghost use Rattle.octets.specs.Parts.{Wrote};
+ghost use Rattle.canonical.specs.Puts.{Room};
 ghost use Rattle.canonical.specs.Layout.{networkFieldBytes, networkNameBytes, namesSize, infoFieldBytes, infoPieceBytes, piecesSize};
 
 // ---- VolumeID

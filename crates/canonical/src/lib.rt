@@ -16,12 +16,12 @@ use format::Record;
 ghost use mathlib.Core.Path.{_≡_};
 ghost use Prim.Native.Nat.{_+_, _≤_};
 ghost use lib.ListN.{length};
-ghost use Rattle.octets.specs.Parts.{put};
+ghost use Rattle.octets.specs.Parts.{put, Wrote};
 ghost use Rattle.format.specs.Contents.{bytesAt, bodiesOf};
 ghost use Rattle.format.specs.Writing.{ifThere, headerBytes, itemsBytes, stringBytes, blocksBytes, canonical};
 ghost use Rattle.canonical.specs.Inside.{Inside, StringsInside};
 ghost use Rattle.canonical.specs.Sizes.{sizedIf, stringsSize};
-ghost use Rattle.canonical.specs.Puts.{Room, Wrote, Fits};
+ghost use Rattle.canonical.specs.Puts.{Room, Fits};
 ghost use Rattle.canonical.specs.Layout.{magicBytes, markBytes, shownBytes, stringsBytes};
 
 // ---- the header

@@ -8,7 +8,8 @@ ghost use Rattle.format.specs.Contents.{bytesAt};
 ghost use Rattle.format.specs.Writing.{ifThere, textBytes};
 ghost use Rattle.canonical.specs.Inside.{Inside};
 ghost use Rattle.canonical.specs.Sizes.{textSize, textSizeIf};
-ghost use Rattle.canonical.specs.Puts.{Room, Wrote};
+ghost use Rattle.octets.specs.Parts.{Wrote};
+ghost use Rattle.canonical.specs.Puts.{Room};
 
 // The bytes of the body at its place in the body buffer d.
 pub fn put_body(out: &mut [u8], at: usize, d: &[u8], b: Place) -> usize

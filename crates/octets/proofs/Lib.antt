@@ -6,3 +6,4 @@ pub mod ReadLaws
 pub mod CursorLaws
 pub mod ZeroLaws
 pub mod PartLaws
+pub mod WroteLaws

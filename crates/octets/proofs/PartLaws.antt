@@ -84,9 +84,13 @@ little-mod w n = sym (little-low w (n % 256 ^ w) (n / 256 ^ w)) ∙ ap (little w
 
 -- ---- a number is put byte by byte, and half by half
 
+pub put-one : (d : List ℕ) (i x : ℕ) → i < length d → set d i x ≡ put d i (x ∷ [])
+unfolding put
+put-one d i x h = rw (add-one i) (set-split d i x h)
+
 pub put-byte : (d : List ℕ) (i x : ℕ) → i < length d → x < 256 → set d i x ≡ put d i (little 1 x)
-unfolding put little
-put-byte d i x h k = rw (mod-eq-of-lt k, add-one i) (set-split d i x h)
+unfolding little
+put-byte d i x h k = rw (mod-eq-of-lt k) (put-one d i x h)
 
 pub put-halves : (w : ℕ) (d : List ℕ) (i n : ℕ) {x y : List ℕ} → i + (w + w) ≤ length d → x ≡ put d i (little w (n % 256 ^ w)) → y ≡ put x (i + w) (little w (n / 256 ^ w))
     → y ≡ put d i (little (w + w) n)

@@ -1,4 +1,4 @@
-use Rattle.canonical.proofs.WroteLaws.{join, reword}
+use Rattle.octets.proofs.WroteLaws.{join, reword}
 use native.Mathlib.Omega.{arith}
 use mathlib.Core.Path.{refl}
 use borrow.Author.Needs.{needs}

@@ -1,7 +1,7 @@
 use Rattle.canonical.specs.Sizes.{canonicalSize}
 use Rattle.canonical.proofs.FitsLaws.{fits-inside, fits-room, wrote-whole}
 use Rattle.canonical.proofs.LayoutLaws.{canonical-is}
-use Rattle.canonical.proofs.WroteLaws.{join, last, reword}
+use Rattle.octets.proofs.WroteLaws.{join, last, reword}
 use mathlib.Core.Path.{refl}
 use native.Mathlib.Omega.{arith}
 use borrow.Author.Needs.{needs}

@@ -1,5 +1,5 @@
 use Rattle.canonical.proofs.LayoutLaws.{header-is}
-use Rattle.canonical.proofs.WroteLaws.{join, reword}
+use Rattle.octets.proofs.WroteLaws.{join, reword}
 use mathlib.Core.Path.{refl}
 use borrow.Author.Needs.{needs}
 use Rattle.canonical.proofs.put_header.Statement.{statement}

@@ -1,5 +1,5 @@
 use Rattle.canonical.proofs.LayoutLaws.{items-is}
-use Rattle.canonical.proofs.WroteLaws.{join, reword}
+use Rattle.octets.proofs.WroteLaws.{join, reword}
 use native.Mathlib.Omega.{arith}
 use borrow.Author.Needs.{needs}
 use Rattle.canonical.proofs.put_items.Statement.{statement}

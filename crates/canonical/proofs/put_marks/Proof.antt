@@ -1,5 +1,5 @@
 use Rattle.canonical.specs.Layout.{markBytes}
-use Rattle.canonical.proofs.WroteLaws.{join, last}
+use Rattle.octets.proofs.WroteLaws.{join, last}
 use borrow.Author.Needs.{needs}
 use Rattle.canonical.proofs.put_marks.Statement.{statement}
 use Rattle.canonical.proofs.put_marks.Tie as tie

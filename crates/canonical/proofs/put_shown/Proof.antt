@@ -1,7 +1,7 @@
 use mir.Facts.{toZ-ofZ}
 use mir.Syntax.{w32}
 use Rattle.canonical.proofs.LayoutLaws.{shown-is}
-use Rattle.canonical.proofs.WroteLaws.{join, reword}
+use Rattle.octets.proofs.WroteLaws.{join, reword}
 use mathlib.Core.Path.{refl}
 use borrow.Author.Needs.{needs}
 use Rattle.canonical.proofs.put_shown.Statement.{statement}

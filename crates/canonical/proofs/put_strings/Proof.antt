@@ -1,6 +1,6 @@
 use Rattle.canonical.specs.Layout.{stringsBytes}
 use Rattle.canonical.specs.Sizes.{stringsSize}
-use Rattle.canonical.proofs.WroteLaws.{join, last, reword}
+use Rattle.octets.proofs.WroteLaws.{join, last, reword}
 use mathlib.Core.Path.{refl}
 use native.Mathlib.Omega.{arith}
 use borrow.Author.Needs.{needs}

@@ -1,7 +1,7 @@
 use Rattle.canonical.proofs.SizeLaws.{info-head-is}
 use Rattle.canonical.specs.Sizes.{infoSize}
 use Rattle.canonical.proofs.LayoutLaws.{info-is}
-use Rattle.canonical.proofs.WroteLaws.{join, reword}
+use Rattle.octets.proofs.WroteLaws.{join, reword}
 use native.Mathlib.Omega.{arith}
 use borrow.Author.Needs.{needs}
 use Rattle.canonical.proofs.info.put_info.Statement.{statement}

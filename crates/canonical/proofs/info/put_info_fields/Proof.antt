@@ -1,5 +1,5 @@
 use Rattle.canonical.proofs.LayoutLaws.{info-fields-are}
-use Rattle.canonical.proofs.WroteLaws.{join, last, reword}
+use Rattle.octets.proofs.WroteLaws.{join, last, reword}
 use native.Mathlib.Omega.{arith}
 use borrow.Author.Needs.{needs}
 use Rattle.canonical.proofs.info.put_info_fields.Statement.{statement}

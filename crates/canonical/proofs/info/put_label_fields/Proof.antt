@@ -1,4 +1,4 @@
-use Rattle.canonical.proofs.WroteLaws.{join}
+use Rattle.octets.proofs.WroteLaws.{join}
 use native.Mathlib.Omega.{arith}
 use borrow.Author.Needs.{needs}
 use Rattle.canonical.proofs.info.put_label_fields.Statement.{statement}

@@ -1,7 +1,7 @@
 use Rattle.canonical.proofs.SizeLaws.{network-head-is}
 use Rattle.canonical.specs.Sizes.{networkSize}
 use Rattle.canonical.proofs.LayoutLaws.{network-is}
-use Rattle.canonical.proofs.WroteLaws.{join, reword}
+use Rattle.octets.proofs.WroteLaws.{join, reword}
 use native.Mathlib.Omega.{arith}
 use borrow.Author.Needs.{needs}
 use Rattle.canonical.proofs.info.put_network.Statement.{statement}

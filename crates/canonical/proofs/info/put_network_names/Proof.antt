@@ -1,5 +1,5 @@
 use Rattle.canonical.specs.Layout.{networkNameBytes}
-use Rattle.canonical.proofs.WroteLaws.{join, last, reword}
+use Rattle.octets.proofs.WroteLaws.{join, last, reword}
 use mathlib.Core.Path.{refl}
 use native.Mathlib.Omega.{arith}
 use borrow.Author.Needs.{needs}

@@ -1,6 +1,6 @@
 use Rattle.canonical.proofs.LayoutLaws.{volume-is}
 use Rattle.canonical.proofs.SizeLaws.{label-least-is, volume-size-is}
-use Rattle.canonical.proofs.WroteLaws.{join, last, reword}
+use Rattle.octets.proofs.WroteLaws.{join, last, reword}
 use native.Mathlib.Omega.{arith}
 use borrow.Author.Needs.{needs}
 use Rattle.canonical.proofs.info.put_volume.Statement.{statement}

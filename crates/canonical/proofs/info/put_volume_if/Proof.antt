@@ -1,4 +1,4 @@
-use Rattle.canonical.proofs.WroteLaws.{wrote-none}
+use Rattle.octets.proofs.WroteLaws.{wrote-none}
 use native.Mathlib.Omega.{arith}
 use borrow.Author.Needs.{needs}
 use Rattle.canonical.proofs.info.put_volume_if.Statement.{statement}

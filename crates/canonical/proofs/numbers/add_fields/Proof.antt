@@ -1,4 +1,4 @@
-use Rattle.canonical.proofs.WroteLaws.{wrote-none, join}
+use Rattle.octets.proofs.WroteLaws.{wrote-none, join}
 use native.Mathlib.Omega.{arith}
 use borrow.Author.Needs.{needs}
 use Rattle.canonical.proofs.numbers.add_fields.Statement.{statement}

@@ -1,4 +1,4 @@
-use Rattle.canonical.proofs.WroteLaws.{wrote-number}
+use Rattle.octets.proofs.WroteLaws.{wrote-number}
 use native.Mathlib.Omega.{arith}
 use borrow.Author.Needs.{needs}
 use Rattle.canonical.proofs.numbers.add_u16.Statement.{statement}

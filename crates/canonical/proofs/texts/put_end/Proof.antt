@@ -1,4 +1,4 @@
-use Rattle.canonical.proofs.WroteLaws.{wrote-number}
+use Rattle.octets.proofs.WroteLaws.{wrote-number}
 use Rattle.octets.proofs.PartLaws.{put-byte}
 use Rattle.octets.specs.Numbers.{little}
 use native.Mathlib.Omega.{arith}

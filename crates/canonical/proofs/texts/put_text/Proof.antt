@@ -1,4 +1,4 @@
-use Rattle.canonical.proofs.WroteLaws.{join}
+use Rattle.octets.proofs.WroteLaws.{join}
 use borrow.Author.Needs.{needs}
 use Rattle.canonical.proofs.texts.put_text.Statement.{statement}
 use Rattle.canonical.proofs.texts.put_text.Tie as tie
