@@ -38,7 +38,7 @@ struct Call {
     independent: Side,
 }
 
-const CALLS: [Call; 4] = [
+const CALLS: [Call; 6] = [
     Call {
         name: "check",
         proved: |case| proved::check(&case.shortcut),
@@ -53,6 +53,19 @@ const CALLS: [Call; 4] = [
         name: "target",
         proved: |case| proved::target(&case.shortcut, &mut case.out),
         independent: |case| independent::boundary_target(&case.shortcut, &mut case.out),
+    },
+    Call {
+        name: "key",
+        proved: |case| proved::key(&case.shortcut, &mut case.out),
+        independent: |case| independent::boundary_key(&case.shortcut, &mut case.out),
+    },
+    // What a scheduler does with each shortcut.
+    Call {
+        name: "check+key",
+        proved: |case| proved::check(&case.shortcut) + proved::key(&case.shortcut, &mut case.out),
+        independent: |case| {
+            independent::boundary_check(&case.shortcut) + independent::boundary_key(&case.shortcut, &mut case.out)
+        },
     },
     Call {
         name: "write",
@@ -185,7 +198,7 @@ fn tables() {
     println!("Shapes `overlap` and `unended` are refused, so nothing of them is written.");
     if emulated && !copies_as_on_a_machine() {
         println!("Emulation makes the C library's long copies very slow, and so the independent side's");
-        println!("`write` and `target`; for fair figures set GLIBC_TUNABLES={}.", COPY_SETTING);
+        println!("`write`, `target` and `key`; for fair figures set GLIBC_TUNABLES={}.", COPY_SETTING);
     }
     println!();
     println!("| Shape | Bytes | Call | Proved ns | Independent ns | Ratio | Least | Greatest |");

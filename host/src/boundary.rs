@@ -1,4 +1,4 @@
-//! The five proved functions, as they stand in the archive.
+//! The six proved functions, as they stand in the archive.
 //!
 //! This is the only file with `unsafe` in it. Every answer is one number: a number of document 01's table (0 for
 //! success) + 256 × a value, which is the length of a success or the position of a refusal. A refusal changes no
@@ -13,6 +13,9 @@ extern "C" {
     // pub extern "C" fn herringnet_target(s: &[u8], out: &mut [u8]) -> u64
     fn herringnet_target(s: *const u8, s_len: usize, out: *mut u8, out_len: usize) -> u64;
 
+    // pub extern "C" fn herringnet_key(s: &[u8], out: &mut [u8]) -> u64
+    fn herringnet_key(s: *const u8, s_len: usize, out: *mut u8, out_len: usize) -> u64;
+
     // pub extern "C" fn herringnet_section(s: &[u8], name: u32, block: usize) -> u64
     fn herringnet_section(s: *const u8, s_len: usize, name: u32, block: usize) -> u64;
 
@@ -23,7 +26,7 @@ extern "C" {
     fn herringnet_write(f: *const u64, f_len: usize, d: *const u8, d_len: usize, out: *mut u8, out_len: usize) -> u64;
 }
 
-// In all five calls pointer and length come from one slice, and a slice that is written to is borrowed by
+// In all six calls pointer and length come from one slice, and a slice that is written to is borrowed by
 // nobody else: that is all that the functions need, since they have no other condition.
 
 /// The verdict on a shortcut; the value of a success is its length.
@@ -34,6 +37,11 @@ pub fn check(shortcut: &[u8]) -> u64 {
 /// Puts the target text at the front of `out`; the value of a success is its length.
 pub fn target(shortcut: &[u8], out: &mut [u8]) -> u64 {
     unsafe { herringnet_target(shortcut.as_ptr(), shortcut.len(), out.as_mut_ptr(), out.len()) }
+}
+
+/// Puts the cache key at the front of `out`; the value of a success is its length.
+pub fn key(shortcut: &[u8], out: &mut [u8]) -> u64 {
+    unsafe { herringnet_key(shortcut.as_ptr(), shortcut.len(), out.as_mut_ptr(), out.len()) }
 }
 
 /// Where a section stands: the value is its start + 65,537 × its length, 0 for one that is not there.

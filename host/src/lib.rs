@@ -67,3 +67,34 @@ pub fn target(shortcut: &[u8]) -> Result<Vec<u8>, Refusal> {
 pub fn target_into(shortcut: &[u8], out: &mut [u8]) -> Result<usize, Refusal> {
     answer(boundary::target(shortcut, out))
 }
+
+/// The cache key of a shortcut: equal for two accepted shortcuts exactly if all that it is made of is equal.
+///
+/// That is a byte 0 or 1 for LinkFlags bit 7, and then target text, arguments, working directory and environment, the
+/// byte text of the first block A0000001. Each of the four is a byte 0 or 1 for its presence, its length in four
+/// bytes, little-endian, and its bytes; one that is absent has length 0. A missing target is absent, and no refusal.
+///
+/// # Errors
+///
+/// As [`check`].
+///
+/// ```
+#[doc = include_str!("../examples/key.rs")]
+/// ```
+pub fn key(shortcut: &[u8]) -> Result<Vec<u8>, Refusal> {
+    // A key is never longer than its shortcut, nor that than the longest.
+    let mut key = vec![0; shortcut.len().min(LONGEST)];
+    let length = key_into(shortcut, &mut key)?;
+    key.truncate(length);
+    Ok(key)
+}
+
+/// Puts the cache key at the front of `out`, and gives its length. The rest of `out` stays as it is.
+///
+/// # Errors
+///
+/// As [`key`], then [`Fault::Room`], which a buffer as long as the shortcut never meets. A refusal changes no byte of
+/// `out`.
+pub fn key_into(shortcut: &[u8], out: &mut [u8]) -> Result<usize, Refusal> {
+    answer(boundary::key(shortcut, out))
+}

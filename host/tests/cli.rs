@@ -14,6 +14,16 @@ use std::process::{Command, Output, Stdio};
 const SAMPLE_LISTING: &str = "ok 459\nheader 0 76\nitems 76 191\ninfo 267 60\nrelative 327 16\nworkdir 343 16\n\
                               block 359 96\nend 455 4\n";
 
+/// Bit 7 is set; the target and the working directory are there, arguments and environment are not.
+const SAMPLE_KEY: &str = "01\
+                          010d000000433a5c746573745c612e747874\
+                          0000000000\
+                          010e00000043003a005c007400650073007400\
+                          0000000000";
+
+/// Nothing is there.
+const Z_KEY: &str = "000000000000000000000000000000000000000000";
+
 /// A folder with shortcuts in it.
 struct Shortcuts {
     folder: PathBuf,
@@ -133,6 +143,21 @@ fn target_prints_the_text() {
 }
 
 #[test]
+fn key_prints_hex_and_the_name() {
+    let s = Shortcuts::new("key");
+    let cut = "herringnet: cut.lnk: refused 2 CUT at 76: the bytes end before a field or declared size does\n";
+    let long = "herringnet: long.lnk: refused 1 LONG at 65536: it has more than 65,536 bytes\n";
+    s.run(&["key", "a.lnk"]).is(0, &format!("{} a.lnk\n", SAMPLE_KEY), "");
+    let several = format!("{} a.lnk\n{} z.lnk\n", SAMPLE_KEY, Z_KEY);
+    s.run(&["key", "a.lnk", "z.lnk"]).is(0, &several, "");
+    s.run(&["key", "cut.lnk", "a.lnk", "long.lnk", "z.lnk"]).is(1, &several, &format!("{}{}", cut, long));
+    s.run(&["key", "cut.lnk"]).is(1, "", cut);
+    s.put("two\nlines", &z());
+    s.run(&["key", "two\nlines"]).is(0, &format!("{} two\\nlines\n", Z_KEY), "");
+    s.run(&["key", "loose.lnk"]).is(0, &format!("{} loose.lnk\n", Z_KEY), "");
+}
+
+#[test]
 fn show_prints_every_field() {
     let s = Shortcuts::new("show");
     s.run(&["show", "a.lnk"]).is(0, include_str!("shown/a.txt"), "");
@@ -238,7 +263,7 @@ fn files_that_cannot_be_read_are_passed_over() {
     let s = Shortcuts::new("unreadable");
     let missing = "herringnet: none.lnk: cannot be read: No such file or directory\n";
     let folder = "herringnet: .: cannot be read: Is a directory\n";
-    for command in ["check", "list", "target", "show", "rewrite"] {
+    for command in ["check", "list", "target", "key", "show", "rewrite"] {
         s.run(&[command, "none.lnk"]).is(1, "", missing);
     }
     let said = s.run(&["check", "none.lnk", ".", "z.lnk"]);
@@ -256,6 +281,10 @@ fn standard_input_is_a_file_like_others() {
     s.run_on(&["list", "-"], "a.lnk").is(0, SAMPLE_LISTING, "");
     s.run_on(&["list"], "long.lnk").is(1, "refused 1 65536\n", "");
     s.run_on(&["target"], "a.lnk").is(0, "C:\\test\\a.txt\n", "");
+    s.run_on(&["key"], "a.lnk").is(0, &format!("{}\n", SAMPLE_KEY), "");
+    s.run_on(&["key", "-"], "a.lnk").is(0, &format!("{}\n", SAMPLE_KEY), "");
+    let both = format!("{} z.lnk\n{} standard input\n", Z_KEY, SAMPLE_KEY);
+    s.run_on(&["key", "z.lnk", "-"], "a.lnk").is(0, &both, "");
     s.run_on(&["show"], "a.lnk").is(0, include_str!("shown/a.txt"), "");
     assert_eq!(s.run_on(&["rewrite"], "loose.lnk").out, z());
     assert_eq!(s.run_on(&["rewrite", "--in-place"], "loose.lnk").status, 2);
@@ -298,7 +327,7 @@ fn help_and_version() {
     s.run(&["--version"]).is(0, &version, "");
     let all = s.run(&["--help"]);
     assert!(all.status == 0 && all.err.is_empty());
-    for command in ["check", "list", "target", "show", "rewrite"] {
+    for command in ["check", "list", "target", "key", "show", "rewrite"] {
         assert!(text(&all.out).contains(&format!("\n  {} ", command)));
         let said = s.run(&[command, "--help"]);
         assert!(said.status == 0 && text(&said.out).starts_with(&format!("usage: herringnet {}", command)));
@@ -309,10 +338,11 @@ fn help_and_version() {
 fn words_that_make_no_sense() {
     let s = Shortcuts::new("usage");
     let see = "herringnet: see herringnet --help\n";
-    let wrong: [(&[&str], &str); 11] = [
+    let wrong: [(&[&str], &str); 12] = [
         (&[], "a command is missing"),
         (&["frobnicate"], "there is no command frobnicate"),
         (&["check", "--raw"], "check has no option --raw"),
+        (&["key", "--raw", "a.lnk"], "key has no option --raw"),
         (&["list", "-x", "a.lnk"], "list has no option -x"),
         (&["rewrite", "-o"], "-o needs a value"),
         (&["rewrite", "--suffix", "", "a.lnk"], "a suffix is not empty and has no slash"),

@@ -59,6 +59,9 @@ fn number_from(variable: &str, otherwise: u64) -> u64 {
     }
 }
 
+/// A call from a shortcut into a buffer.
+type Putting = fn(&[u8], &mut [u8]) -> u64;
+
 struct Comparison {
     number: u64,
     /// Of all calls.
@@ -100,7 +103,8 @@ impl Comparison {
         self.verdicts.add(answer);
         self.read(shortcut, &mut random);
         self.sections(shortcut, &mut random);
-        self.target(shortcut, &mut random);
+        self.putting("target", [proved::target, independent::boundary_target], shortcut, &mut random);
+        self.putting("key", [proved::key, independent::boundary_key], shortcut, &mut random);
         if answer & 0xFF != 0 {
             return;
         }
@@ -183,14 +187,13 @@ impl Comparison {
         assert!(listed.is_empty() || end == shortcut.len(), "input {}: lengths", self.number);
     }
 
-    fn target(&mut self, shortcut: &[u8], random: &mut Random) {
-        let mut scratch = std::mem::take(&mut self.independent_out);
-        let answer = independent::boundary_target(shortcut, &mut scratch);
-        self.independent_out = scratch;
-        let rooms = rooms_about(answer, random);
-        for room in rooms {
-            self.with_room("target", room, &|| hex(shortcut), &|out| {
-                (proved::target(shortcut, &mut *out.0), independent::boundary_target(shortcut, out.1))
+    /// A call that puts something of a shortcut into a buffer: both sides of it, in rooms about the length.
+    fn putting(&mut self, call: &str, sides: [Putting; 2], shortcut: &[u8], random: &mut Random) {
+        let [proved, independent] = sides;
+        let answer = independent(shortcut, &mut self.independent_out);
+        for room in rooms_about(answer, random) {
+            self.with_room(call, room, &|| hex(shortcut), &|out| {
+                (proved(shortcut, &mut *out.0), independent(shortcut, out.1))
             });
             if answer & 0xFF != 0 {
                 break;

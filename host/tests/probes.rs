@@ -107,6 +107,22 @@ fn p12_zero_in_local_path() {
 }
 
 #[test]
+fn keys() {
+    let arguments = z_with(0xA0, &[3, 0, 0x2D, 0, 0x67, 0, 0x31, 0]);
+    let expected = b"\x01\0\0\0\0\0\x01\x06\0\0\0-\0g\x001\0\0\0\0\0\0\0\0\0\0\0";
+    let mut out = [0xEE; 28];
+    assert_eq!(key(&arguments, &mut out[..26]), refused(12, 0));
+    assert_eq!(key(&arguments[..87], &mut out), refused(2, 84));
+    assert_eq!(out, [0xEE; 28]);
+    assert_eq!(key(&arguments, &mut out), Ok(27));
+    assert_eq!((&out[..27], out[27]), (&expected[..], 0xEE));
+    for nothing in [z(), p10(0x1C, 0x1C)] {
+        assert_eq!(key(&nothing, &mut out), Ok(21));
+        assert_eq!(out[..21], [0; 21]);
+    }
+}
+
+#[test]
 fn windows() {
     assert_eq!([0, 1, 2, 3, 6, 7, 8, u32::MAX].map(window), [1, 1, 1, 3, 1, 7, 1, 1]);
 }

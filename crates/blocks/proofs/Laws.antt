@@ -7,7 +7,7 @@ use native.Mathlib.Omega.{arith}
 use lib.ListN.{length, take, drop, length-take, length-drop}
 use lib.Seq.{take-all, take-take, drop-drop}
 use lib.Dec.{leb, eqb}
-use borrow.Author.Tests.{le-leb, lt-leb, leb-true, not-true, not-false}
+use borrow.Author.Tests.{le-leb, lt-leb, leb-true, eq-eqb, ne-eqb, not-true, not-false}
 use Rattle.octets.specs.Numbers.{u32At}
 use Rattle.octets.specs.declared.Cursor.{Cursor}
 use Rattle.octets.proofs.NumberLaws.{number-same, number-drop}
@@ -16,12 +16,12 @@ use Rattle.format.specs.declared.Fault.the-variants.{Cut as CUT, Block as BLOCK
 use Rattle.format.specs.declared.Place.{Place}
 use Rattle.format.specs.Tests.{Outcome, got, refused, _else_, tests, andThen, place, noPlace}
 use Rattle.format.specs.Items.{itemList}
-use Rattle.format.specs.Blocks.{pathTexts, blockOk, blockSize, blockTests, blocks}
+use Rattle.format.specs.Blocks.{pathTexts, blockOk, blockSize, blockTests, blocks, firstPlace}
 use Rattle.format.specs.Shortcut.{sum}
 use Rattle.format.proofs.Chains.{Pass}
 use Rattle.format.proofs.BlockLaws.{none-left, the-end, one-more, step-elim}
 use Rattle.format.proofs.Bools.{clash}
-use Rattle.blocks.specs.Walk.{plainOk, walkedFrom, blocksAt, nthPlace, NthOf}
+use Rattle.blocks.specs.Walk.{plainOk, walkedFrom, blocksAt, nthPlace, Picked, NthOf, FirstOf}
 use Rattle.blocks.specs.declared.Walked.{Walked}
 use Rattle.blocks.specs.declared.Walked.the-variants.{Body, Refused}
 
@@ -147,13 +147,13 @@ module _ (s : List ℕ) (a p : ℕ) {r : Walked} (inv : walkAt s a p ≡ r) wher
         unfolding walkAt
         walk-more t h = sym (on-more a p n h (blocks (p + n) (drop (p + n) s))) ∙ (rw (not-false k t) at judged)
 
--- ---- block number k
+-- ---- one of the blocks
 
 -- no block at p passes its tests
-pub nth-none : (s : List ℕ) (p k : ℕ) → (8 ≤ u32At s p → p + u32At s p ≤ length s → ⊥) → NthOf s p k noPlace
-nth-none s p k h = record {
+pick-none : (s : List ℕ) (p : ℕ) (pick : List ℕ → Place) → noPlace ≡ pick [] → (8 ≤ u32At s p → p + u32At s p ≤ length s → ⊥) → Picked s p pick noPlace
+pick-none s p pick z h = record {
   inside = omega arith;
-  is = step-elim p (drop p s) (λ lengths n. noPlace ≡ nthPlace p lengths k) (λ l t. refl) (λ c lengths m i. absurd (no c));
+  is = step-elim p (drop p s) (λ lengths n. noPlace ≡ pick lengths) (λ l t. z) (λ c lengths m i. absurd (no c));
 }
   where
     no : Pass (blockTests (drop p s)) → ⊥
@@ -164,24 +164,44 @@ nth-none s p k h = record {
         let d = length-drop p s in
         h (omega arith) (omega arith)
 
+pub nth-none : (s : List ℕ) (p k : ℕ) → (8 ≤ u32At s p → p + u32At s p ≤ length s → ⊥) → NthOf s p k noPlace
+nth-none s p k h = pick-none s p (λ lengths. nthPlace p lengths k) refl h
+
+pub first-none : (s : List ℕ) (p signature : ℕ) → (8 ≤ u32At s p → p + u32At s p ≤ length s → ⊥) → FirstOf s p signature noPlace
+first-none s p signature h = pick-none s p (firstPlace s signature p) refl h
+
 module _ (s : List ℕ) (p : ℕ) {n : ℕ} (e : n ≡ u32At s p) (more : 4 ≤ n) where
+  module _ (pick : List ℕ → Place) where
+    pick-here : ((lengths : List ℕ) → place p n ≡ pick (n ∷ lengths)) → p + n ≤ length s → Picked s p pick (place p n)
+    pick-here z h = record {
+      inside = h;
+      is = step-elim p (drop p s) (λ lengths m. place p n ≡ pick lengths) (λ l t. absurd (omega (arith, size-at s p e)))
+          (λ c lengths m i. rw (size-at s p e) (z lengths));
+    }
+
+    pick-next : (after : List ℕ → Place) {b : Place} → ((lengths : List ℕ) → after lengths ≡ pick (n ∷ lengths)) → Picked s (p + n) after b → Picked s p pick b
+    pick-next after {b} z h = record {
+      inside = h .inside;
+      is = step-elim p (drop p s) (λ lengths m. b ≡ pick lengths) (λ l t. absurd (omega (arith, size-at s p e)))
+          (λ c lengths m i.
+          let j : blocks (p + n) (drop (p + n) s) ≡ got lengths m = rw (size-at s p e, drop-drop n p s) at i in
+          h .is lengths m j ∙ rw (size-at s p e) (z lengths));
+    }
+
   pub nth-here : (k : ℕ) → k ≡ 0 → p + n ≤ length s → NthOf s p k (place p n)
-  nth-here k z h = record {
-    inside = h;
-    is = step-elim p (drop p s) (λ lengths m. place p n ≡ nthPlace p lengths k) (λ l t. absurd (omega (arith, size-at s p e)))
-        (λ c lengths m i. rw (size-at s p e, z));
-  }
+  nth-here k z = pick-here (λ lengths. nthPlace p lengths k) (λ lengths. rw z)
 
   pub nth-next : (k : ℕ) {b : Place} → (k ≡ 0 → ⊥) → NthOf s (p + n) (k - 1) b → NthOf s p k b
   nth-next zero z h = absurd (z refl)
-  nth-next (suc k) {b} z h = record {
-    inside = h .inside;
-    is = step-elim p (drop p s) (λ lengths m. b ≡ nthPlace p lengths (suc k)) (λ l t. absurd (omega (arith, size-at s p e)))
-        (λ c lengths m i.
-        let q : suc k - 1 ≡ k = omega arith in
-        let j : blocks (p + n) (drop (p + n) s) ≡ got lengths m = rw (size-at s p e, drop-drop n p s) at i in
-        rw (size-at s p e, ← q) (h .is lengths m j));
-  }
+  nth-next (suc k) z h =
+      let q : suc k - 1 ≡ k = omega arith in
+      pick-next (λ lengths. nthPlace p lengths (suc k)) (λ lengths. nthPlace (p + n) lengths (suc k - 1)) (λ lengths. rw q) h
+
+  pub first-here : (signature : ℕ) → u32At s (p + 4) ≡ signature → p + n ≤ length s → FirstOf s p signature (place p n)
+  first-here signature z = pick-here (firstPlace s signature p) (λ lengths. rw (eq-eqb (u32At s (p + 4)) signature z))
+
+  pub first-next : (signature : ℕ) {b : Place} → (u32At s (p + 4) ≡ signature → ⊥) → FirstOf s (p + n) signature b → FirstOf s p signature b
+  first-next signature z = pick-next (firstPlace s signature p) (firstPlace s signature (p + n)) (λ lengths. rw (ne-eqb (u32At s (p + 4)) signature z))
 
 -- ---- from an answer to the facts
 

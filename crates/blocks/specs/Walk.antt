@@ -6,7 +6,7 @@ use mathlib.Core.Bool.{Bool, false}
 use lib.ListN.{length, drop}
 use Rattle.format.specs.declared.Place.{Place}
 use Rattle.format.specs.Tests.{Outcome, got, refused, place, noPlace}
-use Rattle.format.specs.Blocks.{blockTable, blocks}
+use Rattle.format.specs.Blocks.{blockTable, blocks, firstPlace}
 use Rattle.format.specs.Shortcut.{sum}
 use Rattle.blocks.specs.declared.Walked.{Walked}
 use Rattle.blocks.specs.declared.Walked.the-variants.{Body, Refused}
@@ -29,7 +29,15 @@ nthPlace p [] k = noPlace
 nthPlace p (n ∷ ns) zero = place p n
 nthPlace p (n ∷ ns) (suc k) = nthPlace (p + n) ns k
 
--- b stands inside s; and where the blocks from p on are read, it is the place of number k
-pub record NthOf (s : List ℕ) (p k : ℕ) (b : Place) : Type 0 where
+-- b stands inside s; and where the blocks from p on are read, it is the one that is picked by their lengths
+pub record Picked (s : List ℕ) (p : ℕ) (pick : List ℕ → Place) (b : Place) : Type 0 where
   pub inside : b .at + b .len ≤ length s
-  pub is : (lengths : List ℕ) (n : ℕ) → blocks p (drop p s) ≡ got lengths n → b ≡ nthPlace p lengths k
+  pub is : (lengths : List ℕ) (n : ℕ) → blocks p (drop p s) ≡ got lengths n → b ≡ pick lengths
+
+-- the place of number k
+abbrev pub NthOf : List ℕ → ℕ → ℕ → Place → Type 0
+NthOf s p k = Picked s p (λ lengths. nthPlace p lengths k)
+
+-- the place of the first with this signature
+abbrev pub FirstOf : List ℕ → ℕ → ℕ → Place → Type 0
+FirstOf s p signature = Picked s p (firstPlace s signature p)

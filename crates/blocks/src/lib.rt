@@ -8,7 +8,7 @@ ghost use Prim.Native.Nat.{_≤_};
 ghost use lib.ListN.{length};
 ghost use lib.Dec.{eqb};
 ghost use Rattle.format.specs.Blocks.{pathTexts, blockOk};
-ghost use Rattle.blocks.specs.Walk.{plainOk, blocksAt, NthOf};
+ghost use Rattle.blocks.specs.Walk.{plainOk, blocksAt, NthOf, FirstOf};
 
 // All blocks before the terminal as one body, with the cursor after the terminal; or the fault and the start of the block at fault.
 pub enum Walked {
@@ -133,6 +133,33 @@ pub fn nth_block(s: &[u8], from: usize, k: usize) -> Place
             return Place { at: p, len: size };
         }
         left -= 1;
+        p += size;
+    }
+    none
+}
+
+// Where the first block with this signature stands, of those that start at `from`; the empty place where there is none.
+pub fn first_block(s: &[u8], from: usize, signature: u32) -> Place
+    ensures { λ r. ⌜ FirstOf (now (s .entry)) from signature r ⌝ }
+    ensures sized { λ r. ⌜ ((r .len ≡ 0 → ⊥) → 8 ≤ r .len) ⌝ }
+{
+    let none = Place { at: 0, len: 0 };
+    let n = s.len();
+    if n < from {
+        return none;
+    }
+    let mut p = from;
+    while 4 <= n - p {
+        let size = octets::u32_at(s, p) as usize;
+        if size < 8 {
+            return none;
+        }
+        if n - p < size {
+            return none;
+        }
+        if octets::u32_at(s, p + 4) == signature {
+            return Place { at: p, len: size };
+        }
         p += size;
     }
     none

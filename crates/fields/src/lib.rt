@@ -6,22 +6,13 @@ use format::Place;
 use format::Record;
 use format::Volume;
 ghost use mathlib.Core.Path.{_≡_};
-ghost use mathlib.Core.Bool.{true, cond};
+ghost use mathlib.Core.Bool.{true};
 ghost use Prim.Native.Nat.{_+_, _≤_, _<_};
 ghost use lib.ListN.{length, getD};
 ghost use Rattle.octets.specs.Parts.{put};
 ghost use Rattle.fields.specs.Fields.{fieldCount, numbersOf, placesOf, fieldsOf, headerNumbers, infoNumbers, areRecord, placeAt, headerFrom, volumeFrom, networkFrom, infoFrom, recordFrom};
 
 const WORD: u64 = 0x1_0000_0000;
-
-fn one_or_0(b: bool) -> u64
-    ensures { λ r. ⌜ r ≡ cond b 1 0 ⌝ }
-{
-    if b {
-        return 1;
-    }
-    0
-}
 
 fn numbers_of(q: Record) -> [u64; 17]
     ensures { λ r. ⌜ r ≡ numbersOf q ⌝ }
@@ -42,13 +33,13 @@ fn numbers_of(q: Record) -> [u64; 17]
         h.command as u64,
         h.hotkey as u64,
         i.flags as u64,
-        one_or_0(i.long),
+        format::one_or_0(i.long) as u64,
         v.drive as u64,
         v.serial as u64,
-        one_or_0(format::label_unicode(label)),
+        format::one_or_0(format::label_unicode(label)) as u64,
         n.flags as u64,
         n.provider as u64,
-        one_or_0(n.unicode),
+        format::one_or_0(n.unicode) as u64,
     ]
 }
 

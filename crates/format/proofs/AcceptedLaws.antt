@@ -18,7 +18,7 @@ use Rattle.format.specs.Contents.{Contents, present, placed, bodies, all
 use Rattle.format.specs.Demands.{Refuses}
 use Rattle.format.proofs.Chains.{passed, got-elim, no-value}
 use Rattle.format.proofs.WholeLaws.{decode}
-use Rattle.format.proofs.PlaceLaws.{mapped}
+use Rattle.format.proofs.PlaceLaws.{mapped, AllIn, all-in}
 use Rattle.format.proofs.ReadingLaws.{decode-is}
 use Rattle.format.proofs.FoundLaws.{read-present, read-inside}
 
@@ -55,7 +55,19 @@ accepted-read s r n e = go (shortcut s) refl (ap (λ (x : Reading). x .verdict) 
         record { sections = c; is = i ∙ ap (got c) q; held = h }
     go (refused f p) i v h = absurd (let z : _≡_ {A = ℕ} 0 1 = cc in omega arith)
 
--- ---- what holds of it
+-- a refused one
+pub refused-read : (s : List ℕ) {f : Fault} {p : ℕ} → reading s .verdict ≡ Refused f p → shortcut s ≡ refused f p
+unfolding reading
+refused-read s {f} {p} e = go (shortcut s) refl e
+  where
+    go : (o : Outcome Sections) → shortcut s ≡ o → verdictOf o ≡ Refused f p → shortcut s ≡ refused f p
+    go (got c n) i h = absurd (let z : _≡_ {A = ℕ} 0 1 = cc in omega arith)
+    go (refused x y) i h =
+        let a : x ≡ f = cc in
+        let b : y ≡ p = cc in
+        i ∙ rw (a, b)
+
+-- ---- what holds of an accepted one
 
 module _ (s : List ℕ) (r : Record) (n : ℕ) (e : reading s ≡ record { verdict = Accepted n; held = r }) where
   reads : Read s r n
@@ -81,6 +93,10 @@ module _ (s : List ℕ) (r : Record) (n : ℕ) (e : reading s ≡ record { verdi
       let w = shortcut-whole s (x .sections) n (x .is) in
       let i = read-inside s (x .sections) n (w .read) (omega (arith, w .all)) in
       ap (λ (q : Record). allInside (length s) (bodies q)) (accepted-present ∙ sym (x .held)) ∙ i
+
+  pub accepted-bodies : AllIn (length s) (bodies r)
+  unfolding placed
+  accepted-bodies = all-in (length s) (bodies r) (ap (λ (q : Record). allInside (length s) (bodies q)) (sym accepted-present) ∙ accepted-inside)
 
   pub accepted-decode : decode s ≡ got (contents s r) n
   unfolding contents

@@ -127,7 +127,7 @@ pub blocks-same : (p : ℕ) (s lengths : List ℕ) (n : ℕ) → blocks p s ≡ 
 blocks-same p s lengths n e = same-blocks (length s) p s lengths n (omega arith) e
 
 -- what was read ends in a terminal block
-terminal : (k p : ℕ) (s lengths : List ℕ) (n : ℕ) → length s ≤ k → blocks p s ≡ got lengths n → blockSize (drop (n - 4) s) < 4
+pub terminal : (k p : ℕ) (s lengths : List ℕ) (n : ℕ) → length s ≤ k → blocks p s ≡ got lengths n → blockSize (drop (n - 4) s) < 4
 terminal zero p s lengths n l e = no-value (sym (none-left p s (omega arith)) ∙ e)
 terminal (suc k) p s lengths n l e =
     step-elim p s (λ lengths n. blockSize (drop (n - 4) s) < 4)

@@ -1,4 +1,4 @@
--- What reading gives: zeros for what is absent, bodies inside the file, and sections end to end.
+-- What reading gives: zeros for what is absent, the blocks of a walk, bodies inside the file, and sections end to end.
 use mathlib.Core.Path.{_≡_, refl}
 use mathlib.Core.List.{List, [], _∷_, _++_}
 use mathlib.Core.Bool.{Bool, true, false, _&&_, cond}
@@ -36,7 +36,7 @@ use Rattle.format.proofs.InfoLaws.{infoValue}
 use Rattle.format.proofs.BlockLaws.{blocks-walked}
 use Rattle.format.proofs.PlaceLaws.{found-elim, Always, chain-always, then-always, section-always, Lies, chain-lies, then-lies, found-lies, section-lies, inside-more}
 
--- ---- zeros for what is absent
+-- ---- zeros for what is absent; the blocks of a walk
 
 network-present : (p : ℕ) (v : List ℕ) → presentNetwork (networkFields p v) ≡ networkFields p v
 network-present p v =
@@ -65,11 +65,15 @@ module _ (f : List ℕ) where
   abbrev string-always : (flags k : ℕ) → Always f (stringSection flags k) (λ c. cond (bit k flags) (c .read) noPlace ≡ c .read)
   string-always flags k = section-always f (string (bit 7 flags)) (bit k flags) noPlace (λ b. b) (λ p a n e. refl)
 
-  blocks-always : Always f (found blocks) (λ c. Unit {0})
-  blocks-always = record { always = λ p a n e. tt }
+  -- the blocks are what a walk from their start on gives
+  abbrev Walk : Section (List ℕ) → Type 0
+  Walk c = blocks (c .start) (drop (c .start) f) ≡ got (c .read) (c .len)
 
-  abbrev Zeroed : ℕ → Tail → Type 0
-  Zeroed flags c =
+  blocks-always : Always f (found blocks) Walk
+  blocks-always = record { always = λ p c n e. found-elim blocks p (drop p f) (λ c n. Walk c) (λ ls n i. i) c n e }
+
+  abbrev Known : ℕ → Tail → Type 0
+  Known flags c =
       (cond (bit 0 flags) (c .0 .read) noPlace ≡ c .0 .read)
       × ((cond (bit 1 flags) (presentInfo (c .1 .0 .read)) noInfo ≡ c .1 .0 .read)
       × ((cond (bit 2 flags) (c .1 .1 .0 .read) noPlace ≡ c .1 .1 .0 .read)
@@ -77,9 +81,9 @@ module _ (f : List ℕ) where
       × ((cond (bit 4 flags) (c .1 .1 .1 .1 .0 .read) noPlace ≡ c .1 .1 .1 .1 .0 .read)
       × ((cond (bit 5 flags) (c .1 .1 .1 .1 .1 .0 .read) noPlace ≡ c .1 .1 .1 .1 .1 .0 .read)
       × ((cond (bit 6 flags) (c .1 .1 .1 .1 .1 .1 .0 .read) noPlace ≡ c .1 .1 .1 .1 .1 .1 .0 .read)
-      × Unit {0}))))))
+      × Walk (c .1 .1 .1 .1 .1 .1 .1)))))))
 
-  tail-always : (flags : ℕ) → Always f (tail flags) (Zeroed flags)
+  tail-always : (flags : ℕ) → Always f (tail flags) (Known flags)
   tail-always flags =
       then-always f (section-always f items (bit 0 flags) noPlace (λ b. b) (λ p a n e. refl))
       (then-always f (section-always f info (bit 1 flags) noInfo presentInfo (λ p a n e.
@@ -95,16 +99,21 @@ module _ (f : List ℕ) where
   header-always : Always f (found header) (λ c. Unit {0})
   header-always = record { always = λ p a n e. tt }
 
-  zeroed-always : Always f (chain (found header) (λ h. tail (h .read .flags))) (λ c. Unit {0} × Zeroed (c .0 .read .flags) (c .1))
-  zeroed-always =
-      chain-always f (λ (h : Section Header). tail (h .read .flags)) (λ (h : Section Header). Zeroed (h .read .flags)) header-always (λ h. tail-always (h .read .flags))
+  known-always : Always f (chain (found header) (λ h. tail (h .read .flags))) (λ c. Unit {0} × Known (c .0 .read .flags) (c .1))
+  known-always =
+      chain-always f (λ (h : Section Header). tail (h .read .flags)) (λ (h : Section Header). Known (h .read .flags)) header-always (λ h. tail-always (h .read .flags))
 
   -- reading puts zeros there: what it gives is what is present
   pub read-present : (c : Sections) (n : ℕ) → sections 0 f ≡ got c n → present (recordOf c) ≡ recordOf c
   unfolding sections present
   read-present c n e =
-      let x = (zeroed-always .always 0 c n e) .1 in
+      let x = (known-always .always 0 c n e) .1 in
       rw (x .0, x .1 .0, x .1 .1 .0, x .1 .1 .1 .0, x .1 .1 .1 .1 .0, x .1 .1 .1 .1 .1 .0, x .1 .1 .1 .1 .1 .1 .0)
+
+  -- and its blocks are those of a walk
+  pub read-walk : (c : Sections) (n : ℕ) → sections 0 f ≡ got c n → Walk (c .1 .1 .1 .1 .1 .1 .1 .1)
+  unfolding sections
+  read-walk c n e = (known-always .always 0 c n e) .1 .1 .1 .1 .1 .1 .1 .1
 
 -- ---- bodies inside
 

@@ -20,5 +20,9 @@ pub mod TypedLaws
 pub mod AcceptedLaws
 pub mod BodyLaws
 pub mod TargetLaws
+pub mod KeyLaws
 pub mod Demands
+pub mod KeyDemands
+pub mod KeyRoom
+pub mod KeySame
 pub mod ProbeLaws

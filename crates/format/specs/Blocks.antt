@@ -5,8 +5,9 @@ use mathlib.Core.Bool.{Bool, true, false, _&&_, _||_, cond}
 use lib.ListN.{length, take, drop}
 use lib.Dec.{leb, ltb, eqb}
 use Rattle.octets.specs.Numbers.{u32At}
+use Rattle.format.specs.declared.Place.{Place}
 use Rattle.format.specs.declared.Fault.the-variants.{Cut as CUT, Block as BLOCK}
-use Rattle.format.specs.Tests.{Test, _else_, tests, Outcome, got, refused, Reader, andThen}
+use Rattle.format.specs.Tests.{Test, _else_, tests, Outcome, got, refused, Reader, andThen, place, noPlace}
 use Rattle.format.specs.Items.{itemList}
 use Rattle.format.specs.Pieces.{textEnds}
 
@@ -62,3 +63,8 @@ blocksFrom p (suc k) (a ∷ l) = blocksFrom p k l
 
 abbrev pub blocks : Reader (List ℕ)
 blocks p s = blocksFrom p 0 s
+
+-- the first block with this signature, of blocks of these lengths from p on; the empty place where there is none
+abbrev pub firstPlace : List ℕ → ℕ → ℕ → List ℕ → Place
+firstPlace s signature p [] = noPlace
+firstPlace s signature p (n ∷ ns) = cond (eqb (u32At s (p + 4)) signature) (place p n) (firstPlace s signature (p + n) ns)

@@ -13,6 +13,7 @@ pub mod Contents
 pub mod Ranges
 pub mod Writing
 pub mod Target
+pub mod Key
 pub mod Listing
 pub mod Demands
 pub mod Probes

@@ -1,5 +1,6 @@
 // The record of a shortcut, and the answers that calls give.
 ghost use mathlib.Core.Path.{_≡_};
+ghost use mathlib.Core.Bool.{cond};
 ghost use Rattle.format.specs.Numbers.{numberOf};
 ghost use Rattle.format.specs.Tests.{bit};
 ghost use Rattle.format.specs.Header.{signed};
@@ -131,6 +132,15 @@ pub fn bit_1(n: u32) -> bool
     ensures { λ r. ⌜ r ≡ bit 1 n ⌝ }
 {
     n / 2 % 2 == 1
+}
+
+pub fn one_or_0(b: bool) -> u8
+    ensures { λ r. ⌜ r ≡ cond b 1 0 ⌝ }
+{
+    if b {
+        return 1;
+    }
+    0
 }
 
 // A number's 32 bits as a signed number. `!` asks for no sum that could leave the type.

@@ -1,4 +1,7 @@
-// The lines that the listing program writes, on standard output.
+// The lines that the programs write, on standard output.
+mod hex;
+
+use crate::hex::put_hex;
 use format::Fault;
 use format::Verdict;
 use reader::Ends;
@@ -81,4 +84,14 @@ pub fn listing(s: &[u8]) {
         }
         Verdict::Refused(f, p) => refused_line(f, p),
     }
+}
+
+// At most as many bytes as a shortcut may have, in one line.
+pub fn hex_line(w: &[u8]) {
+    let mut out = [0u8; 131072];
+    if w.len() <= 65536 {
+        put_hex(&mut out, w);
+        io::write_all(1, octets::part(&out, 0, 2 * w.len()));
+    }
+    io::write_all(1, b"\n");
 }

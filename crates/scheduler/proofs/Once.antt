@@ -8,6 +8,8 @@ use Rattle.scheduler.proofs.herringnet_check as herringnet-check
 use Rattle.scheduler.proofs.herringnet_check.Reads as herringnet-check-reads
 use Rattle.scheduler.proofs.herringnet_target as herringnet-target
 use Rattle.scheduler.proofs.herringnet_target.Reads as herringnet-target-reads
+use Rattle.scheduler.proofs.herringnet_key as herringnet-key
+use Rattle.scheduler.proofs.herringnet_key.Reads as herringnet-key-reads
 use Rattle.scheduler.proofs.herringnet_section as herringnet-section
 use Rattle.scheduler.proofs.herringnet_section.Reads as herringnet-section-reads
 use Rattle.scheduler.proofs.herringnet_read as herringnet-read
@@ -24,6 +26,9 @@ herringnet-section-once κs a r q s t p o = p ∙ sym o
 -- one answer, and one content of the buffer
 pub herringnet-target-once : (κs : Lfts 2) (a : ArgsD herringnet-target.signature κs) (r q : ResD herringnet-target.signature κs) (s t : AtExit herringnet-target.ended κs) → herringnet-target-reads.Post κs a r s → herringnet-target-reads.Post κs a q t → (r ≡ q) × (now (s .1 .0) ≡ now (t .1 .0))
 herringnet-target-once κs a r q s t p o = (p .0 ∙ sym (o .0), p .1 ∙ sym (o .1))
+
+pub herringnet-key-once : (κs : Lfts 2) (a : ArgsD herringnet-key.signature κs) (r q : ResD herringnet-key.signature κs) (s t : AtExit herringnet-key.ended κs) → herringnet-key-reads.Post κs a r s → herringnet-key-reads.Post κs a q t → (r ≡ q) × (now (s .1 .0) ≡ now (t .1 .0))
+herringnet-key-once κs a r q s t p o = (p .0 ∙ sym (o .0), p .1 ∙ sym (o .1))
 
 pub herringnet-read-once : (κs : Lfts 2) (a : ArgsD herringnet-read.signature κs) (r q : ResD herringnet-read.signature κs) (s t : AtExit herringnet-read.ended κs) → herringnet-read-reads.Post κs a r s → herringnet-read-reads.Post κs a q t → (r ≡ q) × (now (s .1 .0) ≡ now (t .1 .0))
 herringnet-read-once κs a r q s t p o = (p .0 ∙ sym (o .0), p .1 ∙ sym (o .1))

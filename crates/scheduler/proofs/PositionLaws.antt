@@ -7,7 +7,7 @@ use native.Mathlib.Omega.{arith}
 use lib.ListN.{length, take, drop, length-drop}
 use lib.Dec.{leb, eqb}
 use borrow.Author.Tests.{leb-true}
-use Rattle.octets.specs.Numbers.{u16At}
+use Rattle.octets.specs.Numbers.{Bytes, u16At}
 use Rattle.octets.specs.Characters.{bytesOf}
 use Rattle.format.specs.declared.Fault.the-variants.{Long as LONG, Trail as TRAIL, Cut as CUT, Info as INFO, Place as PLACE, Unwritable as UNWRITABLE, Room as ROOM, NoTarget as NOTARGET}
 use Rattle.format.specs.declared.Record.{Record}
@@ -22,11 +22,15 @@ use Rattle.format.specs.Shortcut.{most, Section, Sections, found, sectionIf, st
 use Rattle.format.specs.Contents.{Contents, placed, contents}
 use Rattle.format.specs.Writing.{every, canonical, writable, writing, writeAnswer}
 use Rattle.format.specs.Target.{hasTarget, targetText, target, targetAnswer}
+use Rattle.format.specs.Key.{keyOf, keyBytes, key, keyAnswer, keyIn}
+use Rattle.format.specs.Demands.{Accepts}
 use Rattle.format.proofs.Bools.{and-true, by-order}
 use Rattle.format.proofs.Chains.{Pass}
 use Rattle.format.proofs.BlockLaws.{none-left, the-end, one-more}
 use Rattle.format.proofs.AcceptedLaws.{shortcut-whole}
 use Rattle.format.proofs.TargetLaws.{text-small}
+use Rattle.format.proofs.Demands.{accepted-whole}
+use Rattle.format.proofs.KeyRoom.{key-short}
 use Rattle.writable.specs.Sections.{sectionTests}
 use Rattle.writable.proofs.TestLaws.{every-last}
 
@@ -176,6 +180,26 @@ target-small s out = go (shortcut s) refl
     go (got c n) i =
         let w = shortcut-whole s c n i in
         either (targetText s (recordOf c)) (omega (arith, w .limit, text-small s (recordOf c))) (hasTarget (recordOf c)) (leb (length (targetText s (recordOf c))) (length out))
+    go (refused f q) i =
+        let h : answerValue (verdictOf (shortcut s)) ≤ 65536 = small s in
+        let k : q ≤ 65536 = rw i at h in
+        omega arith
+
+-- a key is no longer than its shortcut
+pub key-small : (s out : List ℕ) → Bytes s → answerValue (keyAnswer s out) ≤ 131073
+unfolding answerValue keyAnswer key keyIn reading
+key-small s out bs = go (shortcut s) refl
+  where
+    either : (w : List ℕ) → length w ≤ 65536 → (b : Bool) → answerValue (verdictOf (cond b (got w (length w)) (refused ROOM 0))) ≤ 131073
+    either w h true = omega arith
+    either w h false = omega arith
+
+    go : (o : Outcome Sections) → shortcut s ≡ o
+        → answerValue (verdictOf (andThen o (λ c n. tests 0 (leb (length (keyBytes (keyOf s c))) (length out) else ROOM ∷ []) (got (keyBytes (keyOf s c)) (length (keyBytes (keyOf s c))))))) ≤ 131073
+    go (got c n) i =
+        let a : Accepts s (recordOf c) = accepted-whole s (recordOf c) n (rw i) in
+        let k : length (keyBytes (keyOf s c)) ≤ length s = rw i at (key-short s (recordOf c) bs a) in
+        either (keyBytes (keyOf s c)) (omega (arith, (shortcut-whole s c n i) .limit)) (leb (length (keyBytes (keyOf s c))) (length out))
     go (refused f q) i =
         let h : answerValue (verdictOf (shortcut s)) ≤ 65536 = small s in
         let k : q ≤ 65536 = rw i at h in

@@ -5,6 +5,7 @@ ghost use Prim.Native.Nat.{_≤_};
 ghost use Rattle.format.specs.Numbers.{answerValue};
 ghost use Rattle.format.specs.Shortcut.{reading};
 ghost use Rattle.format.specs.Target.{targetAnswer, targetOutput};
+ghost use Rattle.format.specs.Key.{keyAnswer, keyOutput};
 ghost use Rattle.format.specs.Listing.{sectionPlace};
 ghost use Rattle.scheduler.specs.Code.{codeOf, sectionCode};
 ghost use Rattle.scheduler.specs.Fields.{readCode, readFields, writeCode, writtenFields};
@@ -33,6 +34,15 @@ pub extern "C" fn herringnet_target(s: &[u8], out: &mut [u8]) -> u64
     ensures output { λ _. ⌜ now (out .exit) ≡ targetOutput (now (s .entry)) (now (out .entry)) ⌝ }
 {
     let v = target::target(s, out);
+    code_of(v)
+}
+
+#[no_mangle]
+pub extern "C" fn herringnet_key(s: &[u8], out: &mut [u8]) -> u64
+    ensures answer { λ r. ⌜ r ≡ codeOf (keyAnswer (now (s .entry)) (now (out .entry))) ⌝ }
+    ensures output { λ _. ⌜ now (out .exit) ≡ keyOutput (now (s .entry)) (now (out .entry)) ⌝ }
+{
+    let v = keying::key(s, out);
     code_of(v)
 }
 

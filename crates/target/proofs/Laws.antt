@@ -17,15 +17,14 @@ use Rattle.format.specs.declared.Fault.{Fault}
 use Rattle.format.specs.declared.Fault.the-variants.{Room as ROOM, NoTarget as NOTARGET}
 use Rattle.format.specs.declared.Verdict.{Verdict}
 use Rattle.format.specs.declared.Verdict.the-variants.{Accepted, Refused}
-use Rattle.format.specs.Tests.{Outcome, got, refused, _else_, tests, bit}
-use Rattle.format.specs.Shortcut.{Sections, shortcut, verdictOf, reading}
-use Rattle.format.specs.Contents.{bytesAt, bodies, allInside, placed}
+use Rattle.format.specs.Tests.{got, refused, _else_, tests, bit}
+use Rattle.format.specs.Shortcut.{reading}
+use Rattle.format.specs.Contents.{bytesAt}
 use Rattle.format.specs.Writing.{outputOf}
 use Rattle.format.specs.Target.{hasTarget, separated, backslash, separator, targetText, target, targetAnswer, targetOutput}
 use Rattle.format.proofs.BodyLaws.{body-length, body-part, part-length}
 use Rattle.format.proofs.TargetLaws.{separator-few}
-use Rattle.format.proofs.PlaceLaws.{all-in}
-use Rattle.format.proofs.AcceptedLaws.{accepted-read, accepted-inside, accepted-present, accepted-limit}
+use Rattle.format.proofs.AcceptedLaws.{accepted-read, refused-read, accepted-bodies, accepted-limit}
 use Rattle.target.specs.declared.Texts.{Texts}
 use Rattle.target.specs.Texts.{firstText, separators, textsOf, Stands, textsLength, textsBytes}
 
@@ -36,12 +35,10 @@ pub record Inside (s : List ℕ) (r : Record) : Type 0 where
   pub suffix : r .info .suffix .at + r .info .suffix .len ≤ length s
   pub small : length s ≤ 65536
 
-texts-inside : (s : List ℕ) (r : Record) (n : ℕ) → reading s ≡ record { verdict = Accepted n; held = r } → Inside s r
-unfolding placed firstText
+pub texts-inside : (s : List ℕ) (r : Record) (n : ℕ) → reading s ≡ record { verdict = Accepted n; held = r } → Inside s r
+unfolding firstText
 texts-inside s r n e =
-    let all : allInside (length s) (bodies r) ≡ true
-    = ap (λ (q : Record). allInside (length s) (bodies q)) (sym (accepted-present s r n e)) ∙ accepted-inside s r n e in
-    let i = all-in (length s) (bodies r) all in
+    let i = accepted-bodies s r n e in
     record {
       first = either (bit 0 (r .info .flags)) (r .info .local) (r .info .network .net) (i .1 .1 .0) (i .1 .1 .1 .0);
       suffix = i .1 .1 .1 .1 .1 .1 .1 .0;
@@ -51,6 +48,12 @@ texts-inside s r n e =
     either : (b : Bool) (x y : Place) → x .at + x .len ≤ length s → y .at + y .len ≤ length s → (cond b x y) .at + (cond b x y) .len ≤ length s
     either true x y p q = p
     either false x y p q = q
+
+pub texts-stand : (s : List ℕ) (r : Record) (n : ℕ) → reading s ≡ record { verdict = Accepted n; held = r } → Stands s (textsOf s r)
+unfolding textsOf
+texts-stand s r n e =
+    let i = texts-inside s r n e in
+    (i .first, i .suffix, separator-few (bytesAt s (firstText r)) (bytesAt s (r .info .suffix)))
 
 -- ---- the text
 
@@ -62,7 +65,7 @@ counted first suffix = go (separated first suffix)
     go true = refl
     go false = refl
 
-texts-are : (s : List ℕ) (r : Record) → targetText s r ≡ textsBytes s (textsOf s r)
+pub texts-are : (s : List ℕ) (r : Record) → targetText s r ≡ textsBytes s (textsOf s r)
 unfolding firstText textsOf textsBytes
 texts-are s r = go (bit 0 (r .info .flags))
   where
@@ -111,7 +114,7 @@ module _ (s : List ℕ) (a b : Place) (ha : a .at + a .len ≤ length s) (hb : b
 separator-length : {k : ℕ} → k ≤ 1 → length (take k backslash) ≡ k
 separator-length {k} h = length-take-le k backslash h
 
-texts-long : (s : List ℕ) (t : Texts) → Stands s t → length (textsBytes s t) ≡ textsLength t
+pub texts-long : (s : List ℕ) (t : Texts) → Stands s t → length (textsBytes s t) ≡ textsLength t
 unfolding textsBytes
 texts-long s t h =
     let p = bytesAt s (t .first) in
@@ -122,21 +125,10 @@ texts-long s t h =
 -- ---- the ways out
 
 module _ (s out : List ℕ) {g : Reading} (e : g ≡ reading s) where
-  shortcut-left : {f : Fault} {p : ℕ} → g .verdict ≡ Refused f p → shortcut s ≡ refused f p
-  unfolding reading
-  shortcut-left {f} {p} q = go (shortcut s) refl (sym (ap (λ (x : Reading). x .verdict) e) ∙ q)
-    where
-      go : (o : Outcome Sections) → shortcut s ≡ o → verdictOf o ≡ Refused f p → shortcut s ≡ refused f p
-      go (got c n) i h = absurd (let z : _≡_ {A = ℕ} 0 1 = cc in omega arith)
-      go (refused x y) i h =
-          let a : x ≡ f = cc in
-          let b : y ≡ p = cc in
-          i ∙ rw (a, b)
-
   -- leaving with the refusal
   pub target-left : {f : Fault} {p : ℕ} → g .verdict ≡ Refused f p → (g .verdict ≡ targetAnswer s out) × (out ≡ targetOutput s out)
   unfolding targetAnswer targetOutput target outputOf
-  target-left q = let i = shortcut-left q in (q ∙ rw i, rw i)
+  target-left q = let i = refused-read s (ap (λ (x : Reading). x .verdict) (sym e) ∙ q) in (q ∙ rw i, rw i)
 
   module _ {n : ℕ} (q : g .verdict ≡ Accepted n) where
     accepted : reading s ≡ record { verdict = Accepted n; held = g .held }
@@ -153,11 +145,8 @@ module _ (s out : List ℕ) {g : Reading} (e : g ≡ reading s) where
       pub stands : Stands s t
       pub small : length s ≤ 65536
 
-    pub texts-stand : {t : Texts} → t ≡ textsOf s (g .held) → Found t
-    unfolding textsOf
-    texts-stand is =
-        let i = inside in
-        rw is (record { stands = (i .first, i .suffix, separator-few (bytesAt s (firstText (g .held))) (bytesAt s (g .held .info .suffix))); small = i .small })
+    pub found : {t : Texts} → t ≡ textsOf s (g .held) → Found t
+    found is = rw is (record { stands = texts-stand s (g .held) n accepted; small = inside .small })
 
     -- the target of what was read
     target-is : target s (length out) ≡ tests 0 (hasTarget (g .held) else NOTARGET ∷ leb (length (targetText s (g .held))) (length out) else ROOM ∷ []) (got (targetText s (g .held)) (length (targetText s (g .held))))
@@ -176,7 +165,7 @@ module _ (s out : List ℕ) {g : Reading} (e : g ≡ reading s) where
         target-text = texts-are s (g .held) ∙ rw (← is)
 
         long : length (textsBytes s t) ≡ m
-        long = texts-long s t (texts-stand is .stands) ∙ sym sum
+        long = texts-long s t (found is .stands) ∙ sym sum
 
         pub target-room : length out < m → (Refused ROOM 0 ≡ targetAnswer s out) × (out ≡ targetOutput s out)
         unfolding targetAnswer targetOutput outputOf
@@ -197,32 +186,32 @@ module _ (s out : List ℕ) {g : Reading} (e : g ≡ reading s) where
 separator-is : {k : ℕ} {q : List ℕ} → k ≤ 1 → q ≡ part backslash 0 k → q ≡ take k backslash
 separator-is {k} h e = e ∙ sym (part-in backslash 0 k (omega arith))
 
-module _ (s d : List ℕ) (t : Texts) (h : Stands s t) (room : textsLength t ≤ length d) where
-  pub first-fits : {p : List ℕ} → p ≡ part s (t .first .at) (t .first .len) → 0 + length p ≤ length d
+module _ (s d : List ℕ) (t : Texts) (at : ℕ) (h : Stands s t) (room : at + textsLength t ≤ length d) where
+  pub first-fits : {p : List ℕ} → p ≡ part s (t .first .at) (t .first .len) → at + length p ≤ length d
   first-fits e = omega (arith, part-length s (t .first) (h .0) e)
 
-  module _ {p x : List ℕ} (ep : p ≡ part s (t .first .at) (t .first .len)) (ex : x ≡ put d 0 p) where
+  module _ {p x : List ℕ} (ep : p ≡ part s (t .first .at) (t .first .len)) (ex : x ≡ put d at p) where
     same-x : length x ≡ length d
-    same-x = ap length ex ∙ length-put d 0 p (first-fits ep)
+    same-x = ap length ex ∙ length-put d at p (first-fits ep)
 
-    pub separators-fits : {q : List ℕ} → q ≡ part backslash 0 (t .separators) → t .first .len + length q ≤ length x
+    pub separators-fits : {q : List ℕ} → q ≡ part backslash 0 (t .separators) → at + t .first .len + length q ≤ length x
     separators-fits {q} e = omega (arith, same-x, ap length (separator-is (h .2) e), separator-length (h .2))
 
-    module _ {q y : List ℕ} (eq : q ≡ part backslash 0 (t .separators)) (ey : y ≡ put x (t .first .len) q) where
+    module _ {q y : List ℕ} (eq : q ≡ part backslash 0 (t .separators)) (ey : y ≡ put x (at + t .first .len) q) where
       same-y : length y ≡ length d
-      same-y = ap length ey ∙ length-put x (t .first .len) q (separators-fits eq) ∙ same-x
+      same-y = ap length ey ∙ length-put x (at + t .first .len) q (separators-fits eq) ∙ same-x
 
-      pub suffix-fits : {w : List ℕ} → w ≡ part s (t .suffix .at) (t .suffix .len) → t .first .len + t .separators + length w ≤ length y
+      pub suffix-fits : {w : List ℕ} → w ≡ part s (t .suffix .at) (t .suffix .len) → at + t .first .len + t .separators + length w ≤ length y
       suffix-fits e = omega (arith, same-y, part-length s (t .suffix) (h .1) e)
 
-      pub texts-put : {w z : List ℕ} → w ≡ part s (t .suffix .at) (t .suffix .len) → z ≡ put y (t .first .len + t .separators) w → z ≡ put d 0 (textsBytes s t)
+      pub texts-put : {w z : List ℕ} → w ≡ part s (t .suffix .at) (t .suffix .len) → z ≡ put y (at + t .first .len + t .separators) w → z ≡ put d at (textsBytes s t)
       unfolding textsBytes
       texts-put {w} {z} ew ez =
           let lp = part-length s (t .first) (h .0) ep in
           let lq : length q ≡ t .separators = ap length (separator-is (h .2) eq) ∙ separator-length (h .2) in
           let lw = part-length s (t .suffix) (h .1) ew in
-          let back : put y (t .first .len + t .separators) w ≡ put x (t .first .len) (q ++ w)
-          = rw ey (put-put x (t .first .len) q w {k = t .first .len + t .separators} (omega (arith, lq)) (omega (arith, same-x, lw))) in
-          let front : put x (t .first .len) (q ++ w) ≡ put d 0 (p ++ (q ++ w))
-          = rw ex (put-put d 0 p (q ++ w) {k = t .first .len} (omega (arith, lp)) (omega (arith, length-append q w, lq, lw))) in
+          let back : put y (at + t .first .len + t .separators) w ≡ put x (at + t .first .len) (q ++ w)
+          = rw ey (put-put x (at + t .first .len) q w {k = at + t .first .len + t .separators} (omega (arith, lq)) (omega (arith, same-x, lw))) in
+          let front : put x (at + t .first .len) (q ++ w) ≡ put d at (p ++ (q ++ w))
+          = rw ex (put-put d at p (q ++ w) {k = at + t .first .len} (omega (arith, lp)) (omega (arith, length-append q w, lq, lw))) in
           ez ∙ back ∙ front ∙ rw (ep ∙ body-part s (t .first) (h .0), separator-is (h .2) eq, ew ∙ body-part s (t .suffix) (h .1))

@@ -11,13 +11,13 @@ ghost use Rattle.format.specs.Target.{hasTarget, targetAnswer, targetOutput};
 ghost use Rattle.target.specs.Texts.{firstText, separators, textsOf, Stands, textsLength, textsBytes};
 
 // The two texts, and how many separators stand between them.
-struct Texts {
-    first: Place,
-    separators: usize,
-    suffix: Place,
+pub struct Texts {
+    pub first: Place,
+    pub separators: usize,
+    pub suffix: Place,
 }
 
-fn has_target(r: Record) -> bool
+pub fn has_target(r: Record) -> bool
     ensures { λ b. ⌜ b ≡ hasTarget r ⌝ }
 {
     let f = r.header.flags;
@@ -52,7 +52,7 @@ fn separators(s: &[u8], a: Place, b: Place) -> usize
     1
 }
 
-fn texts_of(s: &[u8], r: Record) -> Texts
+pub fn texts_of(s: &[u8], r: Record) -> Texts
     requires { ⌜ (firstText r .at + firstText r .len ≤ length (now s)) × (r .info .suffix .at + r .info .suffix .len ≤ length (now s)) ⌝ }
     ensures { λ t. ⌜ t ≡ textsOf (now (s .entry)) r ⌝ }
 {
@@ -65,17 +65,16 @@ fn texts_of(s: &[u8], r: Record) -> Texts
     }
 }
 
-fn put_texts(s: &[u8], t: Texts, out: &mut [u8])
-    requires { ⌜ Stands (now s) t × (textsLength t ≤ length (now out)) ⌝ }
-    ensures { λ _. ⌜ now (out .exit) ≡ put (now (out .entry)) 0 (textsBytes (now (s .entry)) t) ⌝ }
+// From the place `at` on.
+pub fn put_texts(s: &[u8], t: Texts, at: usize, out: &mut [u8])
+    requires { ⌜ Stands (now s) t × (at + textsLength t ≤ length (now out)) ⌝ }
+    ensures { λ _. ⌜ now (out .exit) ≡ put (now (out .entry)) at (textsBytes (now (s .entry)) t) ⌝ }
 {
-    octets::put_bytes(out, 0, octets::part(s, t.first.at, t.first.len));
-    octets::put_bytes(out, t.first.len, octets::part(b"\\", 0, t.separators));
-    octets::put_bytes(
-        out,
-        t.first.len + t.separators,
-        octets::part(s, t.suffix.at, t.suffix.len),
-    );
+    let middle = at + t.first.len;
+    let last = middle + t.separators;
+    octets::put_bytes(out, at, octets::part(s, t.first.at, t.first.len));
+    octets::put_bytes(out, middle, octets::part(b"\\", 0, t.separators));
+    octets::put_bytes(out, last, octets::part(s, t.suffix.at, t.suffix.len));
 }
 
 pub fn target(s: &[u8], out: &mut [u8]) -> Verdict
@@ -96,6 +95,6 @@ pub fn target(s: &[u8], out: &mut [u8]) -> Verdict
     if out.len() < n {
         return Verdict::Refused(Fault::Room, 0);
     }
-    put_texts(s, t, out);
+    put_texts(s, t, 0, out);
     Verdict::Accepted(n)
 }

@@ -42,6 +42,7 @@ fn command(word: &str) -> Option<Command> {
         "check" => Command::Check,
         "list" => Command::List,
         "target" => Command::Target,
+        "key" => Command::Key,
         "show" => Command::Show,
         "rewrite" => Command::Rewrite,
         _ => return None,
@@ -53,6 +54,7 @@ fn help_for(command: Command) -> &'static str {
         Command::Check => help::CHECK,
         Command::List => help::LIST,
         Command::Target => help::TARGET,
+        Command::Key => help::KEY,
         Command::Show => help::SHOW,
         Command::Rewrite => help::REWRITE,
     }

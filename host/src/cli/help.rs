@@ -10,6 +10,7 @@ commands:
   check     say of each shortcut whether it is accepted, and why not
   list      list the sections of a shortcut: name, start, length
   target    print the target text
+  key       print the cache key in hex
   show      print every field and text, readable
   rewrite   write the canonical form: the shortest shortcut with the same record
 
@@ -49,6 +50,17 @@ ASCII stands as it is, every other byte and < as its number in hex: <E9>. With s
 each line begins with the file's name and a colon.
 
   --raw   print the bytes as they stand in the file, and no line feed; for one input only
+";
+
+/// The help for `key`.
+pub const KEY: &str = "\
+usage: herringnet key [FILE]..
+
+Prints a line for each shortcut: its cache key in lower-case hex, one space, the file's name.
+Where standard input is the only input, the key stands alone. Two accepted shortcuts have equal
+keys exactly if these are equal: LinkFlags bit 7, target text, arguments, working directory, and
+the byte text of the first environment block (A0000001). What is absent differs from what is
+empty. A shortcut without a target has a key too.
 ";
 
 /// The help for `show`.

@@ -1,7 +1,7 @@
 //! Doing what the command line asks for, input by input.
 use super::files::{printable, reason, replace, with_suffix, write_new, Input, USUAL};
-use herringnet::show::{show, text::Bytes};
-use herringnet::{check, listing, target, Record, Refusal};
+use herringnet::show::{show, text::Bytes, text::Hex};
+use herringnet::{check, key, listing, target, Record, Refusal};
 use std::ffi::OsString;
 use std::io::{self, Write};
 use std::path::{Path, PathBuf};
@@ -12,6 +12,7 @@ pub enum Command {
     Check,
     List,
     Target,
+    Key,
     Show,
     Rewrite,
 }
@@ -19,7 +20,7 @@ pub enum Command {
 impl Command {
     /// The word of the command line.
     pub fn word(self) -> &'static str {
-        ["check", "list", "target", "show", "rewrite"][self as usize]
+        ["check", "list", "target", "key", "show", "rewrite"][self as usize]
     }
 }
 
@@ -71,6 +72,7 @@ impl Run {
             Command::Check => self.check(read, out),
             Command::List => self.list(number, read, out),
             Command::Target => self.target(read, out),
+            Command::Key => self.key(read, out),
             Command::Show => self.show(number, read, out),
             Command::Rewrite => self.rewrite(read, out),
         }
@@ -114,6 +116,15 @@ impl Run {
             Ok(text) if self.several() => writeln!(out, "{}: {}", read.input.name(), Bytes(&text))?,
             Ok(text) => writeln!(out, "{}", Bytes(&text))?,
             Err(refusal) => return Ok(complain(read.input, &refusal.to_string())),
+        }
+        Ok(true)
+    }
+
+    fn key(&self, read: &Read, out: &mut impl Write) -> io::Result<bool> {
+        match (key(read.bytes), read.input) {
+            (Ok(key), Input::Standard) if !self.several() => writeln!(out, "{}", Hex(&key))?,
+            (Ok(key), input) => writeln!(out, "{} {}", Hex(&key), input.name())?,
+            (Err(refusal), input) => return Ok(complain(input, &refusal.to_string())),
         }
         Ok(true)
     }

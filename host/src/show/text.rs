@@ -18,6 +18,16 @@ impl fmt::Display for Bytes<'_> {
     }
 }
 
+/// Bytes that are no text: two digits in lower-case hex for each, and nothing between them.
+#[derive(Clone, Copy, Debug)]
+pub struct Hex<'a>(pub &'a [u8]);
+
+impl fmt::Display for Hex<'_> {
+    fn fmt(&self, f: &mut fmt::Formatter<'_>) -> fmt::Result {
+        self.0.iter().try_for_each(|byte| write!(f, "{:02x}", byte))
+    }
+}
+
 /// A text of 16-bit units, little-endian: characters as they are, except controls, characters without a shape of
 /// their own, units that are no character and `<`, which stand as `<U+200B>`. A last odd byte stands as `<E9>`.
 #[derive(Clone, Copy, Debug)]
@@ -63,6 +73,12 @@ mod tests {
     fn bytes_are_printable() {
         assert_eq!(Bytes(br"C:\cc -g").to_string(), r"C:\cc -g");
         assert_eq!(Bytes(b"a\0\xE9<\x7F~").to_string(), "a<00><E9><3C><7F>~");
+    }
+
+    #[test]
+    fn hex_has_two_digits_for_each_byte() {
+        assert_eq!(Hex(b"\0a\xE9\x0F").to_string(), "0061e90f");
+        assert_eq!(Hex(b"").to_string(), "");
     }
 
     #[test]

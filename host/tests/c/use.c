@@ -35,6 +35,25 @@ static void targets(const uint8_t *s, size_t n)
     answer("target of nothing", herringnet_target(NULL, 0, NULL, 0));
 }
 
+static void bytes(const uint8_t *b, size_t n)
+{
+    for (size_t i = 0; i < n; i++)
+        printf("%02x", b[i]);
+    printf("\n");
+}
+
+static void keys(const uint8_t *s, size_t n)
+{
+    uint8_t out[50];
+    memset(out, 0xEE, sizeof out);
+    answer("key in 47", herringnet_key(s, n, out, 47));
+    bytes(out, sizeof out);
+    answer("key in 48", herringnet_key(s, n, out, 48));
+    bytes(out, sizeof out);
+    answer("key of one less", herringnet_key(s, n - 1, out, sizeof out));
+    answer("key of nothing", herringnet_key(NULL, 0, NULL, 0));
+}
+
 static void records(const uint8_t *s, size_t n)
 {
     uint64_t fields[HERRINGNET_FIELD_COUNT];
@@ -63,6 +82,7 @@ int main(void)
     answer("check nothing", herringnet_check(NULL, 0));
     sections(s, n);
     targets(s, n);
+    keys(s, n);
     records(s, n);
     return 0;
 }

@@ -1,6 +1,6 @@
 //! The calls as the C boundary gives them: number + 256 x value.
 
-use super::{check, section, target, walk, write, Record, Refusal, FIELDS};
+use super::{check, key, section, target, walk, write, Record, Refusal, FIELDS};
 
 pub const WRONG_COUNT: u64 = 201;
 pub const NO_RECORD: u64 = 202;
@@ -18,6 +18,10 @@ pub fn boundary_check(shortcut: &[u8]) -> u64 {
 
 pub fn boundary_target(shortcut: &[u8], out: &mut [u8]) -> u64 {
     answer(target(shortcut, out))
+}
+
+pub fn boundary_key(shortcut: &[u8], out: &mut [u8]) -> u64 {
+    answer(key(shortcut, out))
 }
 
 pub fn boundary_section(shortcut: &[u8], name: u32, block: usize) -> u64 {

@@ -5,10 +5,12 @@
 
 mod boundary;
 mod info;
+mod key;
 mod record;
 mod writer;
 
 pub use boundary::*;
+pub use key::key;
 pub use record::*;
 pub use writer::write;
 
@@ -33,6 +35,8 @@ pub const SECTION_HEADER: u8 = 0;
 pub const SECTION_ITEMS: u8 = 1;
 pub const SECTION_INFO: u8 = 2;
 pub const SECTION_NAME: u8 = 3;
+pub const SECTION_WORKDIR: u8 = 5;
+pub const SECTION_ARGUMENTS: u8 = 6;
 pub const SECTION_ICON: u8 = 7;
 pub const SECTION_BLOCK: u8 = 8;
 pub const SECTION_END: u8 = 9;
@@ -57,6 +61,7 @@ trait Visit {
     fn header(&mut self, _header: &Header) {}
     fn section(&mut self, _name: u8, _start: usize, _length: usize) {}
     fn info(&mut self, _info: &Info) {}
+    fn block(&mut self, _start: usize, _signature: u32) {}
     fn blocks(&mut self, _body: Body) {}
 }
 
@@ -163,7 +168,37 @@ impl Visit for Texts {
     }
 }
 
-/// Whether a backslash is put between the two texts: neither is empty, and the first does not end in one.
+/// The target text in its parts.
+struct Target<'a> {
+    first: &'a [u8],
+    /// Whether a backslash is put between the two texts.
+    parted: bool,
+    suffix: &'a [u8],
+}
+
+impl<'a> Target<'a> {
+    fn of(shortcut: &'a [u8], texts: [Body; 2]) -> Target<'a> {
+        let [first, suffix] = texts.map(|text| &shortcut[text.place..text.place + text.length]);
+        Target { first, parted: is_parted(first, suffix), suffix }
+    }
+
+    fn length(&self) -> usize {
+        self.first.len() + usize::from(self.parted) + self.suffix.len()
+    }
+
+    /// Fills a room of just this length.
+    fn put(&self, room: &mut [u8]) {
+        let (front, mut rest) = room.split_at_mut(self.first.len());
+        front.copy_from_slice(self.first);
+        if self.parted {
+            rest[0] = b'\\';
+            rest = &mut rest[1..];
+        }
+        rest.copy_from_slice(self.suffix);
+    }
+}
+
+/// Neither text is empty, and the first does not end in a backslash.
 fn is_parted(first: &[u8], suffix: &[u8]) -> bool {
     !suffix.is_empty() && matches!(first.last(), Some(&last) if last != b'\\')
 }
@@ -173,17 +208,10 @@ pub fn target(shortcut: &[u8], out: &mut [u8]) -> Result<usize, Refusal> {
     walk(shortcut, &mut texts)?;
     let refuse = Refusal::at(0);
     let texts = texts.found.ok_or_else(|| refuse(NOTARGET))?;
-    let [first, suffix] = texts.map(|text| &shortcut[text.place..text.place + text.length]);
-    let parted = is_parted(first, suffix);
-    let length = first.len() + usize::from(parted) + suffix.len();
+    let target = Target::of(shortcut, texts);
+    let length = target.length();
     let room = out.get_mut(..length).ok_or_else(|| refuse(ROOM))?;
-    let (front, mut rest) = room.split_at_mut(first.len());
-    front.copy_from_slice(first);
-    if parted {
-        rest[0] = b'\\';
-        rest = &mut rest[1..];
-    }
-    rest.copy_from_slice(suffix);
+    target.put(room);
     Ok(length)
 }
 
@@ -298,8 +326,9 @@ fn walk_blocks<V: Visit>(shortcut: &[u8], start: usize, visit: &mut V) -> Result
         if size < 4 {
             break;
         }
-        judge_block(rest, size).map_err(Refusal::at(at))?;
+        let signature = judge_block(rest, size).map_err(Refusal::at(at))?;
         visit.section(SECTION_BLOCK, at, size);
+        visit.block(at, signature);
         at += size;
     }
     let end = at + 4;
@@ -311,24 +340,25 @@ fn walk_blocks<V: Visit>(shortcut: &[u8], start: usize, visit: &mut V) -> Result
     Ok(end)
 }
 
-/// A block of this size, not the terminal one, at the start of the rest.
+/// The signature of a block of this size, not the terminal one, at the start of the rest.
 #[inline(always)]
-fn judge_block(rest: &[u8], size: usize) -> Result<(), u8> {
+fn judge_block(rest: &[u8], size: usize) -> Result<u32, u8> {
     if size < 8 {
         return Err(BLOCK);
     }
     let block = rest.get(..size).ok_or(CUT)?;
-    if fits_signature(block) {
-        Ok(())
+    let signature = u32_at(block, 4);
+    if fits_signature(block, signature) {
+        Ok(signature)
     } else {
         Err(BLOCK)
     }
 }
 
 #[inline(always)]
-fn fits_signature(block: &[u8]) -> bool {
+fn fits_signature(block: &[u8], signature: u32) -> bool {
     let size = block.len();
-    match u32_at(block, 4) {
+    match signature {
         0xA000_0001 | 0xA000_0006 | 0xA000_0007 => size == 0x314 && texts_end(block),
         0xA000_0002 => size == 0xCC,
         0xA000_0003 => size == 0x60,

@@ -31,6 +31,7 @@ enum Stretch {
     Suffix,
     Label,
     Name,
+    Arguments,
     Block,
 }
 
@@ -46,8 +47,8 @@ pub struct Draft {
     extra: usize,
 }
 
-const STRETCHES: [Stretch; 6] =
-    [Stretch::Items, Stretch::Path, Stretch::Suffix, Stretch::Label, Stretch::Name, Stretch::Block];
+const STRETCHES: [Stretch; 7] =
+    [Stretch::Items, Stretch::Path, Stretch::Suffix, Stretch::Label, Stretch::Name, Stretch::Arguments, Stretch::Block];
 
 /// Signature and least size of the known blocks.
 pub const KNOWN_BLOCKS: [(u32, usize); 11] = [
@@ -110,7 +111,8 @@ impl Draft {
         }
         for bit in 2..7 {
             if flags >> bit & 1 != 0 {
-                draft.string(&mut own(), flags & 0x80 != 0);
+                let here = if bit == 5 { Stretch::Arguments } else { Stretch::Name };
+                draft.string(&mut own(), here, flags & 0x80 != 0);
             }
         }
         draft.blocks(&mut own());
@@ -171,10 +173,15 @@ impl Draft {
             Stretch::Items => 1,
             Stretch::Path | Stretch::Suffix | Stretch::Label => 2,
             Stretch::Name => 4,
+            Stretch::Arguments => 0x20,
             _ => 0,
         };
         if random.chance(20) {
             flags |= random.next() as usize & 0x07FF_FF00;
+        }
+        // Bit 9 promises an environment block; it is set whether one follows or not.
+        if random.chance(30) {
+            flags |= 0x200;
         }
         self.set(20, 4, flags);
         self.set(24, 4, random.next() as usize & 0x7FB7);
@@ -406,11 +413,11 @@ impl Draft {
         }
     }
 
-    fn string(&mut self, random: &mut Random, unicode: bool) {
+    fn string(&mut self, random: &mut Random, here: Stretch, unicode: bool) {
         let start = self.bytes.len();
         self.starts.push(start);
         let width = if unicode { 2 } else { 1 };
-        let extra = self.take_extra(Stretch::Name);
+        let extra = self.take_extra(here);
         let count = match random.below(100) {
             0..=24 => 0,
             25..=39 => 1,
@@ -429,9 +436,15 @@ impl Draft {
             45..=97 => random.from_to(1, 3),
             _ => random.from_to(4, 40),
         };
+        // Often enough that two environment blocks stand in one shortcut.
+        let environments = random.chance(25);
         for number in 0..count {
             // Many blocks are short ones, so that inputs stay short.
-            let known = if count > 3 { [5, 6, 8, 9, 10][number % 5] } else { random.below(11) };
+            let known = match count > 3 {
+                true => [5, 6, 8, 9, 10][number % 5],
+                false if environments && random.chance(80) => 0,
+                false => random.below(11),
+            };
             self.block(random, known);
         }
         if self.extra > 8 && self.take_extra(Stretch::Block) > 0 {
@@ -492,7 +505,7 @@ impl Draft {
             *byte |= 1;
         }
         let slips = [self.slip(random), self.slip(random)];
-        let byte = random.pick(&[0, 100, 259, 259]);
+        let byte = random.pick(&[0, 1, 9, 100, 259, 259]);
         let unit = random.pick(&[0, 100, 259, 259]);
         if !slips[0] {
             self.set(start + 8 + byte, 1, 0);

@@ -1,6 +1,6 @@
-use mir.Syntax.{w32}
-use mir.Facts.{toZ-ofZ}
 use Rattle.fields.proofs.Laws.{numbers-are}
+use mir.Facts.{toZ-ofZ}
+use mir.Syntax.{w32}
 use borrow.Author.Needs.{needs}
 use Rattle.fields.proofs.numbers_of.Statement.{statement}
 use Rattle.fields.proofs.numbers_of.Tie as tie
@@ -38,20 +38,29 @@ cast-t16 c = search needs
 cast-t17 : tie.Need-cast-t17
 cast-t17 c = search needs
 
+cast-t18 : tie.Need-cast-t18
+cast-t18 c = search needs
+
 label-unicode-requires : tie.Need-label-unicode-requires
 label-unicode-requires c κs = search needs
 
 one-or-0-requires-2 : tie.Need-one-or-0-requires-2
 one-or-0-requires-2 c κs = search needs
 
-cast-t20 : tie.Need-cast-t20
-cast-t20 c = search needs
-
 cast-t21 : tie.Need-cast-t21
 cast-t21 c = search needs
 
+cast-t22 : tie.Need-cast-t22
+cast-t22 c = search needs
+
+cast-t23 : tie.Need-cast-t23
+cast-t23 c = search needs
+
 one-or-0-requires-3 : tie.Need-one-or-0-requires-3
 one-or-0-requires-3 c κs = search needs
+
+cast-t25 : tie.Need-cast-t25
+cast-t25 c = search needs
 
 returns : tie.Need-returns
 returns c =
@@ -74,9 +83,12 @@ numbers-of-spec =
     one-or-0-requires
     cast-t16
     cast-t17
+    cast-t18
     label-unicode-requires
     one-or-0-requires-2
-    cast-t20
     cast-t21
+    cast-t22
+    cast-t23
     one-or-0-requires-3
+    cast-t25
     returns)

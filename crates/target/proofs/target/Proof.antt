@@ -1,4 +1,4 @@
-use Rattle.target.proofs.Laws.{inside, target-left, target-none, target-room, target-written, texts-stand}
+use Rattle.target.proofs.Laws.{inside, target-left, target-none, target-room, target-written, found}
 use native.Mathlib.Omega.{arith}
 use mathlib.Core.Path.{refl}
 use borrow.Author.Needs.{needs}
@@ -31,12 +31,12 @@ texts-of-requires c κs =
 
 add-n : tie.Need-add-n
 add-n c =
-    let i = texts-stand _ (c .before .before .before .before .before .before .before .before .before .before .args .out .now) (c .before .before .before .before .before .before .before .read .ensures) (c .before .before .before .before .before .enum-told .given .1) (c .before .texts-of .ensures) in
+    let i = found _ (c .before .before .before .before .before .before .before .before .before .before .args .out .now) (c .before .before .before .before .before .before .before .read .ensures) (c .before .before .before .before .before .enum-told .given .1) (c .before .texts-of .ensures) in
     omega (arith, i .stands .0, i .stands .2, i .small)
 
 add-n-2 : tie.Need-add-n-2
 add-n-2 c =
-    let i = texts-stand _ (c .before .before .before .before .before .before .before .before .before .before .before .args .out .now) (c .before .before .before .before .before .before .before .before .read .ensures) (c .before .before .before .before .before .before .enum-told .given .1) (c .before .before .texts-of .ensures) in
+    let i = found _ (c .before .before .before .before .before .before .before .before .before .before .before .args .out .now) (c .before .before .before .before .before .before .before .before .read .ensures) (c .before .before .before .before .before .before .enum-told .given .1) (c .before .before .texts-of .ensures) in
     omega (arith, i .stands .0, i .stands .1, i .stands .2, i .small)
 
 returns-3 : tie.Need-returns-3
@@ -45,7 +45,7 @@ returns-3 c =
 
 put-texts-requires : tie.Need-put-texts-requires
 put-texts-requires c κs =
-    let i = texts-stand _ (c .before .before .before .before .before .before .before .before .before .before .before .before .before .args .out .now) (c .before .before .before .before .before .before .before .before .before .before .read .ensures) (c .before .before .before .before .before .before .before .before .enum-told .given .1) (c .before .before .before .before .texts-of .ensures) in
+    let i = found _ (c .before .before .before .before .before .before .before .before .before .before .before .before .before .args .out .now) (c .before .before .before .before .before .before .before .before .before .before .read .ensures) (c .before .before .before .before .before .before .before .before .enum-told .given .1) (c .before .before .before .before .texts-of .ensures) in
     (i .stands, omega arith)
 
 same-length : tie.Need-same-length

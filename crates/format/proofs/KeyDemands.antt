@@ -1,0 +1,124 @@
+-- What the farm rests on: two shortcuts share a key only if all that is in it is equal. Said of what the call answers and writes.
+use mathlib.Core.Path.{_≡_, refl, sym, ap, _∙_}
+use mathlib.Core.List.{List}
+use mathlib.Core.Logic.{_↔_}
+use mathlib.Core.Bool.{Bool, true, false, cond}
+use Prim.Native.Nat.{ℕ, _+_, _<_}
+use native.Mathlib.Omega.{arith}
+use lib.ListN.{length, take, drop, getD}
+use lib.Seq.{take-append-seam}
+use lib.Dec.{leb}
+use Rattle.octets.specs.Characters.{characters}
+use Rattle.octets.specs.Parts.{put}
+use Rattle.format.specs.declared.Record.{Record}
+use Rattle.format.specs.declared.Reading.{Reading}
+use Rattle.format.specs.declared.Fault.{Fault}
+use Rattle.format.specs.declared.Fault.the-variants.{Cut as CUT, Room as ROOM}
+use Rattle.format.specs.declared.Verdict.the-variants.{Accepted, Refused}
+use Rattle.format.specs.Tests.{Outcome, got, refused, bit}
+use Rattle.format.specs.Shortcut.{Sections, shortcut, verdictOf}
+use Rattle.format.specs.Contents.{bytesAt}
+use Rattle.format.specs.Writing.{outputOf}
+use Rattle.format.specs.Demands.{Accepts, Refuses}
+use Rattle.format.specs.Target.{hasTarget, targetText}
+use Rattle.format.specs.Key.{present, partIf, Key, keyOf, keyBytes, key, keyAnswer, keyOutput, keyBy, keyIn}
+use Rattle.format.proofs.AcceptedLaws.{accepted-read, refused-read}
+use Rattle.format.proofs.Demands.{beginning-cut}
+use Rattle.format.proofs.KeyLaws.{SameParts, equal-keys}
+
+-- ---- what a call wrote
+
+pub record Keyed (s out : List ℕ) (n : ℕ) : Type 0 where
+  pub sections : Sections
+  pub count : ℕ
+  pub is : shortcut s ≡ got sections count
+  pub parts : keyIn s ≡ keyOf s sections
+  pub written : take n (keyOutput s out) ≡ keyBytes (keyOf s sections)
+
+key-of : (s : List ℕ) (c : Sections) (k room : ℕ) → shortcut s ≡ got c k → (b : Bool) → leb (length (keyBytes (keyOf s c))) room ≡ b
+    → key s room ≡ cond b (got (keyBytes (keyOf s c)) (length (keyBytes (keyOf s c)))) (refused ROOM 0)
+unfolding key
+key-of s c k room e b h = rw (e, h)
+
+key-refused : (s : List ℕ) (room : ℕ) {f : Fault} {p : ℕ} → shortcut s ≡ refused f p → verdictOf (key s room) ≡ Refused f p
+unfolding key
+key-refused s room e = rw e
+
+pub keyed : (s out : List ℕ) (n : ℕ) → keyAnswer s out ≡ Accepted n → Keyed s out n
+unfolding keyAnswer keyOutput keyIn outputOf put
+keyed s out n e = go (shortcut s) refl
+  where
+    none : {f : Fault} {p : ℕ} → Refused f p ≡ Accepted n → ⊥
+    none v = let z : _≡_ {A = ℕ} 0 1 = cc in omega arith
+
+    fits : (c : Sections) (k : ℕ) → shortcut s ≡ got c k → key s (length out) ≡ got (keyBytes (keyOf s c)) (length (keyBytes (keyOf s c))) → Keyed s out n
+    fits c k i q =
+        let w = keyBytes (keyOf s c) in
+        let v : Accepted (length w) ≡ Accepted n = ap verdictOf (sym q) ∙ e in
+        let l : length w ≡ n = cc in
+        let o : outputOf (key s (length out)) out ≡ put out 0 w = ap (λ (x : Outcome (List ℕ)). outputOf x out) q in
+        record { sections = c; count = k; is = i; parts = ap (keyBy s) i; written = ap (take n) o ∙ rw (← l) (take-append-seam w (drop (0 + length w) out)) }
+
+    room : (c : Sections) (k : ℕ) → shortcut s ≡ got c k → (b : Bool) → leb (length (keyBytes (keyOf s c))) (length out) ≡ b → Keyed s out n
+    room c k i true h = fits c k i (key-of s c k (length out) i true h)
+    room c k i false h = absurd (none (ap verdictOf (sym (key-of s c k (length out) i false h)) ∙ e))
+
+    go : (o : Outcome Sections) → shortcut s ≡ o → Keyed s out n
+    go (got c k) i = room c k i (leb (length (keyBytes (keyOf s c))) (length out)) refl
+    go (refused f p) i = absurd (none (sym (key-refused s (length out) i) ∙ e))
+
+-- ---- two accepted shortcuts have equal keys exactly when bit 7 and all four parts, presence included, are equal
+
+pub same-key : (s t out other : List ℕ) (n m : ℕ) → keyAnswer s out ≡ Accepted n → keyAnswer t other ≡ Accepted m
+    → (take n (keyOutput s out) ≡ take m (keyOutput t other)) ↔ SameParts (keyIn s) (keyIn t)
+same-key s t out other n m e f =
+    let x = keyed s out n e in
+    let y = keyed t other m f in
+    let i = equal-keys s t (x .sections) (y .sections) (x .count) (y .count) (x .is) (y .is) in
+    rw (x .written, y .written, x .parts, y .parts) i
+
+-- ---- in plain words
+
+-- what the record says of the key
+pub record Tells (s : List ℕ) (r : Record) : Type 0 where
+  pub unicode : keyIn s .unicode ≡ bit 7 (r .header .flags)
+  pub target : keyIn s .target ≡ partIf (hasTarget r) (targetText s r)
+  pub arguments : keyIn s .arguments ≡ partIf (bit 5 (r .header .flags)) (bytesAt s (r .arguments))
+  pub workdir : keyIn s .workdir ≡ partIf (bit 4 (r .header .flags)) (bytesAt s (r .workdir))
+
+pub record-tells : (s : List ℕ) (r : Record) → Accepts s r → Tells s r
+unfolding Accepts keyIn keyOf
+record-tells s r e =
+    let x = accepted-read s r (length s) e in
+    let k : keyBy s (shortcut s) ≡ keyOf s (x .sections) = ap (keyBy s) (x .is) in
+    record {
+      unicode = ap (λ (k : Key). k .unicode) k ∙ rw (x .held);
+      target = ap (λ (k : Key). k .target) k ∙ rw (x .held);
+      arguments = ap (λ (k : Key). k .arguments) k ∙ rw (x .held);
+      workdir = ap (λ (k : Key). k .workdir) k ∙ rw (x .held);
+    }
+
+-- the characters of the arguments, as the record has them
+abbrev pub argumentsOf : List ℕ → Record → List ℕ
+argumentsOf s r = characters (bit 7 (r .header .flags)) (bytesAt s (r .arguments))
+
+-- two shortcuts that differ in one character of the arguments have different keys
+pub one-character : (s t out other : List ℕ) (r q : Record) (n m i : ℕ) → Accepts s r → Accepts t q
+    → bit 5 (r .header .flags) ≡ true → bit 5 (q .header .flags) ≡ true → (getD (argumentsOf s r) i 0 ≡ getD (argumentsOf t q) i 0 → ⊥)
+    → keyAnswer s out ≡ Accepted n → keyAnswer t other ≡ Accepted m → take n (keyOutput s out) ≡ take m (keyOutput t other) → ⊥
+one-character s t out other r q n m i a b x y differ e f same =
+    let p = (same-key s t out other n m e f) .0 same in
+    let k = record-tells s r a in
+    let l = record-tells t q b in
+    let u : bit 7 (r .header .flags) ≡ bit 7 (q .header .flags) = sym (k .unicode) ∙ p .unicode ∙ l .unicode in
+    let z : present (bytesAt s (r .arguments)) ≡ present (bytesAt t (q .arguments)) = rw (x, y) at (sym (k .arguments) ∙ p .arguments ∙ l .arguments) in
+    let w : bytesAt s (r .arguments) ≡ bytesAt t (q .arguments) = cc in
+    differ (rw (u, w))
+
+-- a shortcut cut short never has a key: it is refused with 2, and the buffer stays as it was
+pub cut-no-key : (s out : List ℕ) (r : Record) (k : ℕ) → Accepts s r → k < length s → (p : ℕ) × ((keyAnswer (take k s) out ≡ Refused CUT p) × (keyOutput (take k s) out ≡ out))
+unfolding keyAnswer keyOutput key outputOf Refuses
+cut-no-key s out r k e h =
+    let z = beginning-cut s r e k h in
+    let i = refused-read (take k s) (ap (λ (x : Reading). x .verdict) (z .refusal)) in
+    (z .position, (rw i, rw i))

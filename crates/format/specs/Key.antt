@@ -1,0 +1,93 @@
+-- The cache key (request 02).
+use Prim.Native.Nat.{ℕ}
+use mathlib.Core.List.{List, [], _∷_, _++_}
+use mathlib.Core.Bool.{Bool, false, cond}
+use lib.ListN.{length, take, drop}
+use lib.Dec.{leb}
+use Rattle.octets.specs.Numbers.{little}
+use Rattle.octets.specs.Characters.{beforeZero}
+use Rattle.format.specs.declared.Place.{Place}
+use Rattle.format.specs.declared.Verdict.{Verdict}
+use Rattle.format.specs.declared.Fault.the-variants.{Room as ROOM}
+use Rattle.format.specs.Tests.{Outcome, got, refused, _else_, tests, andThen, bit}
+use Rattle.format.specs.Blocks.{firstPlace}
+use Rattle.format.specs.Shortcut.{Sections, shortcut, recordOf, verdictOf}
+use Rattle.format.specs.Contents.{bytesAt}
+use Rattle.format.specs.Writing.{outputOf}
+use Rattle.format.specs.Target.{hasTarget, targetText}
+
+-- ---- what is in the key: flag bit 7 and four parts, each absent or present with its bytes
+
+pub data Part : Type 0 where
+  absent : Part
+  present : List ℕ → Part
+
+abbrev pub partIf : Bool → List ℕ → Part
+partIf there w = cond there (present w) absent
+
+pub record Key : Type 0 where
+  pub unicode : Bool
+  pub target : Part
+  pub arguments : Part
+  pub workdir : Part
+  pub environment : Part
+
+-- the byte string of the block that stands there, from its byte 8 up to its zero
+abbrev pub blockText : List ℕ → Place → List ℕ
+blockText s b = let text = drop 8 (bytesAt s b) in take (beforeZero text) text
+
+abbrev pub environment : List ℕ → Place → Part
+environment s b = partIf (leb 1 (b .len)) (blockText s b)
+
+-- A missing target is absent. Arguments and working directory are present by their flag bits, the environment by its block
+unfoldable pub keyOf : List ℕ → Sections → Key
+keyOf s c =
+    let r = recordOf c in
+    let (header, (items, (info, (name, (relative, (workdir, (arguments, (icon, blocks)))))))) = c in
+    record {
+      unicode = bit 7 (r .header .flags);
+      target = partIf (hasTarget r) (targetText s r);
+      arguments = partIf (bit 5 (r .header .flags)) (bytesAt s (r .arguments));
+      workdir = partIf (bit 4 (r .header .flags)) (bytesAt s (r .workdir));
+      environment = environment s (firstPlace s 0xA0000001 (blocks .start) (blocks .read));
+    }
+
+-- ---- its bytes
+
+-- Each of the four is a presence byte (0 or 1), a 4-byte length, and the bytes; an absent one has length 0 and no bytes
+abbrev pub partBytes : Part → List ℕ
+partBytes absent = little 1 0 ++ little 4 0
+partBytes (present w) = little 1 1 ++ (little 4 (length w) ++ w)
+
+-- a byte 0 or 1 for flag bit 7, then target text, arguments, working directory, and the environment
+unfoldable pub keyBytes : Key → List ℕ
+keyBytes k =
+    little 1 (cond (k .unicode) 1 0) ++ (partBytes (k .target) ++ (partBytes (k .arguments) ++ (partBytes (k .workdir) ++ partBytes (k .environment))))
+
+-- ---- the call. Refusals: as for reading, then 12
+
+unfoldable pub key : List ℕ → ℕ → Outcome (List ℕ)
+unfolding shortcut keyOf keyBytes
+key s room =
+    andThen (shortcut s) (λ c n.
+    let w = keyBytes (keyOf s c) in
+    tests 0 (leb (length w) room else ROOM ∷ []) (got w (length w)))
+
+-- the answer, and the output buffer afterwards; the room is the buffer's length
+unfoldable pub keyAnswer : List ℕ → List ℕ → Verdict
+unfolding key
+keyAnswer s out = verdictOf (key s (length out))
+
+unfoldable pub keyOutput : List ℕ → List ℕ → List ℕ
+unfolding key outputOf
+keyOutput s out = outputOf (key s (length out)) out
+
+-- ---- for the promises: what is in the key of a shortcut; of a refused one nothing is
+
+abbrev pub keyBy : List ℕ → Outcome Sections → Key
+keyBy s (got c n) = keyOf s c
+keyBy s (refused f p) = record { unicode = false; target = absent; arguments = absent; workdir = absent; environment = absent }
+
+unfoldable pub keyIn : List ℕ → Key
+unfolding shortcut
+keyIn s = keyBy s (shortcut s)

@@ -1,0 +1,299 @@
+-- Where the parts of a key stand, what is written of them, and one law for each way out of the call.
+use mathlib.Core.Path.{_≡_, refl, sym, ap, _∙_}
+use mathlib.Core.List.{List, [], _∷_, _++_, append-nil, append-assoc}
+use mathlib.Core.Bool.{Bool, true, false, cond}
+use Prim.Native.Nat.{ℕ, _+_, _-_, _≤_, _<_}
+use native.Mathlib.Omega.{arith}
+use lib.ListN.{length, take, drop, set, length-append, length-take, length-drop}
+use lib.Seq.{take-take, drop-drop}
+use lib.Dec.{leb}
+use borrow.Author.Tests.{le-leb, lt-leb, ltb-false}
+use Rattle.octets.specs.Numbers.{little}
+use Rattle.octets.specs.Characters.{beforeZero, zeroFrom}
+use Rattle.octets.specs.Parts.{part, put, Wrote}
+use Rattle.octets.specs.declared.Zero.{Zero}
+use Rattle.octets.specs.declared.Zero.the-variants.{After, Nowhere}
+use Rattle.octets.proofs.NumberLaws.{length-little}
+use Rattle.octets.proofs.CharacterLaws.{before-le}
+use Rattle.octets.proofs.ZeroLaws.{zero-after, zero-nowhere}
+use Rattle.octets.proofs.PartLaws.{put-byte}
+use Rattle.octets.proofs.WroteLaws.{kept, join, reword, wrote-number}
+use Rattle.format.specs.declared.Place.{Place}
+use Rattle.format.specs.declared.Record.{Record}
+use Rattle.format.specs.declared.Reading.{Reading}
+use Rattle.format.specs.declared.Fault.{Fault}
+use Rattle.format.specs.declared.Fault.the-variants.{Room as ROOM}
+use Rattle.format.specs.declared.Verdict.{Verdict}
+use Rattle.format.specs.declared.Verdict.the-variants.{Accepted, Refused}
+use Rattle.format.specs.Tests.{got, refused, _else_, tests, bit, place, noPlace}
+use Rattle.format.specs.Blocks.{blocks}
+use Rattle.format.specs.Shortcut.{most, shortcut, reading}
+use Rattle.format.specs.Contents.{bytesAt}
+use Rattle.format.specs.Writing.{outputOf}
+use Rattle.format.specs.Target.{hasTarget}
+use Rattle.format.specs.Key.{absent, present, partIf, Key, blockText, environment, partBytes, keyBytes, key, keyAnswer, keyOutput, keyIn}
+use Rattle.format.specs.Demands.{Accepts}
+use Rattle.format.proofs.BodyLaws.{body-part}
+use Rattle.format.proofs.Chains.{drop-take}
+use Rattle.format.proofs.AcceptedLaws.{accepted-read, accepted-bodies, accepted-limit, refused-read}
+use Rattle.format.proofs.Demands.{accepted-whole}
+use Rattle.format.proofs.KeyDemands.{record-tells}
+use Rattle.format.proofs.KeyRoom.{made}
+use Rattle.format.proofs.KeyLaws.{flag-small}
+use Rattle.blocks.specs.Walk.{FirstOf}
+use Rattle.target.specs.declared.Texts.{Texts}
+use Rattle.target.specs.Texts.{Stands, textsLength, textsBytes, textsOf}
+use Rattle.target.proofs.Laws.{Inside, texts-inside, texts-stand, texts-are, texts-long}
+use Rattle.keying.specs.declared.KeyPart.{KeyPart}
+use Rattle.keying.specs.declared.KeyParts.{KeyParts}
+use Rattle.keying.specs.Shown.{only, keyPart, partShown, partLength, PartStands, TextOf, EnvironmentOf, keyShown, keyLength, KeyStands}
+
+-- ---- one part
+
+pub part-there : (there : Bool) (t : Texts) → there ≡ true → record { there = there; texts = t } ≡ keyPart there t
+unfolding keyPart
+part-there there t e = rw e
+
+pub part-absent : (there : Bool) (t : Texts) {u : Texts} → there ≡ false → u ≡ only noPlace → record { there = there; texts = u } ≡ keyPart there t
+unfolding keyPart
+part-absent there t e i = rw (e, i)
+
+module _ (s : List ℕ) (there : Bool) (t : Texts) where
+  pub part-shown : partShown s (keyPart there t) ≡ partIf there (textsBytes s t)
+  unfolding partShown keyPart
+  part-shown = go there
+    where
+      go : (b : Bool) → partIf b (textsBytes s (cond b t (only noPlace))) ≡ partIf b (textsBytes s t)
+      go true = refl
+      go false = refl
+
+  pub part-stands : length s ≤ most → Stands s t → PartStands s (keyPart there t)
+  unfolding keyPart
+  part-stands small h = record { stands = go there; absent = λ e. rw e; small = small }
+    where
+      go : (b : Bool) → Stands s (cond b t (only noPlace))
+      go true = h
+      go false = (omega arith, omega arith, omega arith)
+
+only-bytes : (s : List ℕ) (b : Place) → textsBytes s (only b) ≡ bytesAt s b
+unfolding textsBytes
+only-bytes s b = append-nil (bytesAt s b)
+
+-- ---- the environment
+
+module _ (s : List ℕ) (a : Place) (h : a .at + a .len ≤ length s) (long : 8 ≤ a .len) {w : List ℕ} (e : w ≡ part s (a .at) (a .len)) {z : Zero} (f : z ≡ zeroFrom false w 8) where
+  abbrev text : List ℕ
+  text = drop 8 (bytesAt s a)
+
+  -- the block after its first eight bytes
+  text-is : text ≡ take (a .len - 8) (drop (a .at + 8) s)
+  text-is =
+      let n : 8 + (a .len - 8) ≡ a .len = omega arith in
+      ap (λ (k : ℕ). drop 8 (take k (drop (a .at) s))) (sym n) ∙ drop-take 8 (a .len - 8) (drop (a .at) s) ∙ rw (drop-drop 8 (a .at) s)
+
+  scanned : drop 8 w ≡ text
+  scanned = ap (drop 8) (e ∙ body-part s a h)
+
+  found : {n : ℕ} → n ≡ beforeZero text → n ≤ a .len - 8 → TextOf s a (place (a .at + 8) n)
+  found {n} i k = record {
+    inside = omega arith;
+    is = sym (take-take n (a .len - 8) (drop (a .at + 8) s) k) ∙ rw (← text-is, i);
+  }
+
+  text-few : length text ≤ a .len - 8
+  text-few = omega (arith, length-drop 8 (bytesAt s a), length-take (a .len) (drop (a .at) s))
+
+  pub text-ended : {n : ℕ} → z ≡ After n → TextOf s a (place (a .at + 8) n)
+  text-ended {n} i =
+      let j : n ≡ beforeZero text = (zero-after false w 8 f i) .1 ∙ ap beforeZero scanned in
+      found j (omega (arith, j, before-le text, text-few))
+
+  pub text-whole : z ≡ Nowhere → TextOf s a (place (a .at + 8) (a .len - 8))
+  text-whole i =
+      let j : length text ≤ beforeZero text = ltb-false (beforeZero text) (length text) (rw scanned at (zero-nowhere false w 8 f i)) in
+      let l : length text ≡ a .len - 8 = omega (arith, length-drop 8 (bytesAt s a), length-take (a .len) (drop (a .at) s), length-drop (a .at) s) in
+      found (omega (arith, before-le text)) (omega arith)
+
+no-block : (s : List ℕ) (b : Place) → b .len ≡ 0 → absent ≡ environment s b
+no-block s b e = rw e
+
+a-block : (s : List ℕ) (b : Place) → (b .len ≡ 0 → ⊥) → present (blockText s b) ≡ environment s b
+a-block s b e = rw (le-leb 1 (b .len) (omega arith))
+
+module _ (s : List ℕ) (from : ℕ) (small : length s ≤ most) {b : Place} (f : FirstOf s from 0xA0000001 b) where
+  shown-by : {p : KeyPart} → PartStands s p → partShown s p ≡ environment s b → EnvironmentOf s from p
+  shown-by h e = record { stands = h; is = λ lengths n i. e ∙ ap (environment s) (f .is lengths n i) }
+
+  pub environment-absent : {t : Texts} {p : KeyPart} → b .len ≡ 0 → t ≡ only b → p ≡ keyPart false t → EnvironmentOf s from p
+  environment-absent {t} {p} z e i =
+      rw (i, e) (shown-by (part-stands s false (only b) small (f .inside, omega arith, omega arith)) (part-shown s false (only b) ∙ no-block s b z))
+
+  pub environment-there : {a : Place} {t : Texts} {p : KeyPart} → (b .len ≡ 0 → ⊥) → TextOf s b a → t ≡ only a → p ≡ keyPart true t → EnvironmentOf s from p
+  environment-there {a} {t} {p} z x e i =
+      rw (i, e)
+      (shown-by (part-stands s true (only a) small (x .inside, omega arith, omega arith))
+      (part-shown s true (only a) ∙ ap present (only-bytes s a ∙ x .is) ∙ a-block s b z))
+
+-- ---- the bytes of a part
+
+module _ (s : List ℕ) (p : KeyPart) (h : PartStands s p) where
+  abbrev n : ℕ
+  n = textsLength (p .texts)
+
+  abbrev w : List ℕ
+  w = textsBytes s (p .texts)
+
+  -- a length fits in four bytes
+  pub part-small : n ≤ 131073
+  part-small = let i = h .stands in let m = h .small in omega arith
+
+  part-bytes : little 1 (cond (p .there) 1 0) ++ (little 4 n ++ w) ≡ partBytes (partShown s p)
+  unfolding partShown
+  part-bytes = go (p .there) refl
+    where
+      long : length w ≡ n
+      long = texts-long s (p .texts) (h .stands)
+
+      none : (l : List ℕ) → length l ≡ 0 → l ≡ []
+      none [] e = refl
+      none (x ∷ l) e = absurd (omega arith)
+
+      go : (b : Bool) → p .there ≡ b → little 1 (cond b 1 0) ++ (little 4 n ++ w) ≡ partBytes (partIf b w)
+      go true e = rw long
+      go false e =
+          let z = h .absent e in
+          rw (z, none w (long ∙ z), append-nil (little 4 0))
+
+  module _ {out x : List ℕ} {at m k : ℕ} (room : at + partLength p ≤ length out) (em : m ≡ partLength p) (flag : Wrote out at (little 1 (cond (p .there) 1 0)) 1 x k) where
+    length-fits : k + 4 ≤ length x
+    length-fits = omega (arith, kept flag, flag .next)
+
+    module _ {y : List ℕ} (ey : y ≡ put x k (little 4 (m - 5))) where
+      counted : Wrote out at (little 1 (cond (p .there) 1 0) ++ little 4 (m - 5)) 5 y (k + 4)
+      counted = join flag (wrote-number 4 x k (m - 5) ey length-fits)
+
+      texts-fit : at + 5 + n ≤ length y
+      texts-fit = omega (arith, kept counted)
+
+      pub part-put : {q : List ℕ} → q ≡ put y (at + 5) w → Wrote out at (partBytes (partShown s p)) (partLength p) q (at + m)
+      part-put {q} eq =
+          let f = flag .next in
+          let i : at + 5 ≡ k + 4 = omega arith in
+          let t : Wrote y (k + 4) w n q (k + 4 + n)
+          = record { content = rw i at eq; long = texts-long s (p .texts) (h .stands); next = refl; fits = omega (arith, texts-fit) } in
+          let c : m - 5 ≡ n = omega arith in
+          let j : k + 4 + n ≡ at + m = omega arith in
+          let b : (little 1 (cond (p .there) 1 0) ++ little 4 (m - 5)) ++ w ≡ partBytes (partShown s p)
+          = append-assoc (little 1 (cond (p .there) 1 0)) (little 4 (m - 5)) w ∙ rw c part-bytes in
+          rw (← j) (reword (join counted t) b refl)
+
+  pub part-long : length (partBytes (partShown s p)) ≡ partLength p
+  part-long = ap length (sym part-bytes) ∙ simp (length-append, length-little, texts-long s (p .texts) (h .stands)) (omega arith)
+
+-- a byte 0 or 1
+pub flag-put : (out : List ℕ) (at : ℕ) (b : Bool) {n : ℕ} → n ≡ cond b 1 0 → at + 1 ≤ length out → Wrote out at (little 1 (cond b 1 0)) 1 (set out at n) (at + 1)
+flag-put out at b e h = wrote-number 1 out at (cond b 1 0) (rw e (put-byte out at (cond b 1 0) (omega arith) (flag-small b))) h
+
+-- ---- what is in the key of an accepted shortcut
+
+module _ (s : List ℕ) (r : Record) (e : Accepts s r) where
+  pub accepted-small : length s ≤ most
+  unfolding Accepts
+  accepted-small = accepted-limit s r (length s) e
+
+  pub accepted-texts : Inside s r
+  unfolding Accepts
+  accepted-texts = texts-inside s r (length s) e
+
+  module _ {k : KeyParts} (unicode : k .unicode ≡ bit 7 (r .header .flags)) {h : Bool} {t : Texts} (has : h ≡ hasTarget r) (texts : t ≡ textsOf s r) (target : k .target ≡ keyPart h t)
+      {a w : Texts} (ea : a ≡ only (r .arguments)) (arguments : k .arguments ≡ keyPart (bit 5 (r .header .flags)) a) (ew : w ≡ only (r .workdir)) (workdir : k .workdir ≡ keyPart (bit 4 (r .header .flags)) w)
+      (environment : EnvironmentOf s (r .blocks .at) (k .environment)) where
+    string-shown : (b : Bool) (p : Place) → partShown s (keyPart b (only p)) ≡ partIf b (bytesAt s p)
+    string-shown b p = part-shown s b (only p) ∙ ap (partIf b) (only-bytes s p)
+
+    pub parts-shown : keyShown s k ≡ keyIn s
+    unfolding keyShown
+    parts-shown =
+        let x = record-tells s r e in
+        let m = made s r e in
+        let f = r .header .flags in
+        let a₁ = unicode ∙ sym (x .unicode) in
+        let a₂ : partShown s (k .target) ≡ keyIn s .target
+        = rw (target, has, texts) (part-shown s (hasTarget r) (textsOf s r) ∙ ap (partIf (hasTarget r)) (sym (texts-are s r)) ∙ sym (x .target)) in
+        let a₃ : partShown s (k .arguments) ≡ keyIn s .arguments = rw (arguments, ea) (string-shown (bit 5 f) (r .arguments) ∙ sym (x .arguments)) in
+        let a₄ : partShown s (k .workdir) ≡ keyIn s .workdir = rw (workdir, ew) (string-shown (bit 4 f) (r .workdir) ∙ sym (x .workdir)) in
+        let a₅ : partShown s (k .environment) ≡ keyIn s .environment
+        = rw (m .at) at (environment .is) (m .lengths) (m .count) (m .walk) ∙ ap (λ (y : Key). y .environment) (sym (m .is)) in
+        rw (a₁, a₂, a₃, a₄, a₅)
+
+    pub parts-stand : KeyStands s k
+    unfolding Accepts
+    parts-stand =
+        let small = accepted-small in
+        let i = accepted-bodies s r (length s) e in
+        let f = r .header .flags in
+        record {
+          target = rw (target, has, texts) (part-stands s (hasTarget r) (textsOf s r) small (texts-stand s r (length s) e));
+          arguments = rw (arguments, ea) (part-stands s (bit 5 f) (only (r .arguments)) small (i .1 .1 .1 .1 .1 .1 .1 .1 .1 .1 .1 .1 .1 .0, omega arith, omega arith));
+          workdir = rw (workdir, ew) (part-stands s (bit 4 f) (only (r .workdir)) small (i .1 .1 .1 .1 .1 .1 .1 .1 .1 .1 .1 .1 .0, omega arith, omega arith));
+          environment = environment .stands;
+        }
+
+-- ---- the bytes of the key
+
+module _ (s : List ℕ) (k : KeyParts) where
+  abbrev Part-put : List ℕ → ℕ → KeyPart → List ℕ → ℕ → Type 0
+  Part-put d at p x r = Wrote d at (partBytes (partShown s p)) (partLength p) x r
+
+  pub key-put : {out d₁ d₂ d₃ d₄ d₅ : List ℕ} {p₁ p₂ p₃ p₄ p₅ : ℕ} → Wrote out 0 (little 1 (cond (k .unicode) 1 0)) 1 d₁ p₁
+      → Part-put d₁ p₁ (k .target) d₂ p₂ → Part-put d₂ p₂ (k .arguments) d₃ p₃ → Part-put d₃ p₃ (k .workdir) d₄ p₄ → Part-put d₄ p₄ (k .environment) d₅ p₅
+      → Wrote out 0 (keyBytes (keyShown s k)) (keyLength k) d₅ p₅
+  unfolding keyBytes keyShown
+  key-put unicode target arguments workdir environment = join unicode (join target (join arguments (join workdir environment)))
+
+  key-long : KeyStands s k → length (keyBytes (keyShown s k)) ≡ keyLength k
+  unfolding keyBytes keyShown
+  key-long h =
+      simp (
+        length-append,
+        length-little,
+        part-long s (k .target) (h .target),
+        part-long s (k .arguments) (h .arguments),
+        part-long s (k .workdir) (h .workdir),
+        part-long s (k .environment) (h .environment),
+      )
+
+-- ---- the ways out
+
+module _ (s out : List ℕ) {g : Reading} (e : g ≡ reading s) where
+  -- leaving with the refusal
+  pub key-left : {f : Fault} {p : ℕ} → g .verdict ≡ Refused f p → (g .verdict ≡ keyAnswer s out) × (out ≡ keyOutput s out)
+  unfolding keyAnswer keyOutput key outputOf
+  key-left q = let i = refused-read s (ap (λ (x : Reading). x .verdict) (sym e) ∙ q) in (q ∙ rw i, rw i)
+
+  module _ {n : ℕ} (q : g .verdict ≡ Accepted n) where
+    pub accepts : Accepts s (g .held)
+    accepts = accepted-whole s (g .held) n (sym e ∙ same g (Accepted n) q)
+      where
+        same : (x : Reading) (v : Verdict) → x .verdict ≡ v → x ≡ record { verdict = v; held = x .held }
+        same x v k = ap (λ (y : Verdict). record { verdict = y; held = x .held }) k
+
+    -- the key of what was read
+    key-is : key s (length out) ≡ tests 0 (leb (length (keyBytes (keyIn s))) (length out) else ROOM ∷ []) (got (keyBytes (keyIn s)) (length (keyBytes (keyIn s))))
+    unfolding key keyIn Accepts
+    key-is = let x = accepted-read s (g .held) (length s) accepts in rw (x .is)
+
+    module _ {k : KeyParts} {m : ℕ} (shown : keyShown s k ≡ keyIn s) (stands : KeyStands s k) (is : m ≡ keyLength k) where
+      long : length (keyBytes (keyIn s)) ≡ m
+      long = ap (λ (x : Key). length (keyBytes x)) (sym shown) ∙ key-long s k stands ∙ sym is
+
+      pub key-room : length out < m → (Refused ROOM 0 ≡ keyAnswer s out) × (out ≡ keyOutput s out)
+      unfolding keyAnswer keyOutput outputOf
+      key-room o = let z : key s (length out) ≡ refused ROOM 0 = key-is ∙ rw (long, lt-leb m (length out) o) in (rw z, rw z)
+
+      pub key-written : {x : List ℕ} {r : ℕ} → m ≤ length out → Wrote out 0 (keyBytes (keyShown s k)) (keyLength k) x r → (Accepted r ≡ keyAnswer s out) × (x ≡ keyOutput s out)
+      unfolding keyAnswer keyOutput outputOf
+      key-written o w =
+          let z : key s (length out) ≡ got (keyBytes (keyIn s)) m = key-is ∙ rw (long, le-leb m (length out) o) in
+          let a : _ ≡ m = w .next ∙ omega arith in
+          (rw (z, a), rw z (w .content ∙ rw shown))

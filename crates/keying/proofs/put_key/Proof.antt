@@ -1,0 +1,38 @@
+use Rattle.keying.proofs.Laws.{key-put}
+use borrow.Author.Needs.{needs}
+use Rattle.keying.proofs.put_key.Statement.{statement}
+use Rattle.keying.proofs.put_key.Tie as tie
+
+put-flag-requires : tie.Need-put-flag-requires
+put-flag-requires c κs = search needs
+
+put-part-requires : tie.Need-put-part-requires
+put-part-requires c κs = search needs
+
+put-part-requires-2 : tie.Need-put-part-requires-2
+put-part-requires-2 c κs = search needs
+
+put-part-requires-3 : tie.Need-put-part-requires-3
+put-part-requires-3 c κs = search needs
+
+put-part-requires-4 : tie.Need-put-part-requires-4
+put-part-requires-4 c κs = search needs
+
+same-length : tie.Need-same-length
+same-length c = search needs
+
+returns : tie.Need-returns
+returns c =
+    key-put _ _ (c .before .before .before .before .before .before .before .before .before .before .before .before .before .before .before .before .before .before .put-flag .ensures) (c .before .before .before .before .before .before .before .before .before .before .before .before .before .before .put-part .ensures) (c .before .before .before .before .before .before .before .before .before .before .put-part2 .ensures) (c .before .before .before .before .before .before .put-part3 .ensures) (c .before .before .put-part4 .ensures)
+
+pub put-key-spec : {M : Type 1} → statement M
+put-key-spec =
+    tie.close
+    (tie.spec
+    put-flag-requires
+    put-part-requires
+    put-part-requires-2
+    put-part-requires-3
+    put-part-requires-4
+    same-length
+    returns)

@@ -1,0 +1,167 @@
+// The cache key of a shortcut, into a lent buffer.
+use format::Fault;
+use format::Place;
+use format::Record;
+use format::Verdict;
+use octets::Zero;
+use target::Texts;
+ghost use mathlib.Core.Path.{_≡_};
+ghost use mathlib.Core.Bool.{cond};
+ghost use Prim.Native.Nat.{_+_, _≤_};
+ghost use lib.ListN.{length};
+ghost use Rattle.octets.specs.Numbers.{little};
+ghost use Rattle.octets.specs.Parts.{Wrote};
+ghost use Rattle.format.specs.Shortcut.{most};
+ghost use Rattle.format.specs.Key.{partBytes, keyBytes, keyIn, keyAnswer, keyOutput};
+ghost use Rattle.format.specs.Demands.{Accepts};
+ghost use Rattle.keying.specs.Shown.{only, keyPart, partShown, partLength, PartStands, TextOf, EnvironmentOf, keyShown, keyLength, KeyStands};
+
+// One of the four parts: whether it is there, and where its texts stand.
+struct KeyPart {
+    there: bool,
+    texts: Texts,
+}
+
+struct KeyParts {
+    unicode: bool,
+    target: KeyPart,
+    arguments: KeyPart,
+    workdir: KeyPart,
+    environment: KeyPart,
+}
+
+// ---- where the parts stand
+
+// One body alone.
+fn only(b: Place) -> Texts
+    ensures { λ r. ⌜ r ≡ only b ⌝ }
+{
+    Texts {
+        first: b,
+        separators: 0,
+        suffix: Place { at: 0, len: 0 },
+    }
+}
+
+fn part_if(there: bool, texts: Texts) -> KeyPart
+    ensures { λ r. ⌜ r ≡ keyPart there texts ⌝ }
+{
+    if there {
+        return KeyPart { there, texts };
+    }
+    KeyPart {
+        there,
+        texts: only(Place { at: 0, len: 0 }),
+    }
+}
+
+// From the block's byte 8 up to its zero.
+fn block_text(s: &[u8], b: Place) -> Place
+    requires { ⌜ (b .at + b .len ≤ length (now s)) × (8 ≤ b .len) ⌝ }
+    ensures { λ r. ⌜ TextOf (now (s .entry)) b r ⌝ }
+{
+    let at = b.at + 8;
+    let block = octets::part(s, b.at, b.len);
+    let Zero::After(len) = octets::zero_from(false, block, 8) else {
+        return Place { at, len: b.len - 8 };
+    };
+    Place { at, len }
+}
+
+// By the block, whatever flag bit 9 says.
+fn environment(s: &[u8], from: usize) -> KeyPart
+    requires { ⌜ length (now s) ≤ most ⌝ }
+    ensures { λ p. ⌜ EnvironmentOf (now (s .entry)) from p ⌝ }
+{
+    let b = blocks::first_block(s, from, 0xA000_0001);
+    if b.len == 0 {
+        return part_if(false, only(b));
+    }
+    part_if(true, only(block_text(s, b)))
+}
+
+fn parts_of(s: &[u8], r: Record) -> KeyParts
+    requires { ⌜ Accepts (now s) r ⌝ }
+    ensures shown { λ k. ⌜ keyShown (now (s .entry)) k ≡ keyIn (now (s .entry)) ⌝ }
+    ensures stands { λ k. ⌜ KeyStands (now (s .entry)) k ⌝ }
+{
+    let f = r.header.flags;
+    KeyParts {
+        unicode: f / 128 % 2 == 1,
+        target: part_if(target::has_target(r), target::texts_of(s, r)),
+        arguments: part_if(f / 32 % 2 == 1, only(r.arguments)),
+        workdir: part_if(f / 16 % 2 == 1, only(r.workdir)),
+        environment: environment(s, r.blocks.at),
+    }
+}
+
+// ---- their bytes
+
+fn part_length(s: &[u8], p: KeyPart) -> usize
+    requires { ⌜ PartStands (now s) p ⌝ }
+    ensures { λ n. ⌜ n ≡ partLength p ⌝ }
+{
+    let t = p.texts;
+    5 + t.first.len + t.separators + t.suffix.len
+}
+
+// A byte 0 or 1. A function that puts answers the place after what it put.
+fn put_flag(out: &mut [u8], at: usize, b: bool) -> usize
+    requires { ⌜ at + 1 ≤ length (now out) ⌝ }
+    ensures { λ r. ⌜ Wrote (now (out .entry)) at (little 1 (cond b 1 0)) 1 (now (out .exit)) r ⌝ }
+{
+    out[at] = format::one_or_0(b);
+    at + 1
+}
+
+// The presence byte, the length and the bytes.
+fn put_part(s: &[u8], p: KeyPart, at: usize, out: &mut [u8]) -> usize
+    requires { ⌜ PartStands (now s) p × (at + partLength p ≤ length (now out)) ⌝ }
+    ensures { λ r. ⌜ Wrote (now (out .entry)) at (partBytes (partShown (now (s .entry)) p)) (partLength p) (now (out .exit)) r ⌝ }
+{
+    let n = part_length(s, p);
+    let q = put_flag(out, at, p.there);
+    octets::put_u32(out, q, (n - 5) as u32);
+    target::put_texts(s, p.texts, at + 5, out);
+    at + n
+}
+
+fn key_length(s: &[u8], k: KeyParts) -> usize
+    requires { ⌜ KeyStands (now s) k ⌝ }
+    ensures { λ n. ⌜ n ≡ keyLength k ⌝ }
+{
+    1
+        + part_length(s, k.target)
+        + part_length(s, k.arguments)
+        + part_length(s, k.workdir)
+        + part_length(s, k.environment)
+}
+
+fn put_key(s: &[u8], k: KeyParts, out: &mut [u8]) -> usize
+    requires { ⌜ KeyStands (now s) k × (keyLength k ≤ length (now out)) ⌝ }
+    ensures { λ r. ⌜ Wrote (now (out .entry)) 0 (keyBytes (keyShown (now (s .entry)) k)) (keyLength k) (now (out .exit)) r ⌝ }
+{
+    let p = put_flag(out, 0, k.unicode);
+    let p = put_part(s, k.target, p, out);
+    let p = put_part(s, k.arguments, p, out);
+    let p = put_part(s, k.workdir, p, out);
+    put_part(s, k.environment, p, out)
+}
+
+// ---- the call
+
+pub fn key(s: &[u8], out: &mut [u8]) -> Verdict
+    ensures answer { λ r. ⌜ r ≡ keyAnswer (now (s .entry)) (now (out .entry)) ⌝ }
+    ensures output { λ _. ⌜ now (out .exit) ≡ keyOutput (now (s .entry)) (now (out .entry)) ⌝ }
+{
+    let g = reader::read(s);
+    let v = g.verdict;
+    let Verdict::Accepted(_) = v else {
+        return v;
+    };
+    let k = parts_of(s, g.held);
+    if out.len() < key_length(s, k) {
+        return Verdict::Refused(Fault::Room, 0);
+    }
+    Verdict::Accepted(put_key(s, k, out))
+}

@@ -1,0 +1,20 @@
+use native.Mathlib.Omega.{arith}
+use Rattle.lines.proofs.HexLaws.{digit-low, digit-high}
+use borrow.Author.Needs.{needs}
+use Rattle.lines.proofs.hex.digit.Statement.{statement}
+use Rattle.lines.proofs.hex.digit.Tie as tie
+
+add-result : tie.Need-add-result
+add-result c = search needs
+
+returns : tie.Need-returns
+returns c = digit-low _ (c .if1 .taken)
+
+add-result-2 : tie.Need-add-result-2
+add-result-2 c = search needs
+
+returns-2 : tie.Need-returns-2
+returns-2 c = digit-high _ (omega arith)
+
+pub digit-spec : {M : Type 1} → statement M
+digit-spec = tie.close (tie.spec add-result returns add-result-2 returns-2)

@@ -1,0 +1,313 @@
+//! The cache key: its bytes written out, what it depends on and what not, and the room that it takes.
+mod common;
+
+use common::SAMPLE;
+use herringnet::record::{Header, Info, InfoUnicode, Label, Local, Network, NetworkUnicode, Record};
+use herringnet::{boundary, check, key, sections, target, Fault, Refusal, SectionName};
+use std::collections::HashSet;
+
+/// The vectors, each of which stands after its length in four bytes.
+const ROWS: &[u8] = include_bytes!("../../crates/vectors/stdin");
+
+/// A part of a key that is not there.
+const ABSENT: &[u8] = &[0; 5];
+
+fn local(path: &'static [u8]) -> Info<'static> {
+    Info { local: Some(Local { drive: 3, serial: 1, label: Label::Byte(b""), path }), ..Info::default() }
+}
+
+/// A block with a byte text and an empty Unicode text; what follows their zeros is not zero.
+fn block(signature: u32, text: &[u8]) -> Vec<u8> {
+    let mut bytes = vec![0xAA; 0x314];
+    bytes[..4].copy_from_slice(&0x314_u32.to_le_bytes());
+    bytes[4..8].copy_from_slice(&signature.to_le_bytes());
+    bytes[8..8 + text.len()].copy_from_slice(text);
+    bytes[8 + text.len()] = 0;
+    bytes[268..270].fill(0);
+    bytes
+}
+
+fn environment(text: &[u8]) -> Vec<u8> {
+    block(0xA000_0001, text)
+}
+
+/// A record in which every part of the key is there.
+fn full(blocks: &[u8]) -> Record<'_> {
+    let header = Header { flags: 0x80, ..Header::default() };
+    let info = Info { suffix: b"cc", ..local(br"C:\bin") };
+    Record {
+        header,
+        info: Some(info),
+        workdir: Some(b"w\0d\0"),
+        arguments: Some(b"-\0g\x001\0"),
+        blocks,
+        ..Record::default()
+    }
+}
+
+fn key_of(record: &Record) -> Vec<u8> {
+    key(&record.to_vec().unwrap()).unwrap()
+}
+
+#[test]
+fn every_part_in_its_order() {
+    let blocks = [environment(b"%cc%"), environment(b"second")].concat();
+    let target = b"\x01\x09\0\0\0C:\\bin\\cc";
+    let arguments = b"\x01\x06\0\0\0-\0g\x001\0";
+    let workdir = b"\x01\x04\0\0\0w\0d\0";
+    let environment = b"\x01\x04\0\0\0%cc%";
+    let expected = [&[1][..], target, arguments, workdir, environment].concat();
+    assert_eq!(key_of(&full(&blocks)), expected);
+}
+
+#[test]
+fn a_target_on_the_network() {
+    let network = Network { net: br"\\farm\cc", ..Network::default() };
+    let info = Info { network: Some(network), suffix: b"rv64", ..Info::default() };
+    let target = b"\x01\x0E\0\0\0\\\\farm\\cc\\rv64";
+    let found = key_of(&Record { info: Some(info), ..Record::default() });
+    assert_eq!(found, [&[0], &target[..], ABSENT, ABSENT, ABSENT].concat());
+}
+
+#[test]
+fn nothing_is_there() {
+    assert_eq!(key_of(&Record::default()), [0; 21]);
+    let unicode = Record { header: Header { flags: 0x80, ..Header::default() }, ..Record::default() };
+    assert_eq!(key_of(&unicode), [&[1][..], &[0; 20]].concat());
+}
+
+#[test]
+fn what_is_empty_is_not_absent() {
+    let with = |arguments, workdir| key_of(&Record { arguments, workdir, ..Record::default() });
+    let empty: &[u8] = &[1, 0, 0, 0, 0];
+    assert_eq!(with(Some(&[]), None), [&[0], ABSENT, empty, ABSENT, ABSENT].concat());
+    assert_eq!(with(None, Some(&[])), [&[0], ABSENT, ABSENT, empty, ABSENT].concat());
+    let target = Record { info: Some(local(b"")), ..Record::default() };
+    assert_eq!(key_of(&target), [&[0], empty, ABSENT, ABSENT, ABSENT].concat());
+    let blocks = environment(b"");
+    let environment = Record { blocks: &blocks, ..Record::default() };
+    assert_eq!(key_of(&environment), [&[0], ABSENT, ABSENT, ABSENT, empty].concat());
+}
+
+#[test]
+fn a_missing_target_is_absent() {
+    let hidden = Record { header: Header { flags: 0x100, ..Header::default() }, ..full(b"") };
+    let neither = Record { info: Some(Info { suffix: b"cc", ..Info::default() }), ..full(b"") };
+    let no_info = Record { info: None, ..full(b"") };
+    for record in [hidden, neither, no_info] {
+        let shortcut = record.to_vec().unwrap();
+        assert_eq!(target(&shortcut).unwrap_err().fault, Fault::NoTarget);
+        let unicode = [u8::from(record.header.is_unicode())];
+        let others = b"\x01\x06\0\0\0-\0g\x001\0\x01\x04\0\0\0w\0d\0";
+        assert_eq!(key(&shortcut).unwrap(), [&unicode, ABSENT, others, ABSENT].concat());
+    }
+}
+
+#[test]
+fn the_environment_is_the_first_block_of_its_signature() {
+    let last = vec![b'x'; 259];
+    let whole = [b"\x01\x03\x01\0\0".as_slice(), &last].concat();
+    let cases: [(Vec<u8>, &[u8]); 6] = [
+        (Vec::new(), ABSENT),
+        ([block(0xA000_0006, b"icon"), block(0xA000_0007, b"name")].concat(), ABSENT),
+        ([block(0xA000_0007, b"name"), environment(b"a"), environment(b"b")].concat(), b"\x01\x01\0\0\0a"),
+        ([environment(b""), environment(b"b")].concat(), b"\x01\0\0\0\0"),
+        ([environment(b"caf\xE9\\"), block(0xA000_0006, b"icon")].concat(), b"\x01\x05\0\0\0caf\xE9\\"),
+        (environment(&last), &whole),
+    ];
+    for (blocks, expected) in &cases {
+        // Bit 9 tells others whether to look at the block; the key does not ask it.
+        for flags in [0, 0x200] {
+            let header = Header { flags, ..Header::default() };
+            let found = key_of(&Record { header, blocks, ..Record::default() });
+            assert_eq!(found, [&[0], ABSENT, ABSENT, ABSENT, expected].concat());
+        }
+    }
+}
+
+/// Records of one key: what differs between them is no part of it.
+fn same_key(blocks: &[u8]) -> Vec<Record<'_>> {
+    let plain = full(blocks);
+    let mut network = plain.clone();
+    let info = network.info.as_mut().unwrap();
+    let unicode = Some(NetworkUnicode { net: b"n\0", device: b"d\0" });
+    info.network = Some(Network { provider: Some(7), net: br"\\other", device: Some(b"Z:"), unicode });
+    info.unicode = Some(InfoUnicode { local: b"D\0", suffix: b"s\0" });
+    let mut volume = plain.clone();
+    let label = Label::Unicode(b"L\0");
+    volume.info.as_mut().unwrap().local = Some(Local { drive: 5, serial: 99, label, path: br"C:\bin" });
+    let other = Header {
+        flags: 0x80 | 0x07FF_FE00,
+        attributes: 0x20,
+        creation: 1,
+        access: 2,
+        write: 3,
+        file_size: 4,
+        icon_index: -5,
+        command: 7,
+        hotkey: 0x0646,
+    };
+    // One target from other texts, with the backslash in one of them or between them.
+    let parted = Info { suffix: b"cc", ..local(br"C:\bin\") };
+    let apart = Info { suffix: br"bin\cc", ..local(br"C:") };
+    vec![
+        network,
+        volume,
+        Record { header: other, ..plain.clone() },
+        Record { info: Some(parted), ..plain.clone() },
+        Record { info: Some(apart), ..plain.clone() },
+        Record { items: Some(b"\x04\0ab"), ..plain.clone() },
+        Record { name: Some(b"n\0"), relative: Some(b"r\0"), icon: Some(b"i\0"), ..plain.clone() },
+        plain,
+    ]
+}
+
+#[test]
+fn all_else_may_differ() {
+    let blocks = [environment(b"%cc%"), block(0xA000_0006, b"i"), environment(b"second")].concat();
+    let only = environment(b"%cc%");
+    let mut shortcuts = HashSet::new();
+    let expected = key_of(&full(&only));
+    for record in same_key(&blocks).into_iter().chain(same_key(&only)) {
+        assert!(shortcuts.insert(record.to_vec().unwrap()));
+        assert_eq!(key_of(&record), expected);
+    }
+}
+
+/// None, an empty text, and some that begin, end or lie in each other.
+const TEXTS: [Option<&[u8]>; 7] =
+    [None, Some(b""), Some(b"\0\0"), Some(b"\x01\0"), Some(b"a\0"), Some(b"a\0\0\0"), Some(b"a\0b\0")];
+
+/// The same for texts that end with a zero.
+const ENDED: [Option<&[u8]>; 5] = [None, Some(b""), Some(b"\x01"), Some(b"a"), Some(b"ab")];
+
+#[test]
+fn no_two_differ_and_have_one_key() {
+    let blocks = ENDED.map(|text| text.map_or(Vec::new(), environment));
+    let mut keys = HashSet::new();
+    for flags in [0, 0x80] {
+        for target in ENDED {
+            let record =
+                Record { header: Header { flags, ..Header::default() }, info: target.map(local), ..Record::default() };
+            for (arguments, workdir) in TEXTS.iter().flat_map(|one| TEXTS.map(|two| (*one, two))) {
+                for blocks in &blocks {
+                    assert!(keys.insert(key_of(&Record { arguments, workdir, blocks, ..record.clone() })));
+                }
+            }
+        }
+    }
+    assert_eq!(keys.len(), 2 * 5 * 49 * 5);
+}
+
+#[test]
+fn the_last_character_of_the_arguments_counts() {
+    // Two cores whose arguments differ where a count of characters, taken for one of bytes, would end them.
+    let one = Record { arguments: Some(b"-\0m\x001\0"), ..full(b"") };
+    let two = Record { arguments: Some(b"-\0m\x002\0"), ..full(b"") };
+    assert_ne!(key_of(&one), key_of(&two));
+}
+
+/// Every room from none to one byte more than the key, and a refusal that changes nothing.
+#[track_caller]
+fn every_room(shortcut: &[u8]) {
+    let expected = key(shortcut).unwrap();
+    let length = expected.len();
+    assert!(length <= shortcut.len());
+    for room in 0..length + 2 {
+        let mut out = vec![0xEE; room];
+        let answer = boundary::key(shortcut, &mut out);
+        if room < length {
+            assert_eq!((answer, out), (12, vec![0xEE; room]));
+        } else {
+            assert_eq!(answer, 256 * length as u64);
+            assert_eq!(out[..length], expected);
+            assert!(out[length..].iter().all(|&byte| byte == 0xEE));
+        }
+    }
+}
+
+#[test]
+fn the_room_is_exact() {
+    let blocks = environment(b"%cc%");
+    for record in [Record::default(), full(b""), full(&blocks)] {
+        every_room(&record.to_vec().unwrap());
+    }
+    every_room(SAMPLE);
+}
+
+#[test]
+fn every_proper_beginning_is_refused() {
+    let whole = full(&environment(b"%cc%")).to_vec().unwrap();
+    for shortcut in [&whole, SAMPLE] {
+        for length in 0..shortcut.len() {
+            let mut out = [0xEE; 2000];
+            let beginning = &shortcut[..length];
+            let answer = boundary::key(beginning, &mut out);
+            assert_eq!((answer % 256, answer), (2, boundary::check(beginning)));
+            assert!(out.iter().all(|&byte| byte == 0xEE));
+        }
+    }
+}
+
+#[test]
+fn the_longest() {
+    let text = vec![b'x'; 65_536];
+    let frame = 76 + 2 + 4;
+    let longest = Record { arguments: Some(&text[frame..]), ..Record::default() }.to_vec().unwrap();
+    assert_eq!(check(&longest), Ok(65_536));
+    let head = (65_536 - frame as u32).to_le_bytes();
+    let expected = [&[0], ABSENT, &[1], &head, &text[frame..], ABSENT, ABSENT].concat();
+    assert_eq!(key(&longest).unwrap(), expected);
+    let long = Refusal { fault: Fault::Long, position: 65_536 };
+    assert_eq!(key(&[longest, vec![0]].concat()), Err(long));
+}
+
+#[test]
+fn the_sample() {
+    let workdir = b"\x01\x0E\0\0\0C\0:\0\\\0t\0e\0s\0t\0";
+    let expected = [&b"\x01\x01\x0D\0\0\0C:\\test\\a.txt"[..], ABSENT, workdir, ABSENT].concat();
+    assert_eq!(key(SAMPLE).unwrap(), expected);
+}
+
+fn rows() -> Vec<&'static [u8]> {
+    let (mut rest, mut rows) = (ROWS, Vec::new());
+    while let [a, b, c, d, after @ ..] = rest {
+        let (row, next) = after.split_at(u32::from_le_bytes([*a, *b, *c, *d]) as usize);
+        rows.push(row);
+        rest = next;
+    }
+    rows
+}
+
+/// A key put together from the other calls: the record, the target and the blocks.
+fn from_parts(shortcut: &[u8]) -> Result<Vec<u8>, Refusal> {
+    let record = Record::read(shortcut)?;
+    let target = target(shortcut).ok();
+    let mut blocks = sections(shortcut)?.into_iter().filter(|section| section.name == SectionName::Block);
+    let block = blocks.find(|block| block.bytes[4..8] == *b"\x01\0\0\xA0");
+    let environment = block.and_then(|block| block.bytes[8..].split(|&byte| byte == 0).next());
+    let mut key = vec![u8::from(record.header.is_unicode())];
+    for part in [target.as_deref(), record.arguments, record.workdir, environment] {
+        let bytes = part.unwrap_or_default();
+        key.push(part.is_some().into());
+        key.extend((bytes.len() as u32).to_le_bytes());
+        key.extend(bytes);
+    }
+    Ok(key)
+}
+
+#[test]
+fn the_vectors_have_the_keys_of_their_parts_and_keep_them_when_rewritten() {
+    let rows = rows();
+    let mut rewritten = 0;
+    for shortcut in &rows {
+        let found = key(shortcut);
+        assert_eq!(found, from_parts(shortcut));
+        if let Ok(record) = Record::read(shortcut) {
+            let canonical = record.to_vec().unwrap();
+            assert_eq!(key(&canonical), found);
+            rewritten += usize::from(canonical != *shortcut);
+        }
+    }
+    assert!(rows.len() > 1000 && rewritten > 50, "{} rewritten", rewritten);
+}

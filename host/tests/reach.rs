@@ -1,0 +1,91 @@
+//! The comparison's inputs often have what a cache key depends on.
+
+mod independent;
+mod inputs;
+
+const INPUTS: u64 = 20_000;
+
+/// The least share of the accepted inputs that each trait has to have, in percent.
+const LEAST: f64 = 1.0;
+
+/// What a key depends on, of one accepted shortcut.
+struct Shortcut<'a> {
+    flags: u32,
+    /// LinkInfo's own flags, if it is there.
+    info: Option<u32>,
+    arguments: Option<&'a [u8]>,
+    workdir: Option<&'a [u8]>,
+    /// The byte texts of all blocks A0000001.
+    environments: Vec<&'a [u8]>,
+}
+
+impl<'a> Shortcut<'a> {
+    fn of(bytes: &'a [u8]) -> Option<Shortcut<'a>> {
+        let record = independent::read(bytes).ok()?;
+        let flags = record.header.link_flags;
+        let string = |bit: usize| (flags >> bit & 1 != 0).then(|| record.strings[bit - 2].of(bytes).unwrap());
+        let sections = independent::sections(bytes).ok()?;
+        let blocks =
+            sections.iter().filter(|section| section.0 == 8).map(|&(_, start, size)| &bytes[start..start + size]);
+        let environments = blocks.filter(|block| block[4..8] == *b"\x01\0\0\xA0");
+        Some(Shortcut {
+            flags,
+            info: (flags & 2 != 0).then_some(record.info.flags),
+            arguments: string(5),
+            workdir: string(4),
+            environments: environments.map(|block| block[8..].split(|&byte| byte == 0).next().unwrap()).collect(),
+        })
+    }
+
+    fn bit(&self, bit: u32) -> bool {
+        self.flags >> bit & 1 != 0
+    }
+
+    fn has_texts(&self) -> bool {
+        self.info.map_or(false, |flags| flags != 0)
+    }
+}
+
+type Trait = (&'static str, fn(&Shortcut) -> bool);
+
+const TRAITS: [Trait; 19] = [
+    ("Unicode", |s| s.bit(7)),
+    ("not Unicode", |s| !s.bit(7)),
+    ("a target", |s| s.has_texts() && !s.bit(8)),
+    ("no target by bit 8", |s| s.has_texts() && s.bit(8)),
+    ("no LinkInfo", |s| s.info.is_none()),
+    ("LinkInfo with flags 0", |s| s.info == Some(0)),
+    ("no arguments", |s| s.arguments.is_none()),
+    ("empty arguments", |s| s.arguments == Some(b"")),
+    ("arguments of two-byte characters", |s| s.bit(7) && s.arguments.map_or(false, |text| !text.is_empty())),
+    ("no working directory", |s| s.workdir.is_none()),
+    ("empty working directory", |s| s.workdir == Some(b"")),
+    ("arguments and working directory that differ", |s| {
+        s.arguments.is_some() && s.workdir.is_some() && s.arguments != s.workdir
+    }),
+    ("no environment block", |s| s.environments.is_empty()),
+    ("one environment block", |s| s.environments.len() == 1),
+    ("two that differ at the front", |s| s.environments.len() > 1 && s.environments[0] != s.environments[1]),
+    ("empty first environment", |s| s.environments.first() == Some(&b"".as_slice())),
+    ("environment of 259 bytes", |s| s.environments.first().map_or(false, |text| text.len() == 259)),
+    ("bit 9 without block", |s| s.bit(9) && s.environments.is_empty()),
+    ("block without bit 9", |s| !s.bit(9) && !s.environments.is_empty()),
+];
+
+#[test]
+fn inputs_have_what_a_key_depends_on() {
+    let mut counts = [0; TRAITS.len()];
+    let mut accepted = 0;
+    for bytes in (0..INPUTS).map(inputs::input) {
+        if let Some(shortcut) = Shortcut::of(&bytes) {
+            accepted += 1;
+            counts.iter_mut().zip(TRAITS).for_each(|(count, row)| *count += u64::from(row.1(&shortcut)));
+        }
+    }
+    println!("{} inputs, {} accepted", INPUTS, accepted);
+    let percent = counts.map(|count| 100.0 * count as f64 / f64::from(accepted));
+    for (share, (name, _)) in percent.iter().zip(TRAITS) {
+        println!("{:5.1} % {}", share, name);
+    }
+    assert!(percent.iter().all(|&share| share >= LEAST));
+}
