@@ -148,19 +148,19 @@ pub fn first_block(s: &[u8], from: usize, signature: u32) -> Place
     if n < from {
         return none;
     }
-    let mut p = from;
-    while 4 <= n - p {
-        let size = octets::u32_at(s, p) as usize;
-        if size < 8 {
+    let mut at = from;
+    while 4 <= n - at {
+        let len = octets::u32_at(s, at) as usize;
+        if len < 8 {
             return none;
         }
-        if n - p < size {
+        if n - at < len {
             return none;
         }
-        if octets::u32_at(s, p + 4) == signature {
-            return Place { at: p, len: size };
+        if octets::u32_at(s, at + 4) == signature {
+            return Place { at, len };
         }
-        p += size;
+        at += len;
     }
     none
 }

@@ -10,10 +10,10 @@ use Rattle.blocks.proofs.first_block.Statement.{statement}
 use Rattle.blocks.proofs.first_block.Tie as tie
 
 abbrev Inv-loop : tie.InvT-loop
-Inv-loop s from signature none n p₀ p = (p ≤ length s) × ((b : Place) → FirstOf s p signature b → FirstOf s from signature b)
+Inv-loop s from signature none n at₀ at = (at ≤ length s) × ((b : Place) → FirstOf s at signature b → FirstOf s from signature b)
 
 abbrev μ-loop : tie.MeasureT-loop
-μ-loop s from signature none n p₀ p = length s - p
+μ-loop s from signature none n at₀ at = length s - at
 
 returns : tie.Need-returns Inv-loop μ-loop
 returns c = (first-none _ _ _ (λ h t. omega arith), λ z. absurd (z refl))
@@ -27,8 +27,8 @@ sub-loop c = omega arith
 u32-at-requires : tie.Need-u32-at-requires Inv-loop μ-loop
 u32-at-requires c κs = omega arith
 
-cast-size : tie.Need-cast-size Inv-loop μ-loop
-cast-size c = search needs
+cast-len : tie.Need-cast-len Inv-loop μ-loop
+cast-len c = search needs
 
 returns-2 : tie.Need-returns-2 Inv-loop μ-loop
 returns-2 c = (c .before .before .before .loop .inv .1 _ (first-none _ _ _ (λ h t. omega arith)), λ z. absurd (z refl))
@@ -50,8 +50,8 @@ returns-4 c =
     let u = c .before .before .before .before in
     (u .before .before .loop .inv .1 _ (first-here _ _ (u .u32-at .ensures) (omega arith) _ (sym (c .before .u32-at2 .ensures) ∙ c .if4 .taken) (omega arith)), λ z. omega arith)
 
-add-p : tie.Need-add-p Inv-loop μ-loop
-add-p c = omega arith
+add-at : tie.Need-add-at Inv-loop μ-loop
+add-at c = omega arith
 
 loop-less : tie.Need-loop-less Inv-loop μ-loop
 loop-less c = omega arith
@@ -74,14 +74,14 @@ first-block-spec =
     loop-holds
     sub-loop
     u32-at-requires
-    cast-size
+    cast-len
     returns-2
     sub-if3
     returns-3
     add-u32-at
     u32-at-requires-2
     returns-4
-    add-p
+    add-at
     loop-less
     loop-again
     returns-5)
