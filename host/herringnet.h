@@ -136,10 +136,10 @@ uint64_t herringnet_check(const uint8_t *shortcut, size_t shortcut_len);
 uint64_t herringnet_target(const uint8_t *shortcut, size_t shortcut_len, uint8_t *out, size_t out_len);
 
 /* Puts the cache key into out: a byte 0 or 1 for bit 7 of LINK_FLAGS, then target text, arguments, working directory
- * and environment, the byte text of the first block A0000001. Each of the four is a byte 0 or 1 for its presence, its
- * length in four bytes, little-endian, and its bytes; one that is absent has length 0. Two accepted shortcuts have
- * equal keys exactly if all this is equal. Success: its length, which is never more than shortcut_len. Refusals: as
- * herringnet_check, then ROOM. */
+ * and environment, the byte text of the first block A0000001 up to its zero. Each of the four is a byte 0 or 1 for its
+ * presence, its length in bytes as four bytes, little-endian, and its bytes; one that is absent has length 0. Two
+ * accepted shortcuts have equal keys exactly if all this is equal. Success: the key's length, which is never more than
+ * shortcut_len. Refusals: as herringnet_check, then ROOM. */
 uint64_t herringnet_key(const uint8_t *shortcut, size_t shortcut_len, uint8_t *out, size_t out_len);
 
 /* Says where a section stands, all of it as listed: HERRINGNET_START and HERRINGNET_LENGTH of the answer. block is the

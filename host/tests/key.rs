@@ -1,13 +1,10 @@
 //! The cache key: its bytes written out, what it depends on and what not, and the room that it takes.
 mod common;
 
-use common::SAMPLE;
+use common::{rows, SAMPLE};
 use herringnet::record::{Header, Info, InfoUnicode, Label, Local, Network, NetworkUnicode, Record};
 use herringnet::{boundary, check, key, sections, target, Fault, Refusal, SectionName};
 use std::collections::HashSet;
-
-/// The vectors, each of which stands after its length in four bytes.
-const ROWS: &[u8] = include_bytes!("../../crates/vectors/stdin");
 
 /// A part of a key that is not there.
 const ABSENT: &[u8] = &[0; 5];
@@ -267,16 +264,6 @@ fn the_sample() {
     let workdir = b"\x01\x0E\0\0\0C\0:\0\\\0t\0e\0s\0t\0";
     let expected = [&b"\x01\x01\x0D\0\0\0C:\\test\\a.txt"[..], ABSENT, workdir, ABSENT].concat();
     assert_eq!(key(SAMPLE).unwrap(), expected);
-}
-
-fn rows() -> Vec<&'static [u8]> {
-    let (mut rest, mut rows) = (ROWS, Vec::new());
-    while let [a, b, c, d, after @ ..] = rest {
-        let (row, next) = after.split_at(u32::from_le_bytes([*a, *b, *c, *d]) as usize);
-        rows.push(row);
-        rest = next;
-    }
-    rows
 }
 
 /// A key put together from the other calls: the record, the target and the blocks.

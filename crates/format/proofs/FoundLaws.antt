@@ -25,7 +25,7 @@ use Rattle.format.specs.Network.{networkFlags, hasDevice, networkUnicode
 use Rattle.format.specs.Info.{infoSize, infoHead, longHead, hasLocal, hasNetwork, infoRules, infoFields, info, noInfo}
 use Rattle.format.specs.Strings.{stringLength, string}
 use Rattle.format.specs.Blocks.{blocks}
-use Rattle.format.specs.Shortcut.{Section, Tail, Sections, found, stringSection, tail, sections, sum, recordOf}
+use Rattle.format.specs.Shortcut.{Section, Tail, Sections, blocksOf, found, stringSection, tail, sections, sum, recordOf}
 use Rattle.format.specs.Contents.{presentNetwork, presentInfo, present, labelPlace, bodies, allInside}
 use Rattle.format.specs.Listing.{Row, row, blockRows, rowsOf, EndToEnd}
 use Rattle.format.proofs.Bools.{and-true, choose-twice}
@@ -111,7 +111,7 @@ module _ (f : List ℕ) where
       rw (x .0, x .1 .0, x .1 .1 .0, x .1 .1 .1 .0, x .1 .1 .1 .1 .0, x .1 .1 .1 .1 .1 .0, x .1 .1 .1 .1 .1 .1 .0)
 
   -- and its blocks are those of a walk
-  pub read-walk : (c : Sections) (n : ℕ) → sections 0 f ≡ got c n → Walk (c .1 .1 .1 .1 .1 .1 .1 .1)
+  pub read-walk : (c : Sections) (n : ℕ) → sections 0 f ≡ got c n → Walk (blocksOf c)
   unfolding sections
   read-walk c n e = (known-always .always 0 c n e) .1 .1 .1 .1 .1 .1 .1 .1
 

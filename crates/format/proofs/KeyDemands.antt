@@ -21,10 +21,10 @@ use Rattle.format.specs.Contents.{bytesAt}
 use Rattle.format.specs.Writing.{outputOf}
 use Rattle.format.specs.Demands.{Accepts, Refuses}
 use Rattle.format.specs.Target.{hasTarget, targetText}
-use Rattle.format.specs.Key.{present, partIf, Key, keyOf, keyBytes, key, keyAnswer, keyOutput, keyBy, keyIn}
+use Rattle.format.specs.Key.{Part, noPart, somePart, partIf, Key, keyOf, keyBytes, key, keyAnswer, keyOutput, keyBy, keyIn, SameParts, argumentsOf}
 use Rattle.format.proofs.AcceptedLaws.{accepted-read, refused-read}
 use Rattle.format.proofs.Demands.{beginning-cut}
-use Rattle.format.proofs.KeyLaws.{SameParts, equal-keys}
+use Rattle.format.proofs.KeyLaws.{equal-keys}
 
 -- ---- what a call wrote
 
@@ -79,6 +79,10 @@ same-key s t out other n m e f =
 
 -- ---- in plain words
 
+abbrev inCharacters : Bool → Part → Part
+inCharacters u noPart = noPart
+inCharacters u (somePart x) = somePart (characters u x)
+
 -- what the record says of the key
 pub record Tells (s : List ℕ) (r : Record) : Type 0 where
   pub unicode : keyIn s .unicode ≡ bit 7 (r .header .flags)
@@ -98,22 +102,33 @@ record-tells s r e =
       workdir = ap (λ (k : Key). k .workdir) k ∙ rw (x .held);
     }
 
--- the characters of the arguments, as the record has them
-abbrev pub argumentsOf : List ℕ → Record → List ℕ
-argumentsOf s r = characters (bit 7 (r .header .flags)) (bytesAt s (r .arguments))
-
--- two shortcuts that differ in one character of the arguments have different keys
-pub one-character : (s t out other : List ℕ) (r q : Record) (n m i : ℕ) → Accepts s r → Accepts t q
-    → bit 5 (r .header .flags) ≡ true → bit 5 (q .header .flags) ≡ true → (getD (argumentsOf s r) i 0 ≡ getD (argumentsOf t q) i 0 → ⊥)
+-- two shortcuts whose arguments differ, in being there, in length or in any character, have different keys
+pub other-arguments : (s t out other : List ℕ) (r q : Record) (n m : ℕ) → Accepts s r → Accepts t q → (argumentsOf s r ≡ argumentsOf t q → ⊥)
     → keyAnswer s out ≡ Accepted n → keyAnswer t other ≡ Accepted m → take n (keyOutput s out) ≡ take m (keyOutput t other) → ⊥
-one-character s t out other r q n m i a b x y differ e f same =
+other-arguments s t out other r q n m a b differ e f same =
     let p = (same-key s t out other n m e f) .0 same in
     let k = record-tells s r a in
     let l = record-tells t q b in
     let u : bit 7 (r .header .flags) ≡ bit 7 (q .header .flags) = sym (k .unicode) ∙ p .unicode ∙ l .unicode in
-    let z : present (bytesAt s (r .arguments)) ≡ present (bytesAt t (q .arguments)) = rw (x, y) at (sym (k .arguments) ∙ p .arguments ∙ l .arguments) in
-    let w : bytesAt s (r .arguments) ≡ bytesAt t (q .arguments) = cc in
-    differ (rw (u, w))
+    let w = sym (k .arguments) ∙ p .arguments ∙ l .arguments in
+    differ
+    (read-as (bit 7 (r .header .flags)) (bit 5 (r .header .flags)) (bytesAt s (r .arguments))
+    ∙ ap (inCharacters (bit 7 (r .header .flags))) w
+    ∙ rw (← u) (sym (read-as (bit 7 (r .header .flags)) (bit 5 (q .header .flags)) (bytesAt t (q .arguments)))))
+  where
+    read-as : (u b : Bool) (x : List ℕ) → partIf b (characters u x) ≡ inCharacters u (partIf b x)
+    read-as u true x = refl
+    read-as u false x = refl
+
+-- so do two that differ in one character of the arguments
+pub one-character : (s t out other : List ℕ) (r q : Record) (n m i : ℕ) (x y : List ℕ) → Accepts s r → Accepts t q
+    → argumentsOf s r ≡ somePart x → argumentsOf t q ≡ somePart y → (getD x i 0 ≡ getD y i 0 → ⊥)
+    → keyAnswer s out ≡ Accepted n → keyAnswer t other ≡ Accepted m → take n (keyOutput s out) ≡ take m (keyOutput t other) → ⊥
+one-character s t out other r q n m i x y a b ex ey differ =
+    other-arguments s t out other r q n m a b (λ z.
+    let w : somePart x ≡ somePart y = sym ex ∙ z ∙ ey in
+    let v : x ≡ y = cc in
+    differ (rw v))
 
 -- a shortcut cut short never has a key: it is refused with 2, and the buffer stays as it was
 pub cut-no-key : (s out : List ℕ) (r : Record) (k : ℕ) → Accepts s r → k < length s → (p : ℕ) × ((keyAnswer (take k s) out ≡ Refused CUT p) × (keyOutput (take k s) out ≡ out))

@@ -13,10 +13,10 @@ use Rattle.octets.proofs.NumberLaws.{length-little, number-little}
 use Rattle.octets.specs.Characters.{beforeZero}
 use Rattle.format.specs.Tests.{got, bit}
 use Rattle.format.specs.Blocks.{firstPlace}
-use Rattle.format.specs.Shortcut.{most, Sections, shortcut, recordOf}
+use Rattle.format.specs.Shortcut.{most, Sections, blocksOf, shortcut, recordOf}
 use Rattle.format.specs.Contents.{bytesAt}
 use Rattle.format.specs.Target.{hasTarget, targetText}
-use Rattle.format.specs.Key.{Part, absent, present, partIf, Key, blockText, keyOf, partBytes, keyBytes}
+use Rattle.format.specs.Key.{Part, noPart, somePart, partIf, Key, SameParts, blockText, keyOf, partBytes, keyBytes}
 use Rattle.format.proofs.AcceptedLaws.{shortcut-whole}
 use Rattle.format.proofs.BodyLaws.{body-small}
 use Rattle.format.proofs.TargetLaws.{text-small}
@@ -42,27 +42,27 @@ little-halves w m n x y h k e =
 
 -- its length fits in four bytes
 abbrev pub PartFits : Part → Type 0
-PartFits absent = Unit {0}
-PartFits (present w) = length w < 4294967296
+PartFits noPart = Unit {0}
+PartFits (somePart w) = length w < 4294967296
 
 no-part : {X : Type 0} (x y : List ℕ) → little 1 0 ++ x ≡ little 1 1 ++ y → X
 no-part x y e = absurd (let z : 0 ≡ 1 = (little-halves 1 0 1 x y (omega arith) (omega arith) e) .0 in omega arith)
 
 part-told : (p q : Part) → PartFits p → PartFits q → (x y : List ℕ) → partBytes p ++ x ≡ partBytes q ++ y → (p ≡ q) × (x ≡ y)
-part-told absent absent h k x y e = (refl, (halves (partBytes absent) (partBytes absent) x y refl e) .1)
-part-told absent (present v) h k x y e =
+part-told noPart noPart h k x y e = (refl, (halves (partBytes noPart) (partBytes noPart) x y refl e) .1)
+part-told noPart (somePart v) h k x y e =
     no-part (little 4 0 ++ x) ((little 4 (length v) ++ v) ++ y)
     (sym (append-assoc (little 1 0) (little 4 0) x) ∙ e ∙ append-assoc (little 1 1) (little 4 (length v) ++ v) y)
-part-told (present w) absent h k x y e =
+part-told (somePart w) noPart h k x y e =
     no-part (little 4 0 ++ y) ((little 4 (length w) ++ w) ++ x)
     (sym (append-assoc (little 1 0) (little 4 0) y) ∙ sym e ∙ append-assoc (little 1 1) (little 4 (length w) ++ w) x)
-part-told (present w) (present v) h k x y e =
+part-told (somePart w) (somePart v) h k x y e =
     let i = halves (little 1 1) (little 1 1) (little 4 (length w) ++ (w ++ x)) (little 4 (length v) ++ (v ++ y)) refl (sym (spread w x) ∙ e ∙ spread v y) in
     let j = little-halves 4 (length w) (length v) (w ++ x) (v ++ y) h k (i .1) in
     let l = halves w v x y (j .0) (j .1) in
-    (ap present (l .0), l .1)
+    (ap somePart (l .0), l .1)
   where
-    spread : (w x : List ℕ) → partBytes (present w) ++ x ≡ little 1 1 ++ (little 4 (length w) ++ (w ++ x))
+    spread : (w x : List ℕ) → partBytes (somePart w) ++ x ≡ little 1 1 ++ (little 4 (length w) ++ (w ++ x))
     spread w x = append-assoc (little 1 1) (little 4 (length w) ++ w) x ∙ ap (λ (l : List ℕ). little 1 1 ++ l) (append-assoc (little 4 (length w)) w x)
 
 -- ---- the whole key
@@ -72,14 +72,6 @@ pub record Fits (k : Key) : Type 0 where
   pub arguments : PartFits (k .arguments)
   pub workdir : PartFits (k .workdir)
   pub environment : PartFits (k .environment)
-
--- bit 7 and all four parts, presence included, are equal
-pub record SameParts (k l : Key) : Type 0 where
-  pub unicode : k .unicode ≡ l .unicode
-  pub target : k .target ≡ l .target
-  pub arguments : k .arguments ≡ l .arguments
-  pub workdir : k .workdir ≡ l .workdir
-  pub environment : k .environment ≡ l .environment
 
 flag-told : (a b : Bool) → cond {A = ℕ} a 1 0 ≡ cond b 1 0 → a ≡ b
 flag-told true true e = refl
@@ -119,7 +111,7 @@ pub key-fits : (s : List ℕ) (c : Sections) → length s ≤ most → Fits (key
 unfolding keyOf
 key-fits s c h =
     let r = recordOf c in
-    let b = firstPlace s 0xA0000001 (c .1 .1 .1 .1 .1 .1 .1 .1 .start) (c .1 .1 .1 .1 .1 .1 .1 .1 .read) in
+    let b = firstPlace s 0xA0000001 (blocksOf c .start) (blocksOf c .read) in
     let text = drop 8 (bytesAt s b) in
     record {
       target = if-fits (hasTarget r) (targetText s r) (omega (arith, text-small s r));

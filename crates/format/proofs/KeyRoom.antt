@@ -16,12 +16,12 @@ use Rattle.format.specs.declared.Record.{Record}
 use Rattle.format.specs.declared.Verdict.the-variants.{Accepted}
 use Rattle.format.specs.Tests.{got, bit, place}
 use Rattle.format.specs.Blocks.{blocks, firstPlace}
-use Rattle.format.specs.Shortcut.{sum, recordOf}
+use Rattle.format.specs.Shortcut.{blocksOf, sum, recordOf}
 use Rattle.format.specs.Contents.{InfoContents, Contents, bytesAt, bodiesOf, contents}
 use Rattle.format.specs.Writing.{ifThere, textBytes, networkBytes, infoBytes, stringBytes, stringThere, canonical}
 use Rattle.format.specs.Demands.{Accepts}
-use Rattle.format.specs.Target.{separator}
-use Rattle.format.specs.Key.{Part, absent, present, partIf, Key, blockText, environment, keyOf, partBytes, keyBytes, key, keyAnswer, keyBy, keyIn}
+use Rattle.format.specs.Target.{targeted, separator, joined}
+use Rattle.format.specs.Key.{Part, noPart, somePart, partIf, Key, blockText, environment, keyOf, partBytes, keyBytes, key, keyAnswer, keyBy, keyIn}
 use Rattle.format.proofs.Chains.{no-true}
 use Rattle.format.proofs.NetworkLaws.{length-network}
 use Rattle.format.proofs.InfoLaws.{length-info}
@@ -38,13 +38,13 @@ abbrev firstText : InfoContents → List ℕ
 firstText i = cond (bit 0 (i .flags)) (i .local) (i .network .net)
 
 abbrev wholeText : InfoContents → List ℕ
-wholeText i = firstText i ++ (separator (firstText i) (i .suffix) ++ i .suffix)
+wholeText i = joined (firstText i) (i .suffix)
 
 abbrev pub keyFrom : Contents → Part → Key
 keyFrom c e = record {
   unicode = bit 7 (c .header .flags);
   target =
-      partIf (not (bit 8 (c .header .flags)) && bit 1 (c .header .flags) && (bit 0 (c .info .flags) || bit 1 (c .info .flags))) (wholeText (c .info));
+      partIf (targeted (c .header .flags) (c .info .flags)) (wholeText (c .info));
   arguments = partIf (bit 5 (c .header .flags)) (c .arguments);
   workdir = partIf (bit 4 (c .header .flags)) (c .workdir);
   environment = e;
@@ -68,7 +68,7 @@ pub made : (s : List ℕ) (r : Record) → Accepts s r → Made s r
 unfolding Accepts keyIn keyOf contents
 made s r e =
     let x = accepted-read s r (length s) e in
-    let b = x .sections .1 .1 .1 .1 .1 .1 .1 .1 in
+    let b = blocksOf (x .sections) in
     let c : bodiesOf s (recordOf (x .sections)) ≡ contents s r = ap (bodiesOf s) (x .held ∙ sym (accepted-present s r (length s) e)) in
     record {
       start = b .start;
@@ -89,26 +89,26 @@ body-long {s} m =
 -- ---- how long it is
 
 -- the bytes that a part has beyond its presence byte and its length
-abbrev partLength : Part → ℕ
-partLength absent = 0
-partLength (present w) = length w
+abbrev bytesIn : Part → ℕ
+bytesIn noPart = 0
+bytesIn (somePart w) = length w
 
-length-part : (p : Part) → length (partBytes p) ≡ 5 + partLength p
-length-part absent = simp (length-append, length-little)
-length-part (present w) = simp (length-append, length-little) (omega arith)
+length-part : (p : Part) → length (partBytes p) ≡ 5 + bytesIn p
+length-part noPart = simp (length-append, length-little)
+length-part (somePart w) = simp (length-append, length-little) (omega arith)
 
 length-key : (k : Key)
-    → length (keyBytes k) ≡ 21 + partLength (k .target) + partLength (k .arguments) + partLength (k .workdir) + partLength (k .environment)
+    → length (keyBytes k) ≡ 21 + bytesIn (k .target) + bytesIn (k .arguments) + bytesIn (k .workdir) + bytesIn (k .environment)
 unfolding keyBytes
 length-key k = simp (length-append, length-little, length-part) (omega arith)
 
 -- ---- each part is no longer than what holds it
 
-part-few : (b : Bool) (w : List ℕ) → partLength (partIf b w) ≤ length w
+part-few : (b : Bool) (w : List ℕ) → bytesIn (partIf b w) ≤ length w
 part-few true w = omega arith
 part-few false w = omega arith
 
-string-few : (b u : Bool) (x : List ℕ) → partLength (partIf b x) ≤ length (ifThere b (stringBytes u) x)
+string-few : (b u : Bool) (x : List ℕ) → bytesIn (partIf b x) ≤ length (ifThere b (stringBytes u) x)
 unfolding stringBytes
 string-few true u x = simp length-append (omega arith)
 string-few false u x = omega arith
@@ -135,10 +135,10 @@ text-few i e =
     go false false e = no-true e
 
 target-few : (a b : Bool) (i : InfoContents)
-    → partLength (partIf (a && b && (bit 0 (i .flags) || bit 1 (i .flags))) (wholeText i)) ≤ length (ifThere b infoBytes i)
+    → bytesIn (partIf (a && b && (bit 0 (i .flags) || bit 1 (i .flags))) (wholeText i)) ≤ length (ifThere b infoBytes i)
 target-few true true i = go (bit 0 (i .flags) || bit 1 (i .flags)) refl
   where
-    go : (d : Bool) → (bit 0 (i .flags) || bit 1 (i .flags)) ≡ d → partLength (partIf d (wholeText i)) ≤ length (infoBytes i)
+    go : (d : Bool) → (bit 0 (i .flags) || bit 1 (i .flags)) ≡ d → bytesIn (partIf d (wholeText i)) ≤ length (infoBytes i)
     go true e = text-few i e
     go false e = omega arith
 target-few true false i = omega arith
@@ -153,7 +153,7 @@ first-few s signature p (n ∷ ns) = go (eqb (u32At s (p + 4)) signature) (first
     go true later h = omega arith
     go false later h = omega arith
 
-environment-few : (s : List ℕ) (p : ℕ) (lengths : List ℕ) → partLength (environmentOf s p lengths) ≤ sum lengths
+environment-few : (s : List ℕ) (p : ℕ) (lengths : List ℕ) → bytesIn (environmentOf s p lengths) ≤ sum lengths
 environment-few s p lengths =
     let b = firstPlace s 0xA0000001 p lengths in
     let text = drop 8 (bytesAt s b) in
@@ -175,7 +175,7 @@ held-few : (c : Contents)
 unfolding canonical
 held-few c = simp (length-append, length-little) (omega arith)
 
-key-few : (c : Contents) (e : Part) → partLength e ≤ length (c .blocks) → length (keyBytes (keyFrom c e)) ≤ length (canonical c)
+key-few : (c : Contents) (e : Part) → bytesIn e ≤ length (c .blocks) → length (keyBytes (keyFrom c e)) ≤ length (canonical c)
 key-few c e h =
     let f = c .header .flags in
     omega (

@@ -21,6 +21,7 @@ pub mod AcceptedLaws
 pub mod BodyLaws
 pub mod TargetLaws
 pub mod KeyLaws
+pub mod KeyRows
 pub mod Demands
 pub mod KeyDemands
 pub mod KeyRoom

@@ -9,7 +9,7 @@ use Rattle.format.specs.declared.Place.{Place}
 use Rattle.format.specs.declared.Record.{Record}
 use Rattle.format.specs.Tests.{bit}
 use Rattle.format.specs.Contents.{bytesAt}
-use Rattle.format.specs.Target.{separated, backslash, separator, targetText}
+use Rattle.format.specs.Target.{separated, backslash, separator, joined, targetText}
 use Rattle.format.proofs.BodyLaws.{body-small}
 
 -- C and s with one between; the first text ends in 5C; no suffix; no first text; neither; the suffix begins with 5C; a 5C that is not at the end
@@ -37,15 +37,12 @@ text-small s r = go (bit 0 (r .info .flags))
     suffix : List ℕ
     suffix = bytesAt s (r .info .suffix)
 
-    joined : List ℕ → List ℕ
-    joined first = first ++ (separator first suffix ++ suffix)
-
-    either : (a : Place) → length (joined (bytesAt s a)) ≤ length s + 1 + length s
+    either : (a : Place) → length (joined (bytesAt s a) suffix) ≤ length s + 1 + length s
     either a =
         let first = bytesAt s a in
         let between = separator first suffix in
         omega (arith, length-append first (between ++ suffix), length-append between suffix, separator-few first suffix, body-small s a, body-small s (r .info .suffix))
 
-    go : (b : Bool) → length (joined (cond b (bytesAt s (r .info .local)) (bytesAt s (r .info .network .net)))) ≤ length s + 1 + length s
+    go : (b : Bool) → length (joined (cond b (bytesAt s (r .info .local)) (bytesAt s (r .info .network .net))) suffix) ≤ length s + 1 + length s
     go true = either (r .info .local)
     go false = either (r .info .network .net)

@@ -1,17 +1,19 @@
 -- The cache key (request 02).
 use Prim.Native.Nat.{ℕ}
+use mathlib.Core.Path.{_≡_}
 use mathlib.Core.List.{List, [], _∷_, _++_}
 use mathlib.Core.Bool.{Bool, false, cond}
 use lib.ListN.{length, take, drop}
 use lib.Dec.{leb}
 use Rattle.octets.specs.Numbers.{little}
-use Rattle.octets.specs.Characters.{beforeZero}
+use Rattle.octets.specs.Characters.{characters, beforeZero}
 use Rattle.format.specs.declared.Place.{Place}
+use Rattle.format.specs.declared.Record.{Record}
 use Rattle.format.specs.declared.Verdict.{Verdict}
 use Rattle.format.specs.declared.Fault.the-variants.{Room as ROOM}
 use Rattle.format.specs.Tests.{Outcome, got, refused, _else_, tests, andThen, bit}
 use Rattle.format.specs.Blocks.{firstPlace}
-use Rattle.format.specs.Shortcut.{Sections, shortcut, recordOf, verdictOf}
+use Rattle.format.specs.Shortcut.{Sections, blocksOf, shortcut, recordOf, verdictOf}
 use Rattle.format.specs.Contents.{bytesAt}
 use Rattle.format.specs.Writing.{outputOf}
 use Rattle.format.specs.Target.{hasTarget, targetText}
@@ -19,11 +21,11 @@ use Rattle.format.specs.Target.{hasTarget, targetText}
 -- ---- what is in the key: flag bit 7 and four parts, each absent or present with its bytes
 
 pub data Part : Type 0 where
-  absent : Part
-  present : List ℕ → Part
+  noPart : Part
+  somePart : List ℕ → Part
 
 abbrev pub partIf : Bool → List ℕ → Part
-partIf there w = cond there (present w) absent
+partIf there w = cond there (somePart w) noPart
 
 pub record Key : Type 0 where
   pub unicode : Bool
@@ -43,21 +45,20 @@ environment s b = partIf (leb 1 (b .len)) (blockText s b)
 unfoldable pub keyOf : List ℕ → Sections → Key
 keyOf s c =
     let r = recordOf c in
-    let (header, (items, (info, (name, (relative, (workdir, (arguments, (icon, blocks)))))))) = c in
     record {
       unicode = bit 7 (r .header .flags);
       target = partIf (hasTarget r) (targetText s r);
       arguments = partIf (bit 5 (r .header .flags)) (bytesAt s (r .arguments));
       workdir = partIf (bit 4 (r .header .flags)) (bytesAt s (r .workdir));
-      environment = environment s (firstPlace s 0xA0000001 (blocks .start) (blocks .read));
+      environment = environment s (firstPlace s 0xA0000001 (blocksOf c .start) (blocksOf c .read));
     }
 
 -- ---- its bytes
 
 -- Each of the four is a presence byte (0 or 1), a 4-byte length, and the bytes; an absent one has length 0 and no bytes
 abbrev pub partBytes : Part → List ℕ
-partBytes absent = little 1 0 ++ little 4 0
-partBytes (present w) = little 1 1 ++ (little 4 (length w) ++ w)
+partBytes noPart = little 1 0 ++ little 4 0
+partBytes (somePart w) = little 1 1 ++ (little 4 (length w) ++ w)
 
 -- a byte 0 or 1 for flag bit 7, then target text, arguments, working directory, and the environment
 unfoldable pub keyBytes : Key → List ℕ
@@ -82,12 +83,25 @@ unfoldable pub keyOutput : List ℕ → List ℕ → List ℕ
 unfolding key outputOf
 keyOutput s out = outputOf (key s (length out)) out
 
--- ---- for the promises: what is in the key of a shortcut; of a refused one nothing is
+-- ---- the words in which the promises are put
 
+-- what is in the key of a shortcut. A refused one has no key: what stands here for it is in no promise
 abbrev pub keyBy : List ℕ → Outcome Sections → Key
 keyBy s (got c n) = keyOf s c
-keyBy s (refused f p) = record { unicode = false; target = absent; arguments = absent; workdir = absent; environment = absent }
+keyBy s (refused f p) = record { unicode = false; target = noPart; arguments = noPart; workdir = noPart; environment = noPart }
 
 unfoldable pub keyIn : List ℕ → Key
 unfolding shortcut
 keyIn s = keyBy s (shortcut s)
+
+-- bit 7 and all four parts, presence included, are equal
+pub record SameParts (k l : Key) : Type 0 where
+  pub unicode : k .unicode ≡ l .unicode
+  pub target : k .target ≡ l .target
+  pub arguments : k .arguments ≡ l .arguments
+  pub workdir : k .workdir ≡ l .workdir
+  pub environment : k .environment ≡ l .environment
+
+-- the characters of the arguments, where there are any
+abbrev pub argumentsOf : List ℕ → Record → Part
+argumentsOf s r = partIf (bit 5 (r .header .flags)) (characters (bit 7 (r .header .flags)) (bytesAt s (r .arguments)))

@@ -67,6 +67,9 @@ Sections = Section Header × Tail
 unfoldable pub sections : Reader Sections
 sections = chain (found header) (λ h. tail (h .read .flags))
 
+abbrev pub blocksOf : Sections → Section (List ℕ)
+blocksOf c = c .1 .1 .1 .1 .1 .1 .1 .1
+
 -- over 65,536 bytes: LONG; bytes after the terminal block: TRAIL, at the first of them
 unfoldable pub shortcut : List ℕ → Outcome Sections
 unfolding sections

@@ -13,9 +13,11 @@ use Rattle.format.specs.Contents.{bytesAt}
 use Rattle.format.specs.Writing.{outputOf}
 
 -- there is a target unless flag bit 8 is set, LinkInfo is absent, or neither of its bits 0 and 1 is set
+abbrev pub targeted : ℕ → ℕ → Bool
+targeted flags infoFlags = not (bit 8 flags) && bit 1 flags && (bit 0 infoFlags || bit 1 infoFlags)
+
 abbrev pub hasTarget : Record → Bool
-hasTarget r =
-    not (bit 8 (r .header .flags)) && bit 1 (r .header .flags) && (bit 0 (r .info .flags) || bit 1 (r .info .flags))
+hasTarget r = targeted (r .header .flags) (r .info .flags)
 
 -- One byte 5C is put between the first text and the suffix if the suffix is not empty and the first text is not empty and does not end in 5C
 abbrev pub separated : List ℕ → List ℕ → Bool
@@ -28,12 +30,13 @@ backslash = 0x5C ∷ []
 abbrev pub separator : List ℕ → List ℕ → List ℕ
 separator first suffix = cond (separated first suffix) backslash []
 
+abbrev pub joined : List ℕ → List ℕ → List ℕ
+joined first suffix = first ++ (separator first suffix ++ suffix)
+
 -- With LinkInfo bit 0: local path, then suffix, as bytes. Otherwise with bit 1: net name, then suffix
 abbrev pub targetText : List ℕ → Record → List ℕ
 targetText s r =
-    let first = cond (bit 0 (r .info .flags)) (bytesAt s (r .info .local)) (bytesAt s (r .info .network .net)) in
-    let suffix = bytesAt s (r .info .suffix) in
-    first ++ (separator first suffix ++ suffix)
+    joined (cond (bit 0 (r .info .flags)) (bytesAt s (r .info .local)) (bytesAt s (r .info .network .net))) (bytesAt s (r .info .suffix))
 
 -- The target call tests as reading does, then 13, then 12
 unfoldable pub target : List ℕ → ℕ → Outcome (List ℕ)

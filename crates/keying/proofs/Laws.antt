@@ -31,7 +31,7 @@ use Rattle.format.specs.Shortcut.{most, shortcut, reading}
 use Rattle.format.specs.Contents.{bytesAt}
 use Rattle.format.specs.Writing.{outputOf}
 use Rattle.format.specs.Target.{hasTarget}
-use Rattle.format.specs.Key.{absent, present, partIf, Key, blockText, environment, partBytes, keyBytes, key, keyAnswer, keyOutput, keyIn}
+use Rattle.format.specs.Key.{noPart, somePart, partIf, Key, blockText, environment, partBytes, keyBytes, key, keyAnswer, keyOutput, keyIn}
 use Rattle.format.specs.Demands.{Accepts}
 use Rattle.format.proofs.BodyLaws.{body-part}
 use Rattle.format.proofs.Chains.{drop-take}
@@ -69,7 +69,7 @@ module _ (s : List ℕ) (there : Bool) (t : Texts) where
 
   pub part-stands : length s ≤ most → Stands s t → PartStands s (keyPart there t)
   unfolding keyPart
-  part-stands small h = record { stands = go there; absent = λ e. rw e; small = small }
+  part-stands small h = record { stands = go there; empty = λ e. rw e; small = small }
     where
       go : (b : Bool) → Stands s (cond b t (only noPlace))
       go true = h
@@ -114,10 +114,10 @@ module _ (s : List ℕ) (a : Place) (h : a .at + a .len ≤ length s) (long : 8 
       let l : length text ≡ a .len - 8 = omega (arith, length-drop 8 (bytesAt s a), length-take (a .len) (drop (a .at) s), length-drop (a .at) s) in
       found (omega (arith, before-le text)) (omega arith)
 
-no-block : (s : List ℕ) (b : Place) → b .len ≡ 0 → absent ≡ environment s b
+no-block : (s : List ℕ) (b : Place) → b .len ≡ 0 → noPart ≡ environment s b
 no-block s b e = rw e
 
-a-block : (s : List ℕ) (b : Place) → (b .len ≡ 0 → ⊥) → present (blockText s b) ≡ environment s b
+a-block : (s : List ℕ) (b : Place) → (b .len ≡ 0 → ⊥) → somePart (blockText s b) ≡ environment s b
 a-block s b e = rw (le-leb 1 (b .len) (omega arith))
 
 module _ (s : List ℕ) (from : ℕ) (small : length s ≤ most) {b : Place} (f : FirstOf s from 0xA0000001 b) where
@@ -132,7 +132,7 @@ module _ (s : List ℕ) (from : ℕ) (small : length s ≤ most) {b : Place} (f 
   environment-there {a} {t} {p} z x e i =
       rw (i, e)
       (shown-by (part-stands s true (only a) small (x .inside, omega arith, omega arith))
-      (part-shown s true (only a) ∙ ap present (only-bytes s a ∙ x .is) ∙ a-block s b z))
+      (part-shown s true (only a) ∙ ap somePart (only-bytes s a ∙ x .is) ∙ a-block s b z))
 
 -- ---- the bytes of a part
 
@@ -142,10 +142,6 @@ module _ (s : List ℕ) (p : KeyPart) (h : PartStands s p) where
 
   abbrev w : List ℕ
   w = textsBytes s (p .texts)
-
-  -- a length fits in four bytes
-  pub part-small : n ≤ 131073
-  part-small = let i = h .stands in let m = h .small in omega arith
 
   part-bytes : little 1 (cond (p .there) 1 0) ++ (little 4 n ++ w) ≡ partBytes (partShown s p)
   unfolding partShown
@@ -161,7 +157,7 @@ module _ (s : List ℕ) (p : KeyPart) (h : PartStands s p) where
       go : (b : Bool) → p .there ≡ b → little 1 (cond b 1 0) ++ (little 4 n ++ w) ≡ partBytes (partIf b w)
       go true e = rw long
       go false e =
-          let z = h .absent e in
+          let z = h .empty e in
           rw (z, none w (long ∙ z), append-nil (little 4 0))
 
   module _ {out x : List ℕ} {at m k : ℕ} (room : at + partLength p ≤ length out) (em : m ≡ partLength p) (flag : Wrote out at (little 1 (cond (p .there) 1 0)) 1 x k) where

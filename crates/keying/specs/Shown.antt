@@ -34,7 +34,7 @@ partLength p = 5 + textsLength (p .texts)
 
 pub record PartStands (s : List ℕ) (p : KeyPart) : Type 0 where
   pub stands : Stands s (p .texts)
-  pub absent : p .there ≡ false → textsLength (p .texts) ≡ 0
+  pub empty : p .there ≡ false → textsLength (p .texts) ≡ 0
   pub small : length s ≤ most
 
 -- b is where the byte string of the block a stands

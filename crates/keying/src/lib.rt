@@ -97,15 +97,26 @@ fn parts_of(s: &[u8], r: Record) -> KeyParts
 
 // ---- their bytes
 
-fn part_length(s: &[u8], p: KeyPart) -> usize
-    requires { ⌜ PartStands (now s) p ⌝ }
+fn part_length(p: KeyPart) -> usize
+    requires { ⌜ partLength p ≤ 4294967295 ⌝ }
     ensures { λ n. ⌜ n ≡ partLength p ⌝ }
 {
     let t = p.texts;
     5 + t.first.len + t.separators + t.suffix.len
 }
 
-// A byte 0 or 1. A function that puts answers the place after what it put.
+fn key_length(k: KeyParts) -> usize
+    requires { ⌜ keyLength k ≤ 4294967295 ⌝ }
+    ensures { λ n. ⌜ n ≡ keyLength k ⌝ }
+{
+    1
+        + part_length(k.target)
+        + part_length(k.arguments)
+        + part_length(k.workdir)
+        + part_length(k.environment)
+}
+
+// A byte 0 or 1. This function and the two below answer the place after what they put.
 fn put_flag(out: &mut [u8], at: usize, b: bool) -> usize
     requires { ⌜ at + 1 ≤ length (now out) ⌝ }
     ensures { λ r. ⌜ Wrote (now (out .entry)) at (little 1 (cond b 1 0)) 1 (now (out .exit)) r ⌝ }
@@ -119,22 +130,11 @@ fn put_part(s: &[u8], p: KeyPart, at: usize, out: &mut [u8]) -> usize
     requires { ⌜ PartStands (now s) p × (at + partLength p ≤ length (now out)) ⌝ }
     ensures { λ r. ⌜ Wrote (now (out .entry)) at (partBytes (partShown (now (s .entry)) p)) (partLength p) (now (out .exit)) r ⌝ }
 {
-    let n = part_length(s, p);
+    let n = part_length(p);
     let q = put_flag(out, at, p.there);
     octets::put_u32(out, q, (n - 5) as u32);
     target::put_texts(s, p.texts, at + 5, out);
     at + n
-}
-
-fn key_length(s: &[u8], k: KeyParts) -> usize
-    requires { ⌜ KeyStands (now s) k ⌝ }
-    ensures { λ n. ⌜ n ≡ keyLength k ⌝ }
-{
-    1
-        + part_length(s, k.target)
-        + part_length(s, k.arguments)
-        + part_length(s, k.workdir)
-        + part_length(s, k.environment)
 }
 
 fn put_key(s: &[u8], k: KeyParts, out: &mut [u8]) -> usize
@@ -160,7 +160,7 @@ pub fn key(s: &[u8], out: &mut [u8]) -> Verdict
         return v;
     };
     let k = parts_of(s, g.held);
-    if out.len() < key_length(s, k) {
+    if out.len() < key_length(k) {
         return Verdict::Refused(Fault::Room, 0);
     }
     Verdict::Accepted(put_key(s, k, out))

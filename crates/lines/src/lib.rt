@@ -87,11 +87,22 @@ pub fn listing(s: &[u8]) {
 }
 
 // At most as many bytes as a shortcut may have, in one line.
-pub fn hex_line(w: &[u8]) {
+fn hex_line(w: &[u8]) {
     let mut out = [0u8; 131072];
     if w.len() <= 65536 {
         put_hex(&mut out, w);
         io::write_all(1, octets::part(&out, 0, 2 * w.len()));
     }
     io::write_all(1, b"\n");
+}
+
+// The cache key in hex, or the refusal line.
+pub fn key_line(s: &[u8]) {
+    // A key is never longer than its shortcut.
+    let mut out = [0u8; 65536];
+    let v = keying::key(s, &mut out);
+    match v {
+        Verdict::Accepted(n) => hex_line(octets::part(&out, 0, n)),
+        Verdict::Refused(f, p) => refused_line(f, p),
+    }
 }

@@ -21,7 +21,7 @@ use Rattle.format.specs.Tests.{got, refused, _else_, tests, bit}
 use Rattle.format.specs.Shortcut.{reading}
 use Rattle.format.specs.Contents.{bytesAt}
 use Rattle.format.specs.Writing.{outputOf}
-use Rattle.format.specs.Target.{hasTarget, separated, backslash, separator, targetText, target, targetAnswer, targetOutput}
+use Rattle.format.specs.Target.{hasTarget, separated, backslash, separator, joined, targetText, target, targetAnswer, targetOutput}
 use Rattle.format.proofs.BodyLaws.{body-length, body-part, part-length}
 use Rattle.format.proofs.TargetLaws.{separator-few}
 use Rattle.format.proofs.AcceptedLaws.{accepted-read, refused-read, accepted-bodies, accepted-limit}
@@ -72,13 +72,10 @@ texts-are s r = go (bit 0 (r .info .flags))
     suffix : List ℕ
     suffix = bytesAt s (r .info .suffix)
 
-    joined : List ℕ → List ℕ
-    joined first = first ++ (separator first suffix ++ suffix)
-
     at : Place → List ℕ
     at a = bytesAt s a ++ (take (separators s a (r .info .suffix)) backslash ++ suffix)
 
-    go : (b : Bool) → joined (cond b (bytesAt s (r .info .local)) (bytesAt s (r .info .network .net))) ≡ at (cond b (r .info .local) (r .info .network .net))
+    go : (b : Bool) → joined (cond b (bytesAt s (r .info .local)) (bytesAt s (r .info .network .net))) suffix ≡ at (cond b (r .info .local) (r .info .network .net))
     go true = rw (counted (bytesAt s (r .info .local)) suffix)
     go false = rw (counted (bytesAt s (r .info .network .net)) suffix)
 

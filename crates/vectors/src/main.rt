@@ -1,9 +1,10 @@
-// Lists shortcuts that stand one after another on standard input, each after its length in four bytes; an accepted one is also rewritten.
+// Lists and keys shortcuts that stand one after another on standard input, each after its length in four bytes; an accepted one is also rewritten.
 use format::Verdict;
 
-// The listing; then, of an accepted one, the listing of its canonical form and the form's bytes.
+// The listing and the key; then, of an accepted one, the listing of its canonical form and the form's bytes.
 fn show(s: &[u8]) {
     lines::listing(s);
+    lines::key_line(s);
     let mut out = [0u8; 65536];
     let v = rewriting::rewrite(s, &mut out);
     let Verdict::Accepted(m) = v else {

@@ -56,11 +56,12 @@ each line begins with the file's name and a colon.
 pub const KEY: &str = "\
 usage: herringnet key [FILE]..
 
-Prints a line for each shortcut: its cache key in lower-case hex, one space, the file's name.
-Where standard input is the only input, the key stands alone. Two accepted shortcuts have equal
-keys exactly if these are equal: LinkFlags bit 7, target text, arguments, working directory, and
-the byte text of the first environment block (A0000001). What is absent differs from what is
-empty. A shortcut without a target has a key too.
+Prints a line for each accepted shortcut: its cache key in lower-case hex, one space, the file's
+name. Where standard input is the only input, the key stands alone. A refused shortcut has no key,
+and is told of on standard error. Two accepted shortcuts have equal keys exactly if these are
+equal: LinkFlags bit 7, target text, arguments, working directory, and the byte text of the first
+environment block (A0000001) up to its zero. What is absent differs from what is empty. A shortcut
+without a target has a key too.
 ";
 
 /// The help for `show`.

@@ -9,6 +9,18 @@ use std::process::{Command, Output, Stdio};
 /// The sample shortcut, the example of document 000.
 pub const SAMPLE: &[u8] = include_bytes!("../../samples/a.lnk");
 
+/// The shortcuts that the program `vectors` is given, each of which stands after its length in four bytes.
+pub fn rows() -> Vec<&'static [u8]> {
+    let mut rest: &[u8] = include_bytes!("../../../crates/vectors/stdin");
+    let mut rows = Vec::new();
+    while let [a, b, c, d, after @ ..] = rest {
+        let (row, next) = after.split_at(u32::from_le_bytes([*a, *b, *c, *d]) as usize);
+        rows.push(row);
+        rest = next;
+    }
+    rows
+}
+
 /// A command that runs a program for x86-64, under the emulator where there has to be one.
 pub fn program(path: impl AsRef<OsStr>) -> Command {
     match env::var_os("HERRINGNET_RUN").filter(|run| !run.is_empty()) {

@@ -1,0 +1,37 @@
+-- Keys of small shortcuts, by computation.
+use mathlib.Core.Path.{_≡_, refl}
+use mathlib.Core.List.{List, [], _∷_, _++_}
+use Prim.Native.Nat.{ℕ, _-_}
+use lib.ListN.{length}
+use Rattle.octets.specs.Numbers.{number, numberAt, little}
+use Rattle.octets.specs.Characters.{units, beforeZero}
+use Rattle.format.specs.declared.Fault.the-variants.{Cut as CUT, Room as ROOM}
+use Rattle.format.specs.Tests.{got, refused}
+use Rattle.format.specs.Header.{magic, signed}
+use Rattle.format.specs.Items.{walk}
+use Rattle.format.specs.Blocks.{blockOk, blocksFrom}
+use Rattle.format.specs.Shortcut.{sections, shortcut}
+use Rattle.format.specs.Key.{keyOf, keyBytes, key}
+use Rattle.format.specs.Probes.{zeros, withSection, Z, dashG1}
+
+-- a block A0000001 with this byte text
+abbrev environmentBlock : List ℕ → List ℕ
+environmentBlock text = little 4 788 ++ little 4 0xA0000001 ++ text ++ zeros (780 - length text)
+
+-- Z; P9's arguments, and into a room one too small; arguments that are there and empty; two environment blocks, the first `a`, the second `b`; a shortcut cut short
+pub key-rows : key Z 21
+    ∷ key (withSection 0xA0 dashG1) 27
+    ∷ key (withSection 0xA0 dashG1) 26
+    ∷ key (withSection 0x20 (zeros 2)) 21
+    ∷ key (withSection 0 (environmentBlock (0x61 ∷ []) ++ environmentBlock (0x62 ∷ []))) 22
+    ∷ key (withSection 0xA0 (0x03 ∷ 0x00 ∷ 0x2D ∷ [])) 100
+    ∷ []
+    ≡ got (zeros 21) 21
+    ∷ got (1 ∷ zeros 5 ++ 1 ∷ 6 ∷ zeros 3 ++ 0x2D ∷ 0x00 ∷ 0x67 ∷ 0x00 ∷ 0x31 ∷ 0x00 ∷ zeros 10) 27
+    ∷ refused ROOM 0
+    ∷ got (zeros 6 ++ 1 ∷ zeros 14) 21
+    ∷ got (zeros 16 ++ 1 ∷ 1 ∷ zeros 3 ++ 0x61 ∷ []) 22
+    ∷ refused CUT 76
+    ∷ []
+unfolding number numberAt little units beforeZero magic signed walk blockOk blocksFrom sections shortcut keyOf keyBytes key
+key-rows = refl
