@@ -15,11 +15,11 @@ use format::Volume;
 ghost use mathlib.Core.Bool.{cond};
 ghost use Prim.Native.Nat.{_+_, _≤_};
 ghost use lib.ListN.{length};
+ghost use Rattle.octets.specs.Parts.{Wrote};
 ghost use Rattle.format.specs.Contents.{labelPlace, volumeContents, networkContents, infoContents};
 ghost use Rattle.format.specs.Writing.{ifThere, labelFields, volumeBytes, networkBytes, infoBytes};
 ghost use Rattle.canonical.specs.Inside.{Inside, NetworkInside, InfoInside};
 ghost use Rattle.canonical.specs.Sizes.{volumeSize, networkSize, infoSize};
-ghost use Rattle.octets.specs.Parts.{Wrote};
 ghost use Rattle.canonical.specs.Puts.{Room};
 ghost use Rattle.canonical.specs.Layout.{networkFieldBytes, networkNameBytes, namesSize, infoFieldBytes, infoPieceBytes, piecesSize};
 

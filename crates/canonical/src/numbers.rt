@@ -4,8 +4,8 @@ ghost use mathlib.Core.Bool.{cond};
 ghost use Prim.Native.Nat.{_+_, _≤_};
 ghost use lib.ListN.{length};
 ghost use Rattle.octets.specs.Numbers.{little};
-ghost use Rattle.format.specs.Writing.{twoFields};
 ghost use Rattle.octets.specs.Parts.{Wrote};
+ghost use Rattle.format.specs.Writing.{twoFields};
 
 // What is absent counts as 0.
 pub fn number_if(there: bool, n: u32) -> u32

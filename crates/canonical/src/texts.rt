@@ -4,11 +4,11 @@ use format::Place;
 ghost use Prim.Native.Nat.{_+_, _≤_};
 ghost use lib.ListN.{length, replicate};
 ghost use Rattle.octets.specs.Characters.{bytesOf};
+ghost use Rattle.octets.specs.Parts.{Wrote};
 ghost use Rattle.format.specs.Contents.{bytesAt};
 ghost use Rattle.format.specs.Writing.{ifThere, textBytes};
 ghost use Rattle.canonical.specs.Inside.{Inside};
 ghost use Rattle.canonical.specs.Sizes.{textSize, textSizeIf};
-ghost use Rattle.octets.specs.Parts.{Wrote};
 ghost use Rattle.canonical.specs.Puts.{Room};
 
 // The bytes of the body at its place in the body buffer d.

@@ -17,12 +17,13 @@ use Rattle.format.specs.declared.Volume.{Volume}
 use Rattle.format.specs.declared.Network.{Network}
 use Rattle.format.specs.declared.Info.{Info}
 use Rattle.format.specs.declared.Record.{Record}
+use Rattle.format.specs.Tests.{oneOr0}
 use Rattle.format.specs.Header.{signed}
 use Rattle.format.specs.Volume.{labelOf}
 use Rattle.format.specs.Contents.{labelKind}
 use Rattle.format.specs.Writing.{bits}
 use Rattle.format.proofs.Bools.{and-true, every-out}
-use Rattle.fields.specs.Fields.{fieldCount, oneOr0, numbersOf, placesOf, fieldsOf, wordAt, flagAt, headerNumbers, infoNumbers, areRecord, trueAt, placeAt, headerFrom, volumeFrom, networkFrom, infoFrom, recordFrom}
+use Rattle.fields.specs.Fields.{fieldCount, numbersOf, placesOf, fieldsOf, wordAt, flagAt, headerNumbers, infoNumbers, areRecord, trueAt, placeAt, headerFrom, volumeFrom, networkFrom, infoFrom, recordFrom}
 
 module _ (f : List ℕ) where
   abbrev Word : ℕ → Type 0

@@ -11,6 +11,7 @@ use Rattle.format.specs.declared.Place.{Place}
 use Rattle.format.specs.declared.Label.{Label}
 use Rattle.format.specs.declared.Label.the-variants.{Byte, Unicode}
 use Rattle.format.specs.declared.Record.{Record}
+use Rattle.format.specs.Tests.{oneOr0}
 use Rattle.format.specs.Header.{signed}
 use Rattle.format.specs.Volume.{labelOf}
 use Rattle.format.specs.Contents.{labelKind, labelPlace}
@@ -18,7 +19,7 @@ use Rattle.format.specs.Writing.{bits}
 use Rattle.format.specs.Ranges.{FitsRecord}
 use Rattle.format.proofs.Bools.{by-order}
 use Rattle.format.proofs.HeaderLaws.{signed-bits, bits-fit}
-use Rattle.fields.specs.Fields.{fieldCount, oneOr0, numbersOf, placesOf, fieldsOf, headerNumbers, infoNumbers, areRecord, headerFrom, volumeFrom, networkFrom, infoFrom, recordFrom}
+use Rattle.fields.specs.Fields.{fieldCount, numbersOf, placesOf, fieldsOf, headerNumbers, infoNumbers, areRecord, headerFrom, volumeFrom, networkFrom, infoFrom, recordFrom}
 use Rattle.fields.proofs.Laws.{header-fits, info-fits, both-parts}
 
 -- ---- one number, one choice, one label

@@ -1,7 +1,7 @@
 -- The record as 49 numbers, in one fixed order.
 use Prim.Native.Nat.{ℕ, _+_}
 use mathlib.Core.List.{List, [], _∷_, _++_}
-use mathlib.Core.Bool.{Bool, _&&_, cond}
+use mathlib.Core.Bool.{Bool, _&&_}
 use lib.ListN.{length, getD}
 use lib.Dec.{ltb, eqb}
 use Rattle.format.specs.declared.Place.{Place}
@@ -11,7 +11,7 @@ use Rattle.format.specs.declared.Volume.{Volume}
 use Rattle.format.specs.declared.Network.{Network}
 use Rattle.format.specs.declared.Info.{Info}
 use Rattle.format.specs.declared.Record.{Record}
-use Rattle.format.specs.Tests.{place}
+use Rattle.format.specs.Tests.{place, oneOr0}
 use Rattle.format.specs.Header.{signed}
 use Rattle.format.specs.Volume.{labelOf}
 use Rattle.format.specs.Contents.{labelPlace, labelKind}
@@ -21,10 +21,6 @@ abbrev pub fieldCount : ℕ
 fieldCount = 49
 
 -- ---- from the record
-
--- 0 or 1
-abbrev pub oneOr0 : Bool → ℕ
-oneOr0 b = cond b 1 0
 
 -- LinkFlags, FileAttributes, creation, access, write time, FileSize, IconIndex (its 32 bits), ShowCommand, HotKey; LinkInfo flags, long head,
 -- drive type, serial, label kind (0 byte, 1 Unicode), network flags, provider type, Unicode names

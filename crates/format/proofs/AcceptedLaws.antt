@@ -11,6 +11,7 @@ use Rattle.format.specs.declared.Record.{Record}
 use Rattle.format.specs.declared.Reading.{Reading}
 use Rattle.format.specs.declared.Fault.{Fault}
 use Rattle.format.specs.declared.Fault.the-variants.{Long as LONG, Trail as TRAIL}
+use Rattle.format.specs.declared.Verdict.{Verdict}
 use Rattle.format.specs.declared.Verdict.the-variants.{Accepted, Refused}
 use Rattle.format.specs.Tests.{Outcome, got, refused, _else_, tests, andThen}
 use Rattle.format.specs.Shortcut.{Sections, most, sections, shortcut, recordOf, noRecord, verdictOf, heldBy, reading}
@@ -54,6 +55,10 @@ accepted-read s r n e = go (shortcut s) refl (ap (λ (x : Reading). x .verdict) 
         let q : m ≡ n = cc in
         record { sections = c; is = i ∙ ap (got c) q; held = h }
     go (refused f p) i v h = absurd (let z : _≡_ {A = ℕ} 0 1 = cc in omega arith)
+
+-- what a call holds that has read
+pub accepted-held : (s : List ℕ) {g : Reading} {n : ℕ} → g ≡ reading s → g .verdict ≡ Accepted n → reading s ≡ record { verdict = Accepted n; held = g .held }
+accepted-held s {g} e q = sym e ∙ ap (λ (v : Verdict). record { verdict = v; held = g .held }) q
 
 -- a refused one
 pub refused-read : (s : List ℕ) {f : Fault} {p : ℕ} → reading s .verdict ≡ Refused f p → shortcut s ≡ refused f p

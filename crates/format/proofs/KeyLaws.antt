@@ -2,7 +2,7 @@
 use mathlib.Core.Path.{_≡_, refl, sym, ap, _∙_}
 use mathlib.Core.List.{List, [], _++_, append-nil, append-assoc}
 use mathlib.Core.Logic.{_↔_}
-use mathlib.Core.Bool.{Bool, true, false, cond}
+use mathlib.Core.Bool.{Bool, true, false}
 use Prim.Native.Nat.{ℕ, _+_, _^_, _≤_, _<_}
 use native.Mathlib.Omega.{arith}
 use lib.ListN.{length, take, drop, length-take, length-drop}
@@ -11,7 +11,7 @@ use lib.Seq.{take-at, drop-append-seam}
 use Rattle.octets.specs.Numbers.{number, little}
 use Rattle.octets.proofs.NumberLaws.{length-little, number-little}
 use Rattle.octets.specs.Characters.{beforeZero}
-use Rattle.format.specs.Tests.{got, bit}
+use Rattle.format.specs.Tests.{got, bit, oneOr0}
 use Rattle.format.specs.Blocks.{firstPlace}
 use Rattle.format.specs.Shortcut.{most, Sections, blocksOf, shortcut, recordOf}
 use Rattle.format.specs.Contents.{bytesAt}
@@ -73,20 +73,20 @@ pub record Fits (k : Key) : Type 0 where
   pub workdir : PartFits (k .workdir)
   pub environment : PartFits (k .environment)
 
-flag-told : (a b : Bool) → cond {A = ℕ} a 1 0 ≡ cond b 1 0 → a ≡ b
+flag-told : (a b : Bool) → oneOr0 a ≡ oneOr0 b → a ≡ b
 flag-told true true e = refl
 flag-told true false e = absurd (omega arith)
 flag-told false true e = absurd (omega arith)
 flag-told false false e = refl
 
-pub flag-small : (a : Bool) → cond a 1 0 < 256
+pub flag-small : (a : Bool) → oneOr0 a < 256
 flag-small true = omega arith
 flag-small false = omega arith
 
 pub key-told : (k l : Key) → Fits k → Fits l → keyBytes k ≡ keyBytes l → SameParts k l
 unfolding keyBytes
 key-told k l h g e =
-    let a = little-halves 1 (cond (k .unicode) 1 0) (cond (l .unicode) 1 0) _ _ (flag-small (k .unicode)) (flag-small (l .unicode)) e in
+    let a = little-halves 1 (oneOr0 (k .unicode)) (oneOr0 (l .unicode)) _ _ (flag-small (k .unicode)) (flag-small (l .unicode)) e in
     let b = part-told (k .target) (l .target) (h .target) (g .target) _ _ (a .1) in
     let c = part-told (k .arguments) (l .arguments) (h .arguments) (g .arguments) _ _ (b .1) in
     let d = part-told (k .workdir) (l .workdir) (h .workdir) (g .workdir) _ _ (c .1) in

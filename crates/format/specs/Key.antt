@@ -11,7 +11,7 @@ use Rattle.format.specs.declared.Place.{Place}
 use Rattle.format.specs.declared.Record.{Record}
 use Rattle.format.specs.declared.Verdict.{Verdict}
 use Rattle.format.specs.declared.Fault.the-variants.{Room as ROOM}
-use Rattle.format.specs.Tests.{Outcome, got, refused, _else_, tests, andThen, bit}
+use Rattle.format.specs.Tests.{Outcome, got, refused, _else_, tests, andThen, bit, oneOr0}
 use Rattle.format.specs.Blocks.{firstPlace}
 use Rattle.format.specs.Shortcut.{Sections, blocksOf, shortcut, recordOf, verdictOf}
 use Rattle.format.specs.Contents.{bytesAt}
@@ -63,7 +63,7 @@ partBytes (somePart w) = little 1 1 ++ (little 4 (length w) ++ w)
 -- a byte 0 or 1 for flag bit 7, then target text, arguments, working directory, and the environment
 unfoldable pub keyBytes : Key → List ℕ
 keyBytes k =
-    little 1 (cond (k .unicode) 1 0) ++ (partBytes (k .target) ++ (partBytes (k .arguments) ++ (partBytes (k .workdir) ++ partBytes (k .environment))))
+    little 1 (oneOr0 (k .unicode)) ++ (partBytes (k .target) ++ (partBytes (k .arguments) ++ (partBytes (k .workdir) ++ partBytes (k .environment))))
 
 -- ---- the call. Refusals: as for reading, then 12
 

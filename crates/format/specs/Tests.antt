@@ -16,6 +16,9 @@ pub data Outcome (A : Type 0) : Type 0 where
 abbrev pub bit : ℕ → ℕ → Bool
 bit k n = eqb (n / 2 ^ k % 2) 1
 
+abbrev pub oneOr0 : Bool → ℕ
+oneOr0 b = cond b 1 0
+
 abbrev pub place : ℕ → ℕ → Place
 place a n = record { at = a; len = n }
 

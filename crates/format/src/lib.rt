@@ -1,8 +1,7 @@
 // The record of a shortcut, and the answers that calls give.
 ghost use mathlib.Core.Path.{_≡_};
-ghost use mathlib.Core.Bool.{cond};
 ghost use Rattle.format.specs.Numbers.{numberOf};
-ghost use Rattle.format.specs.Tests.{bit};
+ghost use Rattle.format.specs.Tests.{bit, oneOr0};
 ghost use Rattle.format.specs.Header.{signed};
 ghost use Rattle.format.specs.Volume.{labelOf};
 ghost use Rattle.format.specs.Writing.{bits};
@@ -135,7 +134,7 @@ pub fn bit_1(n: u32) -> bool
 }
 
 pub fn one_or_0(b: bool) -> u8
-    ensures { λ r. ⌜ r ≡ cond b 1 0 ⌝ }
+    ensures { λ r. ⌜ r ≡ oneOr0 b ⌝ }
 {
     if b {
         return 1;

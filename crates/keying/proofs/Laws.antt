@@ -4,7 +4,7 @@ use mathlib.Core.List.{List, [], _∷_, _++_, append-nil, append-assoc}
 use mathlib.Core.Bool.{Bool, true, false, cond}
 use Prim.Native.Nat.{ℕ, _+_, _-_, _≤_, _<_}
 use native.Mathlib.Omega.{arith}
-use lib.ListN.{length, take, drop, set, length-append, length-take, length-drop}
+use lib.ListN.{length, take, drop, set, drop-of-length-le, length-append, length-take, length-drop}
 use lib.Seq.{take-take, drop-drop}
 use lib.Dec.{leb}
 use borrow.Author.Tests.{le-leb, lt-leb, ltb-false}
@@ -23,9 +23,8 @@ use Rattle.format.specs.declared.Record.{Record}
 use Rattle.format.specs.declared.Reading.{Reading}
 use Rattle.format.specs.declared.Fault.{Fault}
 use Rattle.format.specs.declared.Fault.the-variants.{Room as ROOM}
-use Rattle.format.specs.declared.Verdict.{Verdict}
 use Rattle.format.specs.declared.Verdict.the-variants.{Accepted, Refused}
-use Rattle.format.specs.Tests.{got, refused, _else_, tests, bit, place, noPlace}
+use Rattle.format.specs.Tests.{got, refused, _else_, tests, bit, oneOr0, place, noPlace}
 use Rattle.format.specs.Blocks.{blocks}
 use Rattle.format.specs.Shortcut.{most, shortcut, reading}
 use Rattle.format.specs.Contents.{bytesAt}
@@ -35,7 +34,7 @@ use Rattle.format.specs.Key.{noPart, somePart, partIf, Key, blockText, environm
 use Rattle.format.specs.Demands.{Accepts}
 use Rattle.format.proofs.BodyLaws.{body-part}
 use Rattle.format.proofs.Chains.{drop-take}
-use Rattle.format.proofs.AcceptedLaws.{accepted-read, accepted-bodies, accepted-limit, refused-read}
+use Rattle.format.proofs.AcceptedLaws.{accepted-read, accepted-held, accepted-bodies, accepted-limit, refused-read}
 use Rattle.format.proofs.Demands.{accepted-whole}
 use Rattle.format.proofs.KeyDemands.{record-tells}
 use Rattle.format.proofs.KeyRoom.{made}
@@ -143,29 +142,25 @@ module _ (s : List ℕ) (p : KeyPart) (h : PartStands s p) where
   abbrev w : List ℕ
   w = textsBytes s (p .texts)
 
-  part-bytes : little 1 (cond (p .there) 1 0) ++ (little 4 n ++ w) ≡ partBytes (partShown s p)
+  part-bytes : little 1 (oneOr0 (p .there)) ++ (little 4 n ++ w) ≡ partBytes (partShown s p)
   unfolding partShown
   part-bytes = go (p .there) refl
     where
       long : length w ≡ n
       long = texts-long s (p .texts) (h .stands)
 
-      none : (l : List ℕ) → length l ≡ 0 → l ≡ []
-      none [] e = refl
-      none (x ∷ l) e = absurd (omega arith)
-
-      go : (b : Bool) → p .there ≡ b → little 1 (cond b 1 0) ++ (little 4 n ++ w) ≡ partBytes (partIf b w)
+      go : (b : Bool) → p .there ≡ b → little 1 (oneOr0 b) ++ (little 4 n ++ w) ≡ partBytes (partIf b w)
       go true e = rw long
       go false e =
           let z = h .empty e in
-          rw (z, none w (long ∙ z), append-nil (little 4 0))
+          rw (z, drop-of-length-le w {i = 0} (omega (arith, long)), append-nil (little 4 0))
 
-  module _ {out x : List ℕ} {at m k : ℕ} (room : at + partLength p ≤ length out) (em : m ≡ partLength p) (flag : Wrote out at (little 1 (cond (p .there) 1 0)) 1 x k) where
+  module _ {out x : List ℕ} {at m k : ℕ} (room : at + partLength p ≤ length out) (em : m ≡ partLength p) (flag : Wrote out at (little 1 (oneOr0 (p .there))) 1 x k) where
     length-fits : k + 4 ≤ length x
     length-fits = omega (arith, kept flag, flag .next)
 
     module _ {y : List ℕ} (ey : y ≡ put x k (little 4 (m - 5))) where
-      counted : Wrote out at (little 1 (cond (p .there) 1 0) ++ little 4 (m - 5)) 5 y (k + 4)
+      counted : Wrote out at (little 1 (oneOr0 (p .there)) ++ little 4 (m - 5)) 5 y (k + 4)
       counted = join flag (wrote-number 4 x k (m - 5) ey length-fits)
 
       texts-fit : at + 5 + n ≤ length y
@@ -179,16 +174,16 @@ module _ (s : List ℕ) (p : KeyPart) (h : PartStands s p) where
           = record { content = rw i at eq; long = texts-long s (p .texts) (h .stands); next = refl; fits = omega (arith, texts-fit) } in
           let c : m - 5 ≡ n = omega arith in
           let j : k + 4 + n ≡ at + m = omega arith in
-          let b : (little 1 (cond (p .there) 1 0) ++ little 4 (m - 5)) ++ w ≡ partBytes (partShown s p)
-          = append-assoc (little 1 (cond (p .there) 1 0)) (little 4 (m - 5)) w ∙ rw c part-bytes in
+          let b : (little 1 (oneOr0 (p .there)) ++ little 4 (m - 5)) ++ w ≡ partBytes (partShown s p)
+          = append-assoc (little 1 (oneOr0 (p .there))) (little 4 (m - 5)) w ∙ rw c part-bytes in
           rw (← j) (reword (join counted t) b refl)
 
   pub part-long : length (partBytes (partShown s p)) ≡ partLength p
   part-long = ap length (sym part-bytes) ∙ simp (length-append, length-little, texts-long s (p .texts) (h .stands)) (omega arith)
 
 -- a byte 0 or 1
-pub flag-put : (out : List ℕ) (at : ℕ) (b : Bool) {n : ℕ} → n ≡ cond b 1 0 → at + 1 ≤ length out → Wrote out at (little 1 (cond b 1 0)) 1 (set out at n) (at + 1)
-flag-put out at b e h = wrote-number 1 out at (cond b 1 0) (rw e (put-byte out at (cond b 1 0) (omega arith) (flag-small b))) h
+pub flag-put : (out : List ℕ) (at : ℕ) (b : Bool) {n : ℕ} → n ≡ oneOr0 b → at + 1 ≤ length out → Wrote out at (little 1 (oneOr0 b)) 1 (set out at n) (at + 1)
+flag-put out at b e h = wrote-number 1 out at (oneOr0 b) (rw e (put-byte out at (oneOr0 b) (omega arith) (flag-small b))) h
 
 -- ---- what is in the key of an accepted shortcut
 
@@ -241,7 +236,7 @@ module _ (s : List ℕ) (k : KeyParts) where
   abbrev Part-put : List ℕ → ℕ → KeyPart → List ℕ → ℕ → Type 0
   Part-put d at p x r = Wrote d at (partBytes (partShown s p)) (partLength p) x r
 
-  pub key-put : {out d₁ d₂ d₃ d₄ d₅ : List ℕ} {p₁ p₂ p₃ p₄ p₅ : ℕ} → Wrote out 0 (little 1 (cond (k .unicode) 1 0)) 1 d₁ p₁
+  pub key-put : {out d₁ d₂ d₃ d₄ d₅ : List ℕ} {p₁ p₂ p₃ p₄ p₅ : ℕ} → Wrote out 0 (little 1 (oneOr0 (k .unicode))) 1 d₁ p₁
       → Part-put d₁ p₁ (k .target) d₂ p₂ → Part-put d₂ p₂ (k .arguments) d₃ p₃ → Part-put d₃ p₃ (k .workdir) d₄ p₄ → Part-put d₄ p₄ (k .environment) d₅ p₅
       → Wrote out 0 (keyBytes (keyShown s k)) (keyLength k) d₅ p₅
   unfolding keyBytes keyShown
@@ -269,10 +264,7 @@ module _ (s out : List ℕ) {g : Reading} (e : g ≡ reading s) where
 
   module _ {n : ℕ} (q : g .verdict ≡ Accepted n) where
     pub accepts : Accepts s (g .held)
-    accepts = accepted-whole s (g .held) n (sym e ∙ same g (Accepted n) q)
-      where
-        same : (x : Reading) (v : Verdict) → x .verdict ≡ v → x ≡ record { verdict = v; held = x .held }
-        same x v k = ap (λ (y : Verdict). record { verdict = y; held = x .held }) k
+    accepts = accepted-whole s (g .held) n (accepted-held s e q)
 
     -- the key of what was read
     key-is : key s (length out) ≡ tests 0 (leb (length (keyBytes (keyIn s))) (length out) else ROOM ∷ []) (got (keyBytes (keyIn s)) (length (keyBytes (keyIn s))))

@@ -6,11 +6,11 @@ use format::Verdict;
 use octets::Zero;
 use target::Texts;
 ghost use mathlib.Core.Path.{_≡_};
-ghost use mathlib.Core.Bool.{cond};
 ghost use Prim.Native.Nat.{_+_, _≤_};
 ghost use lib.ListN.{length};
 ghost use Rattle.octets.specs.Numbers.{little};
 ghost use Rattle.octets.specs.Parts.{Wrote};
+ghost use Rattle.format.specs.Tests.{oneOr0};
 ghost use Rattle.format.specs.Shortcut.{most};
 ghost use Rattle.format.specs.Key.{partBytes, keyBytes, keyIn, keyAnswer, keyOutput};
 ghost use Rattle.format.specs.Demands.{Accepts};
@@ -119,7 +119,7 @@ fn key_length(k: KeyParts) -> usize
 // A byte 0 or 1. This function and the two below answer the place after what they put.
 fn put_flag(out: &mut [u8], at: usize, b: bool) -> usize
     requires { ⌜ at + 1 ≤ length (now out) ⌝ }
-    ensures { λ r. ⌜ Wrote (now (out .entry)) at (little 1 (cond b 1 0)) 1 (now (out .exit)) r ⌝ }
+    ensures { λ r. ⌜ Wrote (now (out .entry)) at (little 1 (oneOr0 b)) 1 (now (out .exit)) r ⌝ }
 {
     out[at] = format::one_or_0(b);
     at + 1

@@ -86,7 +86,7 @@ pub fn listing(s: &[u8]) {
     }
 }
 
-// At most as many bytes as a shortcut may have, in one line.
+// In one line. A key has at most as many bytes as a shortcut may have; more would not be shown.
 fn hex_line(w: &[u8]) {
     let mut out = [0u8; 131072];
     if w.len() <= 65536 {

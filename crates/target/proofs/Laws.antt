@@ -15,7 +15,6 @@ use Rattle.format.specs.declared.Record.{Record}
 use Rattle.format.specs.declared.Reading.{Reading}
 use Rattle.format.specs.declared.Fault.{Fault}
 use Rattle.format.specs.declared.Fault.the-variants.{Room as ROOM, NoTarget as NOTARGET}
-use Rattle.format.specs.declared.Verdict.{Verdict}
 use Rattle.format.specs.declared.Verdict.the-variants.{Accepted, Refused}
 use Rattle.format.specs.Tests.{got, refused, _else_, tests, bit}
 use Rattle.format.specs.Shortcut.{reading}
@@ -24,7 +23,7 @@ use Rattle.format.specs.Writing.{outputOf}
 use Rattle.format.specs.Target.{hasTarget, separated, backslash, separator, joined, targetText, target, targetAnswer, targetOutput}
 use Rattle.format.proofs.BodyLaws.{body-length, body-part, part-length}
 use Rattle.format.proofs.TargetLaws.{separator-few}
-use Rattle.format.proofs.AcceptedLaws.{accepted-read, refused-read, accepted-bodies, accepted-limit}
+use Rattle.format.proofs.AcceptedLaws.{accepted-read, accepted-held, refused-read, accepted-bodies, accepted-limit}
 use Rattle.target.specs.declared.Texts.{Texts}
 use Rattle.target.specs.Texts.{firstText, separators, textsOf, Stands, textsLength, textsBytes}
 
@@ -129,10 +128,7 @@ module _ (s out : List ℕ) {g : Reading} (e : g ≡ reading s) where
 
   module _ {n : ℕ} (q : g .verdict ≡ Accepted n) where
     accepted : reading s ≡ record { verdict = Accepted n; held = g .held }
-    accepted = sym e ∙ same g (Accepted n) q
-      where
-        same : (x : Reading) (v : Verdict) → x .verdict ≡ v → x ≡ record { verdict = v; held = x .held }
-        same x v k = ap (λ (y : Verdict). record { verdict = y; held = x .held }) k
+    accepted = accepted-held s e q
 
     pub inside : Inside s (g .held)
     inside = texts-inside s (g .held) n accepted
