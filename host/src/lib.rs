@@ -51,8 +51,7 @@ pub fn check(shortcut: &[u8]) -> Result<usize, Refusal> {
 #[doc = include_str!("../examples/target.rs")]
 /// ```
 pub fn target(shortcut: &[u8]) -> Result<Vec<u8>, Refusal> {
-    // Texts and terminators share no byte, so even with a separator they are no longer than the shortcut, nor that
-    // than the longest.
+    // A target text is never longer than its shortcut, nor that than the longest.
     let mut text = vec![0; shortcut.len().min(LONGEST)];
     let length = target_into(shortcut, &mut text)?;
     text.truncate(length);

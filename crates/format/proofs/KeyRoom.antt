@@ -20,7 +20,7 @@ use Rattle.format.specs.Shortcut.{blocksOf, sum, recordOf}
 use Rattle.format.specs.Contents.{InfoContents, Contents, bytesAt, bodiesOf, contents}
 use Rattle.format.specs.Writing.{ifThere, textBytes, networkBytes, infoBytes, stringBytes, stringThere, canonical}
 use Rattle.format.specs.Demands.{Accepts}
-use Rattle.format.specs.Target.{targeted, separator, joined}
+use Rattle.format.specs.Target.{targeted, hasTarget, separator, joined, targetText}
 use Rattle.format.specs.Key.{Part, noPart, somePart, partIf, Key, blockText, environment, keyOf, partBytes, keyBytes, key, keyAnswer, keyBy, keyIn}
 use Rattle.format.proofs.Chains.{no-true}
 use Rattle.format.proofs.NetworkLaws.{length-network}
@@ -30,15 +30,16 @@ use Rattle.format.proofs.WholeLaws.{shortest}
 use Rattle.format.proofs.FoundLaws.{read-walk}
 use Rattle.format.proofs.AcceptedLaws.{shortcut-whole, accepted-read, accepted-present, accepted-decode}
 use Rattle.format.proofs.TargetLaws.{separator-few}
+use Rattle.format.proofs.KeyDemands.{record-tells}
 
 -- ---- what a key is made of: the contents, and the text of a block
 
 -- what stands before the suffix
-abbrev firstText : InfoContents → List ℕ
-firstText i = cond (bit 0 (i .flags)) (i .local) (i .network .net)
+abbrev firstBytes : InfoContents → List ℕ
+firstBytes i = cond (bit 0 (i .flags)) (i .local) (i .network .net)
 
 abbrev wholeText : InfoContents → List ℕ
-wholeText i = joined (firstText i) (i .suffix)
+wholeText i = joined (firstBytes i) (i .suffix)
 
 abbrev pub keyFrom : Contents → Part → Key
 keyFrom c e = record {
@@ -116,7 +117,7 @@ string-few false u x = omega arith
 -- LinkInfo holds both texts, and the suffix's terminator has room for the separator
 text-few : (i : InfoContents) → (bit 0 (i .flags) || bit 1 (i .flags)) ≡ true → length (wholeText i) ≤ length (infoBytes i)
 text-few i e =
-    let first = firstText i in
+    let first = firstBytes i in
     let between = separator first (i .suffix) in
     let h = go (bit 0 (i .flags)) (bit 1 (i .flags)) e in
     omega (
@@ -196,6 +197,13 @@ key-short s r bs e =
     let k = key-few (contents s r) t (omega (arith, environment-few s (m .start) (m .lengths), body-long m)) in
     let w = shortest s (contents s r) (length s) bs (accepted-decode s r (length s) e) in
     rw (m .is) (omega (arith, k, w .short))
+
+-- nor is a target text, which its key has in it
+pub target-short : (s : List ℕ) (r : Record) → Bytes s → Accepts s r → hasTarget r ≡ true → length (targetText s r) ≤ length s
+target-short s r bs e h =
+    let k : length (keyBytes (keyIn s)) ≤ length s = key-short s r bs e in
+    let t : keyIn s .target ≡ somePart (targetText s r) = (record-tells s r e) .target ∙ ap (λ (b : Bool). partIf b (targetText s r)) h in
+    omega (arith, length-key (keyIn s), ap bytesIn t)
 
 -- a buffer as long as the shortcut always has room for its key
 pub room-enough : (s out : List ℕ) (r : Record) → Bytes s → Accepts s r → length s ≤ length out → keyAnswer s out ≡ Accepted (length (keyBytes (keyIn s)))
