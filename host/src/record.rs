@@ -58,7 +58,7 @@ pub struct Header {
     pub icon_index: i32,
     /// ShowCommand.
     pub command: u32,
-    /// HotKey: the key in the low byte, Shift 1, Ctrl 2 and Alt 4 in the high one; 0 for none.
+    /// HotKey: the key in the low byte, SHIFT 1, CTRL 2 and ALT 4 in the high one; 0 for none.
     pub hotkey: u16,
 }
 

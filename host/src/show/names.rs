@@ -68,6 +68,9 @@ const BLOCKS: [(u32, &str); 11] = [
     (0xA000_000C, "VistaAndAboveIDListDataBlock"),
 ];
 
+/// The rows of HighByte (section 2.1.3).
+const MODIFIERS: [(u8, &str); 3] = [(0x01, "SHIFT"), (0x02, "CTRL"), (0x04, "ALT")];
+
 /// The names of the bits that are set, with a space before each.
 fn bits(number: u32, names: &[&str]) -> String {
     let set = names.iter().enumerate().filter(|(bit, _)| number >> bit & 1 == 1);
@@ -94,28 +97,29 @@ pub fn block(signature: u32) -> &'static str {
     BLOCKS.iter().find(|row| row.0 == signature).map_or("unknown block", |row| row.1)
 }
 
-/// HotKey as keys (section 2.1.3).
+/// HotKey as a person says it, in the names and the order of the tables (section 2.1.3); a number if no rule allows it.
 pub fn hotkey(hotkey: u16) -> String {
     if hotkey == 0 {
         return "none".to_string();
     }
-    let [key, held] = hotkey.to_le_bytes();
-    let modifiers: String = ["Shift+", "Ctrl+", "Alt+"]
-        .iter()
-        .enumerate()
-        .filter(|(bit, _)| held >> bit & 1 == 1)
-        .map(|(_, name)| *name)
-        .collect();
-    format!("{}{} (0x{:04X})", modifiers, key_name(key), hotkey)
+    let [low, high] = hotkey.to_le_bytes();
+    match (key_name(low), high) {
+        (Some(key), 0..=7) => {
+            let held = MODIFIERS.iter().filter(|(value, _)| high & value != 0);
+            held.map(|(_, name)| format!("{}+", name)).chain([key]).collect()
+        }
+        _ => format!("0x{:04X}", hotkey),
+    }
 }
 
-fn key_name(key: u8) -> String {
-    match key {
-        0x30..=0x39 | 0x41..=0x5A => char::from(key).to_string(),
-        0x70..=0x87 => format!("F{}", key - 0x6F),
-        0x90 => "Num Lock".to_string(),
-        0x91 => "Scroll Lock".to_string(),
-        _ => format!("key 0x{:02X}", key),
+/// The key in a row of LowByte.
+fn key_name(low: u8) -> Option<String> {
+    match low {
+        0x30..=0x39 | 0x41..=0x5A => Some(char::from(low).to_string()),
+        0x70..=0x87 => Some(format!("F{}", low - 0x6F)),
+        0x90 => Some("NUM LOCK".to_string()),
+        0x91 => Some("SCROLL LOCK".to_string()),
+        _ => None,
     }
 }
 
@@ -136,11 +140,13 @@ mod tests {
     #[test]
     fn keys_have_names() {
         assert_eq!(hotkey(0), "none");
-        assert_eq!(hotkey(0x0646), "Ctrl+Alt+F (0x0646)");
-        assert_eq!(hotkey(0x0770), "Shift+Ctrl+Alt+F1 (0x0770)");
-        assert_eq!(hotkey(0x0087), "F24 (0x0087)");
-        assert_eq!(hotkey(0x0130), "Shift+0 (0x0130)");
-        assert_eq!(hotkey(0x0291), "Ctrl+Scroll Lock (0x0291)");
+        assert_eq!(hotkey(0x0646), "CTRL+ALT+F");
+        assert_eq!(hotkey(0x0770), "SHIFT+CTRL+ALT+F1");
+        assert_eq!(hotkey(0x0087), "F24");
+        assert_eq!(hotkey(0x0130), "SHIFT+0");
+        assert_eq!(hotkey(0x0291), "CTRL+SCROLL LOCK");
+        assert_eq!(hotkey(0x0846), "0x0846");
+        assert_eq!(hotkey(0x0600), "0x0600");
     }
 
     #[test]
