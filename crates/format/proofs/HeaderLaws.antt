@@ -13,7 +13,8 @@ use Rattle.octets.proofs.NumberLaws.{bytes-append, bytes-nil, bytes-little, num
 use Rattle.format.specs.declared.Header.{Header}
 use Rattle.format.specs.declared.Fault.the-variants.{Cut as CUT}
 use Rattle.format.specs.Tests.{got, refused, tests, Outcome}
-use Rattle.format.specs.Header.{classIdentifier, magic, flagsOk, attributesOk, hotkeyOk, headerRules, signed, headerFields, header}
+use Rattle.format.specs.Header.{classIdentifier, magic, flagsOk, attributesOk, headerRules, signed, headerFields, header}
+use Rattle.format.specs.Hotkey.{hotkeyOk}
 use Rattle.format.specs.Ranges.{FitsSigned, FitsHeader}
 use Rattle.format.specs.Writing.{bits, headerBytes, writableHeader}
 use Rattle.format.proofs.Bools.{by-order, every-out, every-in}

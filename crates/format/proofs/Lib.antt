@@ -2,6 +2,7 @@ pub mod Bools
 pub mod Intervals
 pub mod Chains
 pub mod Sized
+pub mod HotkeyLaws
 pub mod HeaderLaws
 pub mod SignedLaws
 pub mod ItemsLaws

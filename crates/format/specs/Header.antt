@@ -1,7 +1,7 @@
--- Header, 76 bytes.
-use Prim.Native.Nat.{ℕ, _-_, _/_, _%_, _^_}
+-- Header, 76 bytes. The rule of HotKey is in Hotkey.
+use Prim.Native.Nat.{ℕ, _-_, _/_, _^_}
 use mathlib.Core.List.{List, [], _∷_}
-use mathlib.Core.Bool.{Bool, not, _&&_, _||_, cond}
+use mathlib.Core.Bool.{Bool, not, _&&_, cond}
 use lib.ListN.{length, take}
 use lib.Dec.{leb, ltb, eqb}
 use lib.IntN.{ℤ, pos, negsuc}
@@ -9,6 +9,7 @@ use Rattle.octets.specs.Numbers.{number, numberAt, u16At, u32At, u64At}
 use Rattle.format.specs.declared.Header.{Header}
 use Rattle.format.specs.declared.Fault.the-variants.{Cut as CUT, Magic as MAGIC, Head as HEAD}
 use Rattle.format.specs.Tests.{Test, _else_, tests, got, Reader, bit}
+use Rattle.format.specs.Hotkey.{hotkeyOk}
 
 -- 01 14 02 00, 00 00 00 00, C0 00 00 00, 00 00 00 46
 abbrev pub classIdentifier : List ℕ
@@ -31,15 +32,6 @@ flagsOk f = eqb (f / 2 ^ 27) 0
 -- FileAttributes has bits 3, 6 and 15 to 31 zero (house: bit 7 is free)
 abbrev pub attributesOk : ℕ → Bool
 attributesOk a = not (bit 3 a) && not (bit 6 a) && eqb (a / 2 ^ 15) 0
-
-abbrev pub among : ℕ → ℕ → ℕ → Bool
-among a b x = leb a x && leb x b
-
--- HotKey is 0, or its low byte is in 30-39, 41-5A, 70-87 or 90-91 hex and its high byte is 0 to 7 (house: 0 allowed)
-abbrev pub hotkeyOk : ℕ → Bool
-hotkeyOk h =
-    eqb h 0
-    || ((among 0x30 0x39 (h % 256) || among 0x41 0x5A (h % 256) || among 0x70 0x87 (h % 256) || among 0x90 0x91 (h % 256)) && leb (h / 256) 7)
 
 -- l is the 76 bytes
 abbrev pub headerRules : List ℕ → List Test

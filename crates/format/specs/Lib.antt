@@ -1,5 +1,6 @@
 pub mod Numbers
 pub mod Tests
+pub mod Hotkey
 pub mod Header
 pub mod Items
 pub mod Pieces

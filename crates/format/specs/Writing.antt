@@ -13,7 +13,8 @@ use Rattle.format.specs.declared.Record.{Record}
 use Rattle.format.specs.declared.Verdict.{Verdict}
 use Rattle.format.specs.declared.Fault.the-variants.{Place as PLACE, Unwritable as UNWRITABLE, Room as ROOM}
 use Rattle.format.specs.Tests.{Outcome, got, refused, _else_, tests, bit}
-use Rattle.format.specs.Header.{classIdentifier, flagsOk, attributesOk, hotkeyOk}
+use Rattle.format.specs.Header.{classIdentifier, flagsOk, attributesOk}
+use Rattle.format.specs.Hotkey.{hotkeyOk}
 use Rattle.format.specs.Items.{itemList}
 use Rattle.format.specs.Pieces.{textLength}
 use Rattle.format.specs.Volume.{labelLeast}

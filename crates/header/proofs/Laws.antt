@@ -14,17 +14,12 @@ use Rattle.octets.proofs.NumberLaws.{number-split}
 use Rattle.format.specs.declared.Header.{Header}
 use Rattle.format.specs.declared.Fault.the-variants.{Cut as CUT, Magic as MAGIC, Head as HEAD}
 use Rattle.format.specs.Tests.{_else_, tests, got}
-use Rattle.format.specs.Header.{classIdentifier, magic, flagsOk, attributesOk, hotkeyOk, signed, headerFields}
-use Rattle.format.proofs.Bools.{and-true, and-both}
+use Rattle.format.specs.Header.{classIdentifier, magic, flagsOk, attributesOk, signed, headerFields}
+use Rattle.format.specs.Hotkey.{hotkeyOk}
+use Rattle.format.proofs.Bools.{and-true, and-both, same-truth}
 use Rattle.format.proofs.Chains.{no-true}
 use Rattle.header.specs.declared.HeaderTaken.the-variants.{Got, Refused}
 use Rattle.header.specs.Taken.{zerosFrom66, headRules, headerTaken, headerAt}
-
--- two tests that hold together are the same
-same-truth : (x y : Bool) → (x ≡ true → y ≡ true) → (y ≡ true → x ≡ true) → x ≡ y
-same-truth true y f g = sym (f refl)
-same-truth false true f g = g refl
-same-truth false false f g = refl
 
 -- sixteen bytes are four numbers
 sixteen : (l : List ℕ) → 20 ≤ length l → numberAt 16 l 4 ≡ u32At l 4 + 4294967296 * (u32At l 8 + 4294967296 * (u32At l 12 + 4294967296 * u32At l 16))

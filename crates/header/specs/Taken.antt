@@ -6,7 +6,8 @@ use lib.Dec.{eqb}
 use Rattle.octets.specs.Numbers.{numberAt, u16At, u32At}
 use Rattle.format.specs.declared.Header.{Header}
 use Rattle.format.specs.Tests.{Outcome, got, refused}
-use Rattle.format.specs.Header.{flagsOk, attributesOk, hotkeyOk, header}
+use Rattle.format.specs.Header.{flagsOk, attributesOk, header}
+use Rattle.format.specs.Hotkey.{hotkeyOk}
 use Rattle.header.specs.declared.HeaderTaken.{HeaderTaken}
 use Rattle.header.specs.declared.HeaderTaken.the-variants.{Got, Refused}
 

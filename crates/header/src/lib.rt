@@ -6,7 +6,8 @@ ghost use mathlib.Core.Path.{_≡_};
 ghost use mathlib.Core.Bool.{true};
 ghost use Prim.Native.Nat.{_≤_};
 ghost use lib.ListN.{length};
-ghost use Rattle.format.specs.Header.{magic, flagsOk, attributesOk, hotkeyOk, headerFields, windowShown};
+ghost use Rattle.format.specs.Header.{magic, flagsOk, attributesOk, headerFields, windowShown};
+ghost use Rattle.format.specs.Hotkey.{lowByteOk, highByteOk, hotkeyOk};
 ghost use Rattle.header.specs.Taken.{zerosFrom66, headRules, headerAt};
 
 // The header and the cursor after it, or why it is refused.
@@ -39,16 +40,35 @@ pub fn attributes_ok(a: u32) -> bool
     !(a / 8 % 2 == 1) & !(a / 64 % 2 == 1) & (a / 32768 == 0)
 }
 
+// The groups of LowByte, row for row.
+fn low_byte_ok(k: u16) -> bool
+    ensures { λ r. ⌜ r ≡ lowByteOk k ⌝ }
+{
+    let digit = (0x30 <= k) & (k <= 0x39);
+    let letter = (0x41 <= k) & (k <= 0x5A);
+    let function_key = (0x70 <= k) & (k <= 0x87);
+    let num_lock = k == 0x90;
+    let scroll_lock = k == 0x91;
+    digit | letter | function_key | num_lock | scroll_lock
+}
+
+// The modifier keys of HighByte, row for row: one or a combination.
+fn high_byte_ok(m: u16) -> bool
+    ensures { λ r. ⌜ r ≡ highByteOk m ⌝ }
+{
+    let shift = m / 0x01 % 2 == 1;
+    let ctrl = m / 0x02 % 2 == 1;
+    let alt = m / 0x04 % 2 == 1;
+    (shift | ctrl | alt) & (m / 0x08 == 0)
+}
+
+// The two tables, and the two house rules beside them.
 pub fn hotkey_ok(h: u16) -> bool
     ensures { λ r. ⌜ r ≡ hotkeyOk h ⌝ }
 {
-    let key = h % 256;
-    (h == 0)
-        | ((((0x30 <= key) & (key <= 0x39))
-            | ((0x41 <= key) & (key <= 0x5A))
-            | ((0x70 <= key) & (key <= 0x87))
-            | ((0x90 <= key) & (key <= 0x91)))
-            & (h / 256 <= 7))
+    let no_hotkey = h == 0;
+    let no_modifier = h / 256 == 0;
+    no_hotkey | (low_byte_ok(h % 256) & (no_modifier | high_byte_ok(h / 256)))
 }
 
 // The ten bytes from 66, in two numbers.

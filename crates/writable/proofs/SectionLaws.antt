@@ -11,7 +11,8 @@ use Rattle.format.specs.declared.Network.{Network}
 use Rattle.format.specs.declared.Info.{Info}
 use Rattle.format.specs.declared.Record.{Record}
 use Rattle.format.specs.Tests.{bit}
-use Rattle.format.specs.Header.{flagsOk, attributesOk, hotkeyOk}
+use Rattle.format.specs.Header.{flagsOk, attributesOk}
+use Rattle.format.specs.Hotkey.{hotkeyOk}
 use Rattle.format.specs.Contents.{labelPlace, labelKind, bytesAt, volumeContents, networkContents, infoContents, bodiesOf}
 use Rattle.format.specs.Writing.{writableIf, writableHeader, writableItems, writableText, writableVolume, writableNetwork, writableInfo, writableString, writableBlocks}
 use Rattle.writable.specs.Sections.{sectionsWritable}
