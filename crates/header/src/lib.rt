@@ -40,7 +40,7 @@ pub fn attributes_ok(a: u32) -> bool
     !(a / 8 % 2 == 1) & !(a / 64 % 2 == 1) & (a / 32768 == 0)
 }
 
-// The groups of LowByte, row for row.
+// The groups of LowByte (000 section 2.1.3), row for row.
 fn low_byte_ok(k: u16) -> bool
     ensures { λ r. ⌜ r ≡ lowByteOk k ⌝ }
 {
@@ -52,7 +52,7 @@ fn low_byte_ok(k: u16) -> bool
     digit | letter | function_key | num_lock | scroll_lock
 }
 
-// The modifier keys of HighByte, row for row: one or a combination.
+// The modifier keys of HighByte (000 section 2.1.3), row for row: one or a combination.
 fn high_byte_ok(m: u16) -> bool
     ensures { λ r. ⌜ r ≡ highByteOk m ⌝ }
 {
@@ -62,7 +62,7 @@ fn high_byte_ok(m: u16) -> bool
     (shift | ctrl | alt) & (m / 0x08 == 0)
 }
 
-// The two tables, and the two house rules beside them.
+// The two tables, and beside them the house's rules: 0 as a whole is allowed, and so is no modifier.
 pub fn hotkey_ok(h: u16) -> bool
     ensures { λ r. ⌜ r ≡ hotkeyOk h ⌝ }
 {
