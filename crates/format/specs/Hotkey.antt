@@ -56,7 +56,7 @@ highByteOk m = (shiftHeld m || ctrlHeld m || altHeld m) && eqb (m / 2 ^ 3) 0
 abbrev pub noHotkey : ℕ → Bool
 noHotkey h = eqb h 0
 
--- house: no modifier is allowed
+-- house: a key without a modifier is allowed
 abbrev pub noModifier : ℕ → Bool
 noModifier m = eqb m 0
 

@@ -62,7 +62,7 @@ fn high_byte_ok(m: u16) -> bool
     (shift | ctrl | alt) & (m / 0x08 == 0)
 }
 
-// The two tables, and beside them the house's rules: 0 as a whole is allowed, and so is no modifier.
+// The two tables, and beside them the house's rules: 0 as a whole is allowed, and a key without a modifier.
 pub fn hotkey_ok(h: u16) -> bool
     ensures { λ r. ⌜ r ≡ hotkeyOk h ⌝ }
 {
