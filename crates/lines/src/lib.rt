@@ -6,6 +6,8 @@ use format::Fault;
 use format::Verdict;
 use reader::Ends;
 use reader::Next;
+ghost use Prim.Native.Nat.{_≤_};
+ghost use lib.ListN.{length};
 
 fn line(name: &[u8], start: usize, len: usize) {
     io::write_all(1, name);
@@ -86,13 +88,23 @@ pub fn listing(s: &[u8]) {
     }
 }
 
-// In one line. A key has at most as many bytes as a shortcut may have; more would not be shown.
+fn hex_piece(w: &[u8])
+    requires { ⌜ length (now w) ≤ 4096 ⌝ }
+{
+    let mut out = [0u8; 8192];
+    put_hex(&mut out, w);
+    io::write_all(1, octets::part(&out, 0, 2 * w.len()));
+}
+
+// Piece by piece, so that nothing is too long for the line.
 fn hex_line(w: &[u8]) {
-    let mut out = [0u8; 131072];
-    if w.len() <= 65536 {
-        put_hex(&mut out, w);
-        io::write_all(1, octets::part(&out, 0, 2 * w.len()));
+    let n = w.len();
+    let mut p = 0;
+    while 4096 < n - p {
+        hex_piece(&w[p..p + 4096]);
+        p += 4096;
     }
+    hex_piece(&w[p..n]);
     io::write_all(1, b"\n");
 }
 
