@@ -1,9 +1,12 @@
 // The record of a shortcut, and the answers that calls give.
 ghost use mathlib.Core.Path.{_≡_};
 ghost use Rattle.format.specs.Numbers.{numberOf};
-ghost use Rattle.format.specs.Tests.{bit, oneOr0};
+ghost use Rattle.format.specs.Tests.{bit, oneOr0, noPlace};
 ghost use Rattle.format.specs.Header.{signed};
-ghost use Rattle.format.specs.Volume.{labelOf};
+ghost use Rattle.format.specs.Volume.{labelOf, noVolume};
+ghost use Rattle.format.specs.Network.{noNetwork};
+ghost use Rattle.format.specs.Info.{noInfo};
+ghost use Rattle.format.specs.Shortcut.{noHeader, noRecord};
 ghost use Rattle.format.specs.Writing.{bits};
 ghost use Rattle.format.specs.Contents.{labelPlace, labelKind};
 
@@ -99,6 +102,90 @@ pub struct Reading {
     pub verdict: Verdict,
     pub held: Record,
 }
+
+// ---- zeros, for what is absent and beside a refusal
+
+pub fn no_place() -> Place
+    ensures { λ r. ⌜ r ≡ noPlace ⌝ }
+{
+    Place { at: 0, len: 0 }
+}
+
+pub fn no_volume() -> Volume
+    ensures { λ r. ⌜ r ≡ noVolume ⌝ }
+{
+    Volume {
+        drive: 0,
+        serial: 0,
+        label: Label::Byte(no_place()),
+    }
+}
+
+pub fn no_network() -> Network
+    ensures { λ r. ⌜ r ≡ noNetwork ⌝ }
+{
+    let none = no_place();
+    Network {
+        flags: 0,
+        provider: 0,
+        unicode: false,
+        net: none,
+        device: none,
+        net_unicode: none,
+        device_unicode: none,
+    }
+}
+
+pub fn no_info() -> Info
+    ensures { λ r. ⌜ r ≡ noInfo ⌝ }
+{
+    let none = no_place();
+    Info {
+        flags: 0,
+        long: false,
+        volume: no_volume(),
+        local: none,
+        network: no_network(),
+        suffix: none,
+        local_unicode: none,
+        suffix_unicode: none,
+    }
+}
+
+fn no_header() -> Header
+    ensures { λ r. ⌜ r ≡ noHeader ⌝ }
+{
+    Header {
+        flags: 0,
+        attributes: 0,
+        creation: 0,
+        access: 0,
+        write: 0,
+        file_size: 0,
+        icon_index: 0,
+        command: 0,
+        hotkey: 0,
+    }
+}
+
+pub fn no_record() -> Record
+    ensures { λ r. ⌜ r ≡ noRecord ⌝ }
+{
+    let none = no_place();
+    Record {
+        header: no_header(),
+        items: none,
+        info: no_info(),
+        name: none,
+        relative: none,
+        workdir: none,
+        arguments: none,
+        icon: none,
+        blocks: none,
+    }
+}
+
+// ---- numbers, bits and labels
 
 // The number of a fault in the table of document 01.
 pub fn number_of(f: Fault) -> u8

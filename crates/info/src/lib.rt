@@ -1,7 +1,6 @@
 // LinkInfo, VolumeID and the network link, each read from its own part of the file.
 use format::Fault;
 use format::Info;
-use format::Label;
 use format::Network;
 use format::Place;
 use format::Volume;
@@ -108,8 +107,8 @@ fn no_text(ok: bool) -> Text
 {
     Text {
         ok,
-        span: Place { at: 0, len: 0 },
-        body: Place { at: 0, len: 0 },
+        span: format::no_place(),
+        body: format::no_place(),
     }
 }
 
@@ -247,12 +246,8 @@ fn no_volume(ok: bool) -> VolumeFound
 {
     VolumeFound {
         ok,
-        span: Place { at: 0, len: 0 },
-        volume: Volume {
-            drive: 0,
-            serial: 0,
-            label: Label::Byte(Place { at: 0, len: 0 }),
-        },
+        span: format::no_place(),
+        volume: format::no_volume(),
     }
 }
 
@@ -364,16 +359,8 @@ fn no_network(ok: bool) -> NetworkFound
 {
     NetworkFound {
         ok,
-        span: Place { at: 0, len: 0 },
-        network: Network {
-            flags: 0,
-            provider: 0,
-            unicode: false,
-            net: Place { at: 0, len: 0 },
-            device: Place { at: 0, len: 0 },
-            net_unicode: Place { at: 0, len: 0 },
-            device_unicode: Place { at: 0, len: 0 },
-        },
+        span: format::no_place(),
+        network: format::no_network(),
     }
 }
 

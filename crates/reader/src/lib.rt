@@ -3,13 +3,10 @@ use blocks::Walked;
 use format::Fault;
 use format::Header;
 use format::Info;
-use format::Label;
-use format::Network;
 use format::Place;
 use format::Reading;
 use format::Record;
 use format::Verdict;
-use format::Volume;
 use header::HeaderTaken;
 use info::InfoTaken;
 use octets::Cursor;
@@ -18,7 +15,7 @@ ghost use mathlib.Core.Path.{_≡_};
 ghost use Prim.Native.Nat.{_≤_};
 ghost use lib.ListN.{length};
 ghost use Rattle.format.specs.Info.{noInfo};
-ghost use Rattle.format.specs.Shortcut.{noRecord, reading};
+ghost use Rattle.format.specs.Shortcut.{reading};
 ghost use Rattle.format.specs.Tests.{noPlace};
 ghost use Rattle.reader.specs.Steps.{step, stepInfo, settled, itemsOn, itemsStep, stringOn, stringStep, infoOn, infoStep, blocksOn, blocksStep, atOf, endsOf, outlineFrom};
 ghost use Rattle.reader.specs.Finish.{refusedAt, finished, outlineOff, outlineOf};
@@ -57,39 +54,6 @@ pub struct Outline {
     pub ends: Ends,
 }
 
-fn none() -> Place
-    ensures { λ r. ⌜ r ≡ record { at = 0; len = 0 } ⌝ }
-{
-    Place { at: 0, len: 0 }
-}
-
-fn no_info() -> Info
-    ensures { λ r. ⌜ r ≡ noInfo ⌝ }
-{
-    Info {
-        flags: 0,
-        long: false,
-        volume: Volume {
-            drive: 0,
-            serial: 0,
-            label: Label::Byte(none()),
-        },
-        local: none(),
-        network: Network {
-            flags: 0,
-            provider: 0,
-            unicode: false,
-            net: none(),
-            device: none(),
-            net_unicode: none(),
-            device_unicode: none(),
-        },
-        suffix: none(),
-        local_unicode: none(),
-        suffix_unicode: none(),
-    }
-}
-
 // A section that starts at `at`.
 fn settle(at: usize, t: Taken) -> Step
     ensures { λ r. ⌜ r ≡ settled at t ⌝ }
@@ -101,7 +65,7 @@ fn settle(at: usize, t: Taken) -> Step
         },
         Taken::Refused(f) => Step {
             next: Next::Off(f, at),
-            held: none(),
+            held: format::no_place(),
         },
     }
 }
@@ -112,7 +76,7 @@ fn off(f: Fault, at: usize) -> Step
 {
     Step {
         next: Next::Off(f, at),
-        held: none(),
+        held: format::no_place(),
     }
 }
 
@@ -122,7 +86,7 @@ fn items_on(s: &[u8], present: bool, c: Cursor) -> Step
     if !present {
         return Step {
             next: Next::On(c),
-            held: none(),
+            held: format::no_place(),
         };
     }
     settle(c.at, sections::items(s, c))
@@ -143,7 +107,7 @@ fn string_on(s: &[u8], present: bool, unicode: bool, c: Cursor) -> Step
     if !present {
         return Step {
             next: Next::On(c),
-            held: none(),
+            held: format::no_place(),
         };
     }
     settle(c.at, sections::string(s, c, unicode))
@@ -163,7 +127,7 @@ fn info_off(f: Fault, at: usize) -> InfoStep
 {
     InfoStep {
         next: Next::Off(f, at),
-        held: no_info(),
+        held: format::no_info(),
     }
 }
 
@@ -174,7 +138,7 @@ fn info_on(s: &[u8], present: bool, c: Cursor) -> InfoStep
     if !present {
         return InfoStep {
             next: Next::On(c),
-            held: no_info(),
+            held: format::no_info(),
         };
     }
     match info::info(s, c) {
@@ -224,32 +188,6 @@ fn at_of(next: Next) -> usize
     match next {
         Next::On(c) => c.at,
         Next::Off(_, _) => 0,
-    }
-}
-
-fn no_record() -> Record
-    ensures { λ r. ⌜ r ≡ noRecord ⌝ }
-{
-    Record {
-        header: Header {
-            flags: 0,
-            attributes: 0,
-            creation: 0,
-            access: 0,
-            write: 0,
-            file_size: 0,
-            icon_index: 0,
-            command: 0,
-            hotkey: 0,
-        },
-        items: none(),
-        info: no_info(),
-        name: none(),
-        relative: none(),
-        workdir: none(),
-        arguments: none(),
-        icon: none(),
-        blocks: none(),
     }
 }
 
@@ -334,7 +272,7 @@ fn outline_off(f: Fault, at: usize) -> Outline
 {
     Outline {
         next: Next::Off(f, at),
-        held: no_record(),
+        held: format::no_record(),
         ends: Ends {
             items: 0,
             info: 0,
@@ -365,7 +303,7 @@ fn refused(f: Fault, at: usize) -> Reading
 {
     Reading {
         verdict: Verdict::Refused(f, at),
-        held: no_record(),
+        held: format::no_record(),
     }
 }
 

@@ -9,12 +9,6 @@ ghost use Rattle.format.specs.Listing.{sectionPlace, shown};
 ghost use Rattle.reader.specs.Finish.{outlineOf};
 ghost use Rattle.shown.specs.Asked.{between};
 
-fn none() -> Place
-    ensures { λ r. ⌜ r ≡ record { at = 0; len = 0 } ⌝ }
-{
-    Place { at: 0, len: 0 }
-}
-
 // a - b, or 0.
 fn less(a: usize, b: usize) -> usize
     ensures { λ r. ⌜ r ≡ a - b ⌝ }
@@ -34,7 +28,7 @@ fn between(there: bool, p: usize, e: usize) -> Place
             len: less(e, p),
         };
     }
-    none()
+    format::no_place()
 }
 
 // By the outline, which is all that the sections' places need.
@@ -44,10 +38,10 @@ fn place_in(s: &[u8], o: Outline, name: u32, block: usize) -> Place
 {
     let next = o.next;
     let Next::On(c) = next else {
-        return none();
+        return format::no_place();
     };
     if c.at != s.len() {
-        return none();
+        return format::no_place();
     }
     let f = o.held.header.flags;
     let e = o.ends;
@@ -65,7 +59,7 @@ fn place_in(s: &[u8], o: Outline, name: u32, block: usize) -> Place
             at: less(s.len(), 4),
             len: 4,
         },
-        _ => none(),
+        _ => format::no_place(),
     }
 }
 

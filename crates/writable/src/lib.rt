@@ -1,7 +1,6 @@
 // Whether a record can be written: the bodies' places, the rules of each section, and the length.
 use format::Header;
 use format::Info;
-use format::Label;
 use format::Network;
 use format::Place;
 use format::Record;
@@ -32,57 +31,10 @@ fn flag(flags: u32, power: u32) -> bool
 
 // ---- which parts are present
 
-fn no_place() -> Place
-    ensures { λ r. ⌜ r ≡ noPlace ⌝ }
-{
-    Place { at: 0, len: 0 }
-}
-
-fn no_volume() -> Volume
-    ensures { λ r. ⌜ r ≡ noVolume ⌝ }
-{
-    Volume {
-        drive: 0,
-        serial: 0,
-        label: Label::Byte(no_place()),
-    }
-}
-
-fn no_network() -> Network
-    ensures { λ r. ⌜ r ≡ noNetwork ⌝ }
-{
-    let none = no_place();
-    Network {
-        flags: 0,
-        provider: 0,
-        unicode: false,
-        net: none,
-        device: none,
-        net_unicode: none,
-        device_unicode: none,
-    }
-}
-
-fn no_info() -> Info
-    ensures { λ r. ⌜ r ≡ noInfo ⌝ }
-{
-    let none = no_place();
-    Info {
-        flags: 0,
-        long: false,
-        volume: no_volume(),
-        local: none,
-        network: no_network(),
-        suffix: none,
-        local_unicode: none,
-        suffix_unicode: none,
-    }
-}
-
 fn kept(there: bool, b: Place) -> Place
     ensures { λ r. ⌜ r ≡ cond there b noPlace ⌝ }
 {
-    if there { b } else { no_place() }
+    if there { b } else { format::no_place() }
 }
 
 fn kept_number(there: bool, n: u32) -> u32
@@ -94,7 +46,7 @@ fn kept_number(there: bool, n: u32) -> u32
 fn kept_volume(there: bool, v: Volume) -> Volume
     ensures { λ r. ⌜ r ≡ cond there v noVolume ⌝ }
 {
-    if there { v } else { no_volume() }
+    if there { v } else { format::no_volume() }
 }
 
 fn present_network(n: Network) -> Network
@@ -119,7 +71,7 @@ fn kept_network(there: bool, n: Network) -> Network
     if there {
         present_network(n)
     } else {
-        no_network()
+        format::no_network()
     }
 }
 
@@ -143,7 +95,11 @@ fn present_info(i: Info) -> Info
 fn kept_info(there: bool, i: Info) -> Info
     ensures { λ r. ⌜ r ≡ cond there (presentInfo i) noInfo ⌝ }
 {
-    if there { present_info(i) } else { no_info() }
+    if there {
+        present_info(i)
+    } else {
+        format::no_info()
+    }
 }
 
 // Zeros for what is absent, by the flags.

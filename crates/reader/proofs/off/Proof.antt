@@ -6,11 +6,11 @@ use borrow.Author.Needs.{needs}
 use Rattle.reader.proofs.off.Statement.{statement}
 use Rattle.reader.proofs.off.Tie as tie
 
-none-requires : tie.Need-none-requires
-none-requires c κs = search needs
+no-place-requires : tie.Need-no-place-requires
+no-place-requires c κs = search needs
 
 returns : tie.Need-returns
-returns c = ap (λ (b : Place). step (Off (c .before .args .f) (c .before .args .at)) b) (c .none .ensures)
+returns c = ap (λ (b : Place). step (Off (c .before .args .f) (c .before .args .at)) b) (c .no-place .ensures)
 
 pub off-spec : {M : Type 1} → statement M
-off-spec = tie.close (tie.spec none-requires returns)
+off-spec = tie.close (tie.spec no-place-requires returns)

@@ -9,8 +9,8 @@ enum-known-t c = search needs
 enum-known-t-2 : tie.Need-enum-known-t-2
 enum-known-t-2 c = search needs
 
-none-requires : tie.Need-none-requires
-none-requires c κs = search needs
+no-place-requires : tie.Need-no-place-requires
+no-place-requires c κs = search needs
 
 returns : tie.Need-returns
 unfolding settled
@@ -18,7 +18,7 @@ returns c = rw (c .before .t .given .1)
 
 returns-2 : tie.Need-returns-2
 unfolding settled
-returns-2 c = rw (c .before .before .t2 .given .1, c .none .ensures)
+returns-2 c = rw (c .before .before .t2 .given .1, c .no-place .ensures)
 
 pub settle-spec : {M : Type 1} → statement M
-settle-spec = tie.close (tie.spec enum-known-t enum-known-t-2 none-requires returns returns-2)
+settle-spec = tie.close (tie.spec enum-known-t enum-known-t-2 no-place-requires returns returns-2)

@@ -11,12 +11,12 @@ returns : tie.Need-returns
 unfolding between
 returns c = rw (c .before .if1 .taken, c .less .ensures)
 
-none-requires : tie.Need-none-requires
-none-requires c κs = search needs
+no-place-requires : tie.Need-no-place-requires
+no-place-requires c κs = search needs
 
 returns-2 : tie.Need-returns-2
 unfolding between
-returns-2 c = c .none .ensures ∙ rw (c .before .if1 .left)
+returns-2 c = c .no-place .ensures ∙ rw (c .before .if1 .left)
 
 pub between-spec : {M : Type 1} → statement M
-between-spec = tie.close (tie.spec less-requires returns none-requires returns-2)
+between-spec = tie.close (tie.spec less-requires returns no-place-requires returns-2)

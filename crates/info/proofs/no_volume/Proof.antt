@@ -1,0 +1,15 @@
+use borrow.Author.Needs.{needs}
+use Rattle.info.proofs.no_volume.Statement.{statement}
+use Rattle.info.proofs.no_volume.Tie as tie
+
+no-place-requires : tie.Need-no-place-requires
+no-place-requires c κs = search needs
+
+no-volume-requires : tie.Need-no-volume-requires
+no-volume-requires c κs = search needs
+
+returns : tie.Need-returns
+returns c = cc
+
+pub no-volume-spec : {M : Type 1} → statement M
+no-volume-spec = tie.close (tie.spec no-place-requires no-volume-requires returns)
