@@ -1,4 +1,5 @@
 // The record of a shortcut, and the answers that calls give.
+use octets::Cursor;
 ghost use mathlib.Core.Path.{_≡_};
 ghost use Rattle.format.specs.Numbers.{numberOf};
 ghost use Rattle.format.specs.Tests.{bit, oneOr0, noPlace};
@@ -94,6 +95,12 @@ pub enum Fault {
 // Accepted with the length, or refused with the fault and its position.
 pub enum Verdict {
     Accepted(usize),
+    Refused(Fault, usize),
+}
+
+// A section of one body: the body and the cursor after the section, or why it is refused and where.
+pub enum Taken {
+    Got(Place, Cursor),
     Refused(Fault, usize),
 }
 

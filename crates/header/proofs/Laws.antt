@@ -86,24 +86,24 @@ zeros-are l {a} {b} h pa pb =
 -- ---- the ways out
 
 module _ (s : List ℕ) where
-  pub header-cut : length s < 76 → Refused CUT ≡ headerAt s
+  pub header-cut : length s < 76 → Refused CUT 0 ≡ headerAt s
   unfolding headerAt
   header-cut h = rw (lt-leb 76 (length s) h)
 
   module _ (whole : 76 ≤ length s) {m : Bool} (em : m ≡ magic (take 76 s)) where
-    pub header-magic : not m ≡ true → Refused MAGIC ≡ headerAt s
+    pub header-magic : not m ≡ true → Refused MAGIC 0 ≡ headerAt s
     unfolding headerAt
     header-magic t = rw (le-leb 76 (length s) whole, sym em ∙ not-true m t)
 
     module _ (right : not m ≡ false) {k : Bool} (ek : k ≡ headRules (take 76 s)) where
-      pub header-head : not k ≡ true → Refused HEAD ≡ headerAt s
+      pub header-head : not k ≡ true → Refused HEAD 0 ≡ headerAt s
       unfolding headerAt headRules zerosFrom66
       header-head t =
           rw (le-leb 76 (length s) whole, sym em ∙ not-false m right)
           (four (flagsOk (u32At (take 76 s) 20)) (attributesOk (u32At (take 76 s) 24)) (hotkeyOk (u16At (take 76 s) 64)) (eqb (numberAt 10 (take 76 s) 66) 0) (sym ek ∙ not-true k t))
         where
           four : (p q r t : Bool) → (p && q && r && t) ≡ false
-              → Refused HEAD ≡ headerTaken (tests 0 (p else HEAD ∷ q else HEAD ∷ r else HEAD ∷ t else HEAD ∷ []) (got (headerFields (take 76 s)) 76))
+              → Refused HEAD 0 ≡ headerTaken (tests 0 (p else HEAD ∷ q else HEAD ∷ r else HEAD ∷ t else HEAD ∷ []) (got (headerFields (take 76 s)) 76))
           four true true true true e = absurd (let z : _≡_ {A = ℕ} 0 1 = cc in omega arith)
           four true true true false e = refl
           four true true false t e = refl

@@ -19,10 +19,9 @@ unfoldable pub headRules : List ℕ → Bool
 unfolding zerosFrom66
 headRules l = flagsOk (u32At l 20) && attributesOk (u32At l 24) && hotkeyOk (u16At l 64) && zerosFrom66 l
 
--- a refusal is at 0
 abbrev pub headerTaken : Outcome Header → HeaderTaken
 headerTaken (got h n) = Got h (record { at = n })
-headerTaken (refused f q) = Refused f
+headerTaken (refused f q) = Refused f q
 
 unfoldable pub headerAt : List ℕ → HeaderTaken
 headerAt s = headerTaken (header 0 s)

@@ -10,10 +10,10 @@ ghost use Rattle.format.specs.Header.{magic, flagsOk, attributesOk, headerField
 ghost use Rattle.format.specs.Hotkey.{lowByteOk, highByteOk, hotkeyOk};
 ghost use Rattle.header.specs.Taken.{zerosFrom66, headRules, headerAt};
 
-// The header and the cursor after it, or why it is refused.
+// The header and the cursor after it, or why it is refused and where.
 pub enum HeaderTaken {
     Got(Header, Cursor),
-    Refused(Fault),
+    Refused(Fault, usize),
 }
 
 // The class identifier in four numbers.
@@ -110,14 +110,14 @@ pub fn header(s: &[u8]) -> HeaderTaken
     ensures { λ r. ⌜ r ≡ headerAt (now (s .entry)) ⌝ }
 {
     if s.len() < 76 {
-        return HeaderTaken::Refused(Fault::Cut);
+        return HeaderTaken::Refused(Fault::Cut, 0);
     }
     let l = &s[..76];
     if !magic(l) {
-        return HeaderTaken::Refused(Fault::Magic);
+        return HeaderTaken::Refused(Fault::Magic, 0);
     }
     if !head_ok(l) {
-        return HeaderTaken::Refused(Fault::Head);
+        return HeaderTaken::Refused(Fault::Head, 0);
     }
     HeaderTaken::Got(fields(l), Cursor { at: 76 })
 }

@@ -150,7 +150,7 @@ three-pass : {A : Type 0} (p : ℕ) (a b c : Bool) (f g h : Fault) (ts : List Te
 three-pass p a b c f g h ts r i j k = rw (i, j, k)
 
 module _ (s : List ℕ) (p : ℕ) where
-  pub info-cut : length s < p + 4 → Refused CUT ≡ infoAt s p
+  pub info-cut : length s < p + 4 → Refused CUT p ≡ infoAt s p
   unfolding infoAt
   info-cut h = rw (length-drop, lt-leb 4 (length s - p) (omega arith))
 
@@ -161,12 +161,12 @@ module _ (s : List ℕ) (p : ℕ) where
     starts : leb 4 (length (drop p s)) ≡ true
     starts = le-leb 4 (length (drop p s)) (rw length-drop (omega arith))
 
-    pub info-small : n < 0x1C → Refused INFO ≡ infoAt s p
+    pub info-small : n < 0x1C → Refused INFO p ≡ infoAt s p
     unfolding infoAt
     info-small h = rw (starts, size-is, lt-leb 0x1C n h)
 
     module _ (h : 0x1C ≤ n) where
-      pub info-past : length s < p + n → Refused CUT ≡ infoAt s p
+      pub info-past : length s < p + n → Refused CUT p ≡ infoAt s p
       unfolding infoAt
       info-past g =
           let i : leb n (length (drop p s)) ≡ false = lt-leb n (length (drop p s)) (rw length-drop (omega arith)) in
@@ -191,7 +191,7 @@ module _ (s : List ℕ) (p : ℕ) where
             ∙ rules-grouped p part (got (infoFields p part) n)
             ∙ ap (λ (y : Bool). cond y (cond (all (pieceTests (infoHead part) (infoPieces part))) (got (infoFields p part) n) (refused PIECE p)) (refused INFO p)) (sym ex))
 
-        pub info-head : not x ≡ true → Refused INFO ≡ infoAt s p
+        pub info-head : not x ≡ true → Refused INFO p ≡ infoAt s p
         info-head t = sym (info-is ∙ rw (not-true x t))
 
         module _ {r : Pieces} (t : not x ≡ false) (er : r ≡ piecesFound p part) where
@@ -199,7 +199,7 @@ module _ (s : List ℕ) (p : ℕ) where
           unfolding piecesFound
           judged = sym (ap (λ (y : Pieces). y .ok) er)
 
-          pub info-piece : not (r .ok) ≡ true → Refused PIECE ≡ infoAt s p
+          pub info-piece : not (r .ok) ≡ true → Refused PIECE p ≡ infoAt s p
           info-piece o = sym (info-is ∙ rw (not-false x t, judged ∙ not-true (r .ok) o))
 
           pub info-got : not (r .ok) ≡ false → Got (r .info) d ≡ infoAt s p

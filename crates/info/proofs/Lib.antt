@@ -4,4 +4,3 @@ pub mod StructLaws
 pub mod VolumeLaws
 pub mod NetworkLaws
 pub mod InfoLaws
-pub mod TakenLaws

@@ -8,10 +8,10 @@ use Rattle.format.specs.Info.{info}
 use Rattle.info.specs.declared.InfoTaken.{InfoTaken}
 use Rattle.info.specs.declared.InfoTaken.the-variants.{Got, Refused}
 
--- a refusal is at the section's start
+-- LinkInfo from p on
 abbrev pub infoTaken : ℕ → Outcome Info → InfoTaken
 infoTaken p (got i n) = Got i (record { at = p + n })
-infoTaken p (refused f q) = Refused f
+infoTaken p (refused f q) = Refused f q
 
 unfoldable pub infoAt : List ℕ → ℕ → InfoTaken
 infoAt s p = infoTaken p (info p (drop p s))

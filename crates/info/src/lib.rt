@@ -24,10 +24,10 @@ ghost use Rattle.info.specs.Found.{Near, fieldIf, makeText, textFound, e
 ghost use Rattle.info.specs.Found.{networkFixed, networkIf, networkIn, providerOf, makeNetwork, networkFound, infoFixed, piecesFound};
 ghost use Rattle.info.specs.Taken.{infoAt};
 
-// LinkInfo and the cursor after it, or why it is refused.
+// LinkInfo and the cursor after it, or why it is refused and where.
 pub enum InfoTaken {
     Got(Info, Cursor),
-    Refused(Fault),
+    Refused(Fault, usize),
 }
 
 // A string that an offset leads to: whether it passes its tests, the bytes that it takes, and its body in the file. Zeros where it is absent or fails.
@@ -451,23 +451,23 @@ pub fn info(s: &[u8], c: Cursor) -> InfoTaken
     ensures { λ r. ⌜ r ≡ infoAt (now (s .entry)) (c .at) ⌝ }
 {
     let Took::Number(size, _) = c.take_u32(s) else {
-        return InfoTaken::Refused(Fault::Cut);
+        return InfoTaken::Refused(Fault::Cut, c.at);
     };
     if size < 0x1C {
-        return InfoTaken::Refused(Fault::Info);
+        return InfoTaken::Refused(Fault::Info, c.at);
     }
     let Skipped::To(next) = c.skip(s, size as usize) else {
-        return InfoTaken::Refused(Fault::Cut);
+        return InfoTaken::Refused(Fault::Cut, c.at);
     };
     let at = c.at;
     let end = next.at;
     let l = &s[at..end];
     if !info_head(l) {
-        return InfoTaken::Refused(Fault::Info);
+        return InfoTaken::Refused(Fault::Info, at);
     }
     let f = info_pieces(l, at);
     if !f.ok {
-        return InfoTaken::Refused(Fault::Piece);
+        return InfoTaken::Refused(Fault::Piece, at);
     }
     let i = f.info;
     InfoTaken::Got(i, next)

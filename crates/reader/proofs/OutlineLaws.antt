@@ -32,7 +32,7 @@ use Rattle.reader.specs.declared.InfoStep.{InfoStep}
 use Rattle.reader.specs.Steps.{itemsStep, stringStep, infoStep, blocksStep, atOf, endsOf, outlineFrom}
 use Rattle.reader.specs.Finish.{refusedAt, finished, outlineOff, outlineAfter, outlineOf}
 use Rattle.reader.proofs.Runs.{Reached, Runs, sectionOf, then-from}
-use Rattle.reader.proofs.StepLaws.{position, items-from, string-from, info-from, BlocksFact, blocks-from}
+use Rattle.reader.proofs.StepLaws.{items-from, string-from, info-from, BlocksFact, blocks-from}
 
 -- ---- the header
 
@@ -42,10 +42,6 @@ header-tests s = leb 76 (length s) else CUT ∷ headerRules (take 76 s)
 header-size : (s : List ℕ) (g : Header) (n : ℕ) → header 0 s ≡ got g n → n ≡ 76
 unfolding header-tests
 header-size s g n e = tests-elim (λ g n. n ≡ 76) 0 (header-tests s) (headerFields (take 76 s)) 76 (λ c. refl) g n e
-
-header-here : (s : List ℕ) (f : Fault) (q : ℕ) → header 0 s ≡ refused f q → q ≡ 0
-unfolding header-tests
-header-here s f q e = position 0 (header-tests s) (headerFields (take 76 s)) 76 f q e
 
 pub record HeaderRead (s : List ℕ) (h : Header) (c : Cursor) : Type 0 where
   pub is : header 0 s ≡ got h 76
@@ -63,15 +59,16 @@ header-got s {r} {h} {c} e k = go (header 0 s) refl (sym k ∙ e)
         record { is = i ∙ rw (a, m); at = b ∙ rw m }
     go (refused f p) i q = absurd (let z : _≡_ {A = ℕ} 0 1 = cc in omega arith)
 
-pub header-refused : (s : List ℕ) {r : HeaderTaken} {f : Fault} → r ≡ headerAt s → r ≡ Refused f → header 0 s ≡ refused f 0
+pub header-refused : (s : List ℕ) {r : HeaderTaken} {f : Fault} {q : ℕ} → r ≡ headerAt s → r ≡ Refused f q → header 0 s ≡ refused f q
 unfolding headerAt
-header-refused s {r} {f} e k = go (header 0 s) refl (sym k ∙ e)
+header-refused s {r} {f} {q} e k = go (header 0 s) refl (sym k ∙ e)
   where
-    go : (o : Outcome Header) → header 0 s ≡ o → Refused f ≡ headerTaken o → header 0 s ≡ refused f 0
-    go (got g n) i q = absurd (let z : _≡_ {A = ℕ} 0 1 = cc in omega arith)
-    go (refused g p) i q =
-        let a : f ≡ g = cc in
-        i ∙ rw (header-here s g p i, a)
+    go : (o : Outcome Header) → header 0 s ≡ o → Refused f q ≡ headerTaken o → header 0 s ≡ refused f q
+    go (got g n) i h = absurd (let z : _≡_ {A = ℕ} 0 1 = cc in omega arith)
+    go (refused g p) i h =
+        let a : g ≡ f = cc in
+        let b : p ≡ q = cc in
+        i ∙ rw (a, b)
 
 -- ---- the sections after it
 
@@ -199,11 +196,11 @@ module _ (s : List ℕ) (small : length s ≤ most) where
   unfolding reading
   accepted-reading e k = rw (e, k)
 
-  pub header-refused-shortcut : {f : Fault} → header 0 s ≡ refused f 0 → shortcut s ≡ refused f 0
+  pub header-refused-shortcut : {f : Fault} {q : ℕ} → header 0 s ≡ refused f q → shortcut s ≡ refused f q
   unfolding sections
   header-refused-shortcut e = shortcut-refused (rw e)
 
-  pub header-refused-reading : {f : Fault} → header 0 s ≡ refused f 0 → refusedAt f 0 ≡ reading s
+  pub header-refused-reading : {f : Fault} {q : ℕ} → header 0 s ≡ refused f q → refusedAt f q ≡ reading s
   header-refused-reading e = refused-reading (header-refused-shortcut e)
 
   pub outline-reading : (h : Header) → header 0 s ≡ got h 76
@@ -279,9 +276,9 @@ module _ (s : List ℕ) where
   unfolding outlineOf
   outline-got k e q r = rw (le-leb (length s) most k, ← e, q) r
 
-  pub outline-refused : {o : Outline} {t : HeaderTaken} {f : Fault} → length s ≤ most → t ≡ headerAt s → t ≡ Refused f → o ≡ outlineOff f 0 → o ≡ outlineOf s
+  pub outline-refused : {o : Outline} {t : HeaderTaken} {f : Fault} {q : ℕ} → length s ≤ most → t ≡ headerAt s → t ≡ Refused f q → o ≡ outlineOff f q → o ≡ outlineOf s
   unfolding outlineOf
-  outline-refused k e q r = rw (le-leb (length s) most k, ← e, q) r
+  outline-refused k e i r = rw (le-leb (length s) most k, ← e, i) r
 
   -- the outline, finished, is the reading
   pub outline-read : {o : Outline} {r : Reading} → o ≡ outlineOf s → r ≡ finished (length s) (o .next) (o .held) → r ≡ reading s
@@ -293,7 +290,7 @@ module _ (s : List ℕ) where
           let g = header-got s i refl in
           let y : o ≡ outlineFrom s h (record { at = 76 }) = x ∙ ap (outlineFrom s h) (g .at) in
           q ∙ rw y (outline-reading s k h (g .is))
-      after k (Refused f) i x = q ∙ rw x (header-refused-reading s k (header-refused s i refl))
+      after k (Refused f p) i x = q ∙ rw x (header-refused-reading s k (header-refused s i refl))
 
       go : (b : Bool) → leb (length s) most ≡ b → o ≡ cond b (outlineAfter s (headerAt s)) (outlineOff LONG 65536) → r ≡ reading s
       go true k x = after (leb-true (length s) most k) (headerAt s) refl x

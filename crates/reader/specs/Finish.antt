@@ -28,7 +28,7 @@ outlineOff f p = record {
 
 abbrev pub outlineAfter : List ℕ → HeaderTaken → Outline
 outlineAfter s (Got h c) = outlineFrom s h c
-outlineAfter s (Stopped f) = outlineOff f 0
+outlineAfter s (Stopped f p) = outlineOff f p
 
 -- LONG first, then the header, then the sections after it
 unfoldable pub outlineOf : List ℕ → Outline

@@ -6,10 +6,10 @@ use Rattle.octets.specs.declared.Cursor.{Cursor}
 use Rattle.format.specs.declared.Place.{Place}
 use Rattle.format.specs.declared.Header.{Header}
 use Rattle.format.specs.declared.Info.{Info}
+use Rattle.format.specs.declared.Taken.{Taken}
+use Rattle.format.specs.declared.Taken.the-variants.{Got, Refused}
 use Rattle.format.specs.Tests.{bit, noPlace}
 use Rattle.format.specs.Info.{noInfo}
-use Rattle.sections.specs.declared.Taken.{Taken}
-use Rattle.sections.specs.declared.Taken.the-variants.{Got, Refused}
 use Rattle.sections.specs.Taken.{stringAt, itemsAt}
 use Rattle.blocks.specs.declared.Walked.{Walked}
 use Rattle.blocks.specs.declared.Walked.the-variants.{Body, Refused as Stopped}
@@ -30,10 +30,10 @@ step next b = record { next = next; held = b }
 abbrev pub stepInfo : Next → Info → InfoStep
 stepInfo next i = record { next = next; held = i }
 
--- a section that starts at p
-unfoldable pub settled : ℕ → Taken → Step
-settled p (Got b c) = step (On c) b
-settled p (Refused f) = step (Off f p) noPlace
+-- a section that is there
+unfoldable pub settled : Taken → Step
+settled (Got b c) = step (On c) b
+settled (Refused f p) = step (Off f p) noPlace
 
 -- a refusal goes through
 abbrev pub onwards : Next → (Cursor → Step) → Step
@@ -46,7 +46,7 @@ onwardsInfo (Off f p) g = stepInfo (Off f p) noInfo
 
 unfoldable pub itemsOn : List ℕ → Bool → Cursor → Step
 unfolding settled
-itemsOn s present c = cond present (settled (c .at) (itemsAt s (c .at))) (step (On c) noPlace)
+itemsOn s present c = cond present (settled (itemsAt s (c .at))) (step (On c) noPlace)
 
 unfoldable pub itemsStep : List ℕ → Bool → Next → Step
 unfolding itemsOn
@@ -54,19 +54,19 @@ itemsStep s present next = onwards next (itemsOn s present)
 
 unfoldable pub stringOn : List ℕ → Bool → Bool → Cursor → Step
 unfolding settled
-stringOn s present unicode c = cond present (settled (c .at) (stringAt unicode s (c .at))) (step (On c) noPlace)
+stringOn s present unicode c = cond present (settled (stringAt unicode s (c .at))) (step (On c) noPlace)
 
 unfoldable pub stringStep : List ℕ → Bool → Bool → Next → Step
 unfolding stringOn
 stringStep s present unicode next = onwards next (stringOn s present unicode)
 
-unfoldable pub settledInfo : ℕ → InfoTaken → InfoStep
-settledInfo p (GotInfo i c) = stepInfo (On c) i
-settledInfo p (RefusedInfo f) = stepInfo (Off f p) noInfo
+unfoldable pub settledInfo : InfoTaken → InfoStep
+settledInfo (GotInfo i c) = stepInfo (On c) i
+settledInfo (RefusedInfo f p) = stepInfo (Off f p) noInfo
 
 unfoldable pub infoOn : List ℕ → Bool → Cursor → InfoStep
 unfolding settledInfo
-infoOn s present c = cond present (settledInfo (c .at) (infoAt s (c .at))) (stepInfo (On c) noInfo)
+infoOn s present c = cond present (settledInfo (infoAt s (c .at))) (stepInfo (On c) noInfo)
 
 unfoldable pub infoStep : List ℕ → Bool → Next → InfoStep
 unfolding infoOn

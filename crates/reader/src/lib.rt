@@ -6,11 +6,11 @@ use format::Info;
 use format::Place;
 use format::Reading;
 use format::Record;
+use format::Taken;
 use format::Verdict;
 use header::HeaderTaken;
 use info::InfoTaken;
 use octets::Cursor;
-use sections::Taken;
 ghost use mathlib.Core.Path.{_≡_};
 ghost use Prim.Native.Nat.{_≤_};
 ghost use lib.ListN.{length};
@@ -54,17 +54,17 @@ pub struct Outline {
     pub ends: Ends,
 }
 
-// A section that starts at `at`.
-fn settle(at: usize, t: Taken) -> Step
-    ensures { λ r. ⌜ r ≡ settled at t ⌝ }
+// A section that is there.
+fn settle(t: Taken) -> Step
+    ensures { λ r. ⌜ r ≡ settled t ⌝ }
 {
     match t {
         Taken::Got(b, c) => Step {
             next: Next::On(c),
             held: b,
         },
-        Taken::Refused(f) => Step {
-            next: Next::Off(f, at),
+        Taken::Refused(f, p) => Step {
+            next: Next::Off(f, p),
             held: format::no_place(),
         },
     }
@@ -89,7 +89,7 @@ fn items_on(s: &[u8], present: bool, c: Cursor) -> Step
             held: format::no_place(),
         };
     }
-    settle(c.at, sections::items(s, c))
+    settle(sections::items(s, c))
 }
 
 fn items_step(s: &[u8], present: bool, next: Next) -> Step
@@ -110,7 +110,7 @@ fn string_on(s: &[u8], present: bool, unicode: bool, c: Cursor) -> Step
             held: format::no_place(),
         };
     }
-    settle(c.at, sections::string(s, c, unicode))
+    settle(sections::string(s, c, unicode))
 }
 
 fn string_step(s: &[u8], present: bool, unicode: bool, next: Next) -> Step
@@ -146,7 +146,7 @@ fn info_on(s: &[u8], present: bool, c: Cursor) -> InfoStep
             next: Next::On(d),
             held: i,
         },
-        InfoTaken::Refused(f) => info_off(f, c.at),
+        InfoTaken::Refused(f, p) => info_off(f, p),
     }
 }
 
@@ -294,7 +294,7 @@ pub fn outline_of(s: &[u8]) -> Outline
     }
     match header::header(s) {
         HeaderTaken::Got(h, c) => outline_from(s, h, c),
-        HeaderTaken::Refused(f) => outline_off(f, 0),
+        HeaderTaken::Refused(f, p) => outline_off(f, p),
     }
 }
 

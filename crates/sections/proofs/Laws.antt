@@ -13,11 +13,11 @@ use Rattle.octets.specs.Characters.{bytesOf}
 use Rattle.octets.specs.declared.Cursor.{Cursor}
 use Rattle.octets.proofs.NumberLaws.{number-drop}
 use Rattle.format.specs.declared.Fault.the-variants.{Cut as CUT, Items as ITEMS}
+use Rattle.format.specs.declared.Taken.the-variants.{Got, Refused}
 use Rattle.format.specs.Tests.{place}
 use Rattle.format.specs.Items.{itemList, items}
 use Rattle.format.proofs.Chains.{drop-take}
 use Rattle.format.proofs.ItemsLaws.{ends}
-use Rattle.sections.specs.declared.Taken.the-variants.{Got, Refused}
 use Rattle.sections.specs.Taken.{stringAt, itemsAt}
 
 -- the first number of what is left
@@ -27,7 +27,7 @@ first s p = number-drop 2 p s 0 ∙ ap (numberAt 2 s) (add-zero p)
 -- ---- strings
 
 module _ (u : Bool) (s : List ℕ) (p : ℕ) where
-  pub string-no-count : length s < p + 2 → Refused CUT ≡ stringAt u s p
+  pub string-no-count : length s < p + 2 → Refused CUT p ≡ stringAt u s p
   unfolding stringAt
   string-no-count h = rw (lt-leb 2 (length (drop p s)) (omega (arith, length-drop p s)))
 
@@ -36,7 +36,7 @@ module _ (u : Bool) (s : List ℕ) (p : ℕ) where
     size : bytesOf u (u16At (drop p s) 0) ≡ n
     size = ap (bytesOf u) (first s p ∙ sym e) ∙ sym q
 
-    pub string-cut : length s < a + n → Refused CUT ≡ stringAt u s p
+    pub string-cut : length s < a + n → Refused CUT p ≡ stringAt u s p
     unfolding stringAt
     string-cut o =
         let d = length-drop p s in
@@ -52,13 +52,13 @@ module _ (u : Bool) (s : List ℕ) (p : ℕ) where
 -- ---- the item list
 
 module _ (s : List ℕ) (p : ℕ) where
-  pub items-no-size : length s < p + 2 → Refused CUT ≡ itemsAt s p
+  pub items-no-size : length s < p + 2 → Refused CUT p ≡ itemsAt s p
   unfolding itemsAt
   items-no-size h = rw (lt-leb 2 (length (drop p s)) (omega (arith, length-drop p s)))
 
   -- a is where the items stand, and z where they end
   module _ {n a : ℕ} (h : p + 2 ≤ length s) (e : n ≡ u16At s p) (at : a ≡ p + 2) where
-    pub items-cut : length s < a + n → Refused CUT ≡ itemsAt s p
+    pub items-cut : length s < a + n → Refused CUT p ≡ itemsAt s p
     unfolding itemsAt
     items-cut o =
         let d = length-drop p s in
@@ -70,7 +70,7 @@ module _ (s : List ℕ) (p : ℕ) where
           let k : z - a ≡ n = omega arith in
           ap itemList (drop-take 2 n (drop p s) ∙ ap (take n) (drop-drop 2 p s)) ∙ sym (rw (k, at) at r)
 
-      pub items-bad : not b ≡ true → Refused ITEMS ≡ itemsAt s p
+      pub items-bad : not b ≡ true → Refused ITEMS p ≡ itemsAt s p
       unfolding itemsAt
       items-bad t =
           let d = length-drop p s in

@@ -4,16 +4,16 @@ use mathlib.Core.List.{List}
 use mathlib.Core.Bool.{Bool}
 use lib.ListN.{drop}
 use Rattle.format.specs.declared.Place.{Place}
+use Rattle.format.specs.declared.Taken.{Taken}
+use Rattle.format.specs.declared.Taken.the-variants.{Got, Refused}
 use Rattle.format.specs.Tests.{Outcome, got, refused}
 use Rattle.format.specs.Items.{items}
 use Rattle.format.specs.Strings.{string}
-use Rattle.sections.specs.declared.Taken.{Taken}
-use Rattle.sections.specs.declared.Taken.the-variants.{Got, Refused}
 
--- a refusal is at the section's start
+-- a section from p on
 abbrev pub placeTaken : ℕ → Outcome Place → Taken
 placeTaken p (got b n) = Got b (record { at = p + n })
-placeTaken p (refused f q) = Refused f
+placeTaken p (refused f q) = Refused f q
 
 unfoldable pub stringAt : Bool → List ℕ → ℕ → Taken
 stringAt unicode s p = placeTaken p (string unicode p (drop p s))

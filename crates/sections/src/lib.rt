@@ -1,18 +1,13 @@
 // Sections that are one body: a string, and the item list.
 use format::Fault;
 use format::Place;
+use format::Taken;
 use octets::Cursor;
 use octets::Skipped;
 use octets::Took;
 ghost use mathlib.Core.Path.{_≡_};
 ghost use Rattle.octets.specs.Characters.{bytesOf};
 ghost use Rattle.sections.specs.Taken.{stringAt, itemsAt};
-
-// A body and the cursor after its section, or why the section is refused.
-pub enum Taken {
-    Got(Place, Cursor),
-    Refused(Fault),
-}
 
 // The count is of characters, of two bytes each in Unicode.
 fn bytes_of(unicode: bool, count: u32) -> usize
@@ -28,11 +23,11 @@ pub fn string(s: &[u8], c: Cursor, unicode: bool) -> Taken
     ensures { λ r. ⌜ r ≡ stringAt unicode (now (s .entry)) (c .at) ⌝ }
 {
     let Took::Number(count, body) = c.take_u16(s) else {
-        return Taken::Refused(Fault::Cut);
+        return Taken::Refused(Fault::Cut, c.at);
     };
     let n = bytes_of(unicode, count);
     let Skipped::To(next) = body.skip(s, n) else {
-        return Taken::Refused(Fault::Cut);
+        return Taken::Refused(Fault::Cut, c.at);
     };
     let at = body.at;
     Taken::Got(Place { at, len: n }, next)
@@ -43,16 +38,16 @@ pub fn items(s: &[u8], c: Cursor) -> Taken
     ensures { λ r. ⌜ r ≡ itemsAt (now (s .entry)) (c .at) ⌝ }
 {
     let Took::Number(size, body) = c.take_u16(s) else {
-        return Taken::Refused(Fault::Cut);
+        return Taken::Refused(Fault::Cut, c.at);
     };
     let n = size as usize;
     let Skipped::To(next) = body.skip(s, n) else {
-        return Taken::Refused(Fault::Cut);
+        return Taken::Refused(Fault::Cut, c.at);
     };
     let at = body.at;
     let end = next.at;
     if !items::item_list(&s[at..end]) {
-        return Taken::Refused(Fault::Items);
+        return Taken::Refused(Fault::Items, c.at);
     }
     Taken::Got(Place { at, len: n - 2 }, next)
 }

@@ -84,7 +84,7 @@ cases s o e = go (leb (length s) most) refl e
   where
     after : length s ≤ most → (t : HeaderTaken) → t ≡ headerAt s → o ≡ outlineAfter s t → Cases s o
     after k (Got h c) i x = let g = header-got s i refl in went h k (g .is) (x ∙ ap (outlineFrom s h) (g .at))
-    after k (Refused f) i x = stopped f 0 (ap (λ (y : Outline). y .next) x) (header-refused-shortcut s k (header-refused s i refl))
+    after k (Refused f q) i x = stopped f q (ap (λ (y : Outline). y .next) x) (header-refused-shortcut s k (header-refused s i refl))
 
     go : (b : Bool) → leb (length s) most ≡ b → o ≡ cond b (outlineAfter s (headerAt s)) (outlineOff LONG 65536) → Cases s o
     go true k x = after (leb-true (length s) most k) (headerAt s) refl x
