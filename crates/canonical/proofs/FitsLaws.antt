@@ -10,8 +10,9 @@ use borrow.Author.Tests.{leb-true}
 use Rattle.octets.proofs.NumberLaws.{length-little}
 use Rattle.format.specs.declared.Place.{Place}
 use Rattle.format.specs.declared.Record.{Record}
-use Rattle.format.specs.Tests.{bit}
-use Rattle.format.specs.Contents.{bytesAt, infoContents, bodies, allInside, bodiesOf}
+use Rattle.format.specs.Presence.{itemsThere, infoThere, nameBit, relativeBit, workdirBit, argumentsBit, iconBit, stringThere, stringsUnicode}
+use Rattle.format.specs.Bodies.{bodies, allInside}
+use Rattle.format.specs.Contents.{bytesAt, infoContents, bodiesOf}
 use Rattle.format.specs.Writing.{ifThere, itemsBytes, infoBytes, stringBytes, canonical}
 use Rattle.format.proofs.Bools.{and-true}
 use Rattle.format.proofs.HeaderLaws.{length-header}
@@ -74,11 +75,11 @@ module _ {d : List ℕ} {q : Record} (i : RecordInside d q) where
   length-strings =
       let f : ℕ = q .header .flags in
       let s = i .strings in
-      let e₁ = length-string (s .name) (bit 2 f) (bit 7 f) in
-      let e₂ = length-string (s .relative) (bit 3 f) (bit 7 f) in
-      let e₃ = length-string (s .workdir) (bit 4 f) (bit 7 f) in
-      let e₄ = length-string (s .arguments) (bit 5 f) (bit 7 f) in
-      let e₅ = length-string (s .icon) (bit 6 f) (bit 7 f) in
+      let e₁ = length-string (s .name) (stringThere nameBit f) (stringsUnicode f) in
+      let e₂ = length-string (s .relative) (stringThere relativeBit f) (stringsUnicode f) in
+      let e₃ = length-string (s .workdir) (stringThere workdirBit f) (stringsUnicode f) in
+      let e₄ = length-string (s .arguments) (stringThere argumentsBit f) (stringsUnicode f) in
+      let e₅ = length-string (s .icon) (stringThere iconBit f) (stringsUnicode f) in
       simp length-append (omega arith)
 
   -- the length of the canonical form is what the record tells
@@ -87,8 +88,8 @@ module _ {d : List ℕ} {q : Record} (i : RecordInside d q) where
   canonical-size =
       let f : ℕ = q .header .flags in
       let e₁ = length-header (q .header) in
-      let e₂ = length-items (i .items) (bit 0 f) in
-      let e₃ = length-if (bit 1 f) infoBytes (infoContents d (q .info)) (info-size (i .info)) in
+      let e₂ = length-items (i .items) (itemsThere f) in
+      let e₃ = length-if (infoThere f) infoBytes (infoContents d (q .info)) (info-size (i .info)) in
       let e₄ = length-strings in
       let e₅ = length-body (i .blocks) in
       ap length (sym (canonical-is d q)) ∙ simp (length-append, length-little) (omega arith)

@@ -10,9 +10,10 @@ use Rattle.format.specs.declared.Volume.{Volume}
 use Rattle.format.specs.declared.Network.{Network}
 use Rattle.format.specs.declared.Info.{Info}
 use Rattle.format.specs.declared.Record.{Record}
-use Rattle.format.specs.Tests.{bit}
+use Rattle.format.specs.Presence.{itemsThere, infoThere, localThere, networkThere, deviceThere, providerThere, deviceUnicodeThere}
 use Rattle.format.specs.Network.{networkHead}
-use Rattle.format.specs.Contents.{labelPlace, labelKind, bytesAt, volumeContents, networkContents, infoContents, bodiesOf}
+use Rattle.format.specs.Bodies.{labelPlace, labelKind}
+use Rattle.format.specs.Contents.{bytesAt, volumeContents, networkContents, infoContents, bodiesOf}
 use Rattle.format.specs.Writing.{ifThere, bits, headerBytes, itemsBytes, textBytes, twoFields, labelFields, volumeBytes, networkBytes, infoBytes, stringBytes, blocksBytes, canonical}
 use Rattle.canonical.specs.Inside.{Inside, NetworkInside, InfoInside}
 use Rattle.canonical.specs.Sizes.{charactersIn, volumeSize, deviceOffset, netUnicodeOffset, deviceUnicodeOffset, networkSize, infoHead, localOffset, networkOffset, suffixOffset, localUnicodeOffset, suffixUnicodeOffset, infoSize}
@@ -59,9 +60,9 @@ module _ (n : Network) where
   pub network-fields-are : {s₁ s₂ s₃ s₄ h x y z : ℕ}
       → (s₁ ≡ deviceOffset n) × (s₂ ≡ netUnicodeOffset n) × (s₃ ≡ deviceUnicodeOffset n) × (s₄ ≡ networkSize n)
       → h ≡ networkHead (n .unicode)
-      → x ≡ cond (bit 0 (n .flags)) s₁ 0
-      → y ≡ cond (bit 1 (n .flags)) (n .provider) 0
-      → z ≡ cond (bit 0 (n .flags)) s₃ 0
+      → x ≡ cond (deviceThere (n .flags)) s₁ 0
+      → y ≡ cond (providerThere (n .flags)) (n .provider) 0
+      → z ≡ cond (deviceThere (n .flags)) s₃ 0
       → little 4 s₄ ++ (little 4 (n .flags) ++ (little 4 h ++ (little 4 x ++ (little 4 y ++ (twoFields (n .unicode) s₂ z ++ []))))) ≡ networkFieldBytes n
   unfolding networkFieldBytes
   network-fields-are s h x y z = rw (h, x, y, z, s .0, s .1, s .2, s .3)
@@ -70,7 +71,7 @@ module _ {d : List ℕ} {n : Network} (i : NetworkInside d n) where
   pub network-is : networkFieldBytes n ++ networkNameBytes d n ≡ networkBytes (networkContents d n)
   unfolding networkFieldBytes networkNameBytes networkBytes networkSize
   network-is =
-      rw (length-text (i .net) false, length-text-if (i .device) (bit 0 (n .flags)) false, length-text-if (i .netUnicode) (n .unicode) true, length-text-if (i .deviceUnicode) (n .unicode && bit 0 (n .flags)) true)
+      rw (length-text (i .net) false, length-text-if (i .device) (deviceThere (n .flags)) false, length-text-if (i .netUnicode) (n .unicode) true, length-text-if (i .deviceUnicode) (deviceUnicodeThere (n .unicode) (n .flags)) true)
       (simp append-assoc)
 
 -- ---- LinkInfo
@@ -79,10 +80,10 @@ module _ (i : Info) where
   pub info-fields-are : {s₁ s₂ s₃ s₄ s₅ s₆ h v x y z : ℕ}
       → (s₁ ≡ localOffset i) × (s₂ ≡ networkOffset i) × (s₃ ≡ suffixOffset i) × (s₄ ≡ localUnicodeOffset i) × (s₅ ≡ suffixUnicodeOffset i) × (s₆ ≡ infoSize i)
       → h ≡ infoHead (i .long)
-      → v ≡ cond (bit 0 (i .flags)) h 0
-      → x ≡ cond (bit 0 (i .flags)) s₁ 0
-      → y ≡ cond (bit 1 (i .flags)) s₂ 0
-      → z ≡ cond (bit 0 (i .flags)) s₄ 0
+      → v ≡ cond (localThere (i .flags)) h 0
+      → x ≡ cond (localThere (i .flags)) s₁ 0
+      → y ≡ cond (networkThere (i .flags)) s₂ 0
+      → z ≡ cond (localThere (i .flags)) s₄ 0
       → little 4 s₆ ++ (little 4 h ++ (little 4 (i .flags) ++ (little 4 v ++ (little 4 x ++ (little 4 y ++ (little 4 s₃ ++ (twoFields (i .long) z s₅ ++ []))))))) ≡ infoFieldBytes i
   unfolding infoFieldBytes
   info-fields-are s h v x y z = rw (v, x, y, z, h, s .0, s .1, s .2, s .3, s .4, s .5)
@@ -91,9 +92,9 @@ module _ {d : List ℕ} {i : Info} (h : InfoInside d i) where
   pub info-is : infoFieldBytes i ++ infoPieceBytes d i ≡ infoBytes (infoContents d i)
   unfolding infoFieldBytes infoPieceBytes infoBytes infoSize
   info-is =
-      let b : Bool = bit 0 (i .flags) in
+      let b : Bool = localThere (i .flags) in
       let e₁ = length-if b volumeBytes (volumeContents d (i .volume)) (volume-size d (i .volume) (h .label)) in
-      let e₃ = length-if (bit 1 (i .flags)) networkBytes (networkContents d (i .network)) (network-size (h .network)) in
+      let e₃ = length-if (networkThere (i .flags)) networkBytes (networkContents d (i .network)) (network-size (h .network)) in
       rw (e₁, length-text-if (h .local) b false, e₃, length-text (h .suffix) false, length-text-if (h .localUnicode) (i .long && b) true, length-text-if (h .suffixUnicode) (i .long) true)
       (simp append-assoc)
 
@@ -101,8 +102,8 @@ module _ {d : List ℕ} {i : Info} (h : InfoInside d i) where
 
 pub canonical-is : (d : List ℕ) (q : Record)
     → headerBytes (q .header)
-    ++ (ifThere (bit 0 (q .header .flags)) itemsBytes (bytesAt d (q .items))
-    ++ (ifThere (bit 1 (q .header .flags)) infoBytes (infoContents d (q .info)) ++ (stringsBytes d q ++ (blocksBytes (bytesAt d (q .blocks)) ++ []))))
+    ++ (ifThere (itemsThere (q .header .flags)) itemsBytes (bytesAt d (q .items))
+    ++ (ifThere (infoThere (q .header .flags)) infoBytes (infoContents d (q .info)) ++ (stringsBytes d q ++ (blocksBytes (bytesAt d (q .blocks)) ++ []))))
     ≡ canonical (bodiesOf d q)
 unfolding stringsBytes canonical
 canonical-is d q = simp append-assoc

@@ -10,10 +10,11 @@ use Rattle.format.specs.declared.Place.{Place}
 use Rattle.format.specs.declared.Volume.{Volume}
 use Rattle.format.specs.declared.Network.{Network}
 use Rattle.format.specs.declared.Info.{Info}
-use Rattle.format.specs.Tests.{bit}
+use Rattle.format.specs.Presence.{localThere, networkThere, deviceThere}
 use Rattle.format.specs.Volume.{labelLeast}
 use Rattle.format.specs.Network.{networkHead}
-use Rattle.format.specs.Contents.{labelPlace, labelKind, bytesAt, volumeContents, networkContents, infoContents}
+use Rattle.format.specs.Bodies.{labelPlace, labelKind}
+use Rattle.format.specs.Contents.{bytesAt, volumeContents, networkContents, infoContents}
 use Rattle.format.specs.Writing.{ifThere, textBytes, volumeBytes, networkBytes, infoBytes}
 use Rattle.format.proofs.VolumeLaws.{length-volume}
 use Rattle.format.proofs.NetworkLaws.{length-network}
@@ -83,7 +84,7 @@ module _ {d : List ℕ} {n : Network} (i : NetworkInside d n) where
   unfolding networkSize
   network-size =
       let u : Bool = n .unicode in
-      let b : Bool = bit 0 (n .flags) in
+      let b : Bool = deviceThere (n .flags) in
       let e₁ = length-text (i .net) false in
       let e₂ = length-text-if (i .device) b false in
       let e₃ = length-text-if (i .netUnicode) u true in
@@ -96,10 +97,10 @@ module _ {d : List ℕ} {i : Info} (h : InfoInside d i) where
   pub info-size : length (infoBytes (infoContents d i)) ≡ infoSize i
   unfolding infoSize
   info-size =
-      let b : Bool = bit 0 (i .flags) in
+      let b : Bool = localThere (i .flags) in
       let e₁ = length-if b volumeBytes (volumeContents d (i .volume)) (volume-size d (i .volume) (h .label)) in
       let e₂ = length-text-if (h .local) b false in
-      let e₃ = length-if (bit 1 (i .flags)) networkBytes (networkContents d (i .network)) (network-size (h .network)) in
+      let e₃ = length-if (networkThere (i .flags)) networkBytes (networkContents d (i .network)) (network-size (h .network)) in
       let e₄ = length-text (h .suffix) false in
       let e₅ = length-text-if (h .localUnicode) (i .long && b) true in
       let e₆ = length-text-if (h .suffixUnicode) (i .long) true in

@@ -6,7 +6,7 @@ use Rattle.format.specs.declared.Place.{Place}
 use Rattle.format.specs.declared.Network.{Network}
 use Rattle.format.specs.declared.Info.{Info}
 use Rattle.format.specs.declared.Record.{Record}
-use Rattle.format.specs.Contents.{labelPlace}
+use Rattle.format.specs.Bodies.{labelPlace}
 
 pub record Inside (d : List ℕ) (b : Place) : Type 0 where
   pub within : b .at + b .len ≤ length d

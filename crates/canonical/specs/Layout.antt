@@ -1,13 +1,13 @@
 -- The canonical bytes of a part in groups, by the record: numbers by its lengths, bodies by their places in the body buffer d.
 use Prim.Native.Nat.{ℕ, _+_}
 use mathlib.Core.List.{List, [], _∷_, _++_}
-use mathlib.Core.Bool.{true, false, _&&_, cond}
+use mathlib.Core.Bool.{true, false, cond}
 use Rattle.octets.specs.Numbers.{little}
 use Rattle.format.specs.declared.Header.{Header}
 use Rattle.format.specs.declared.Network.{Network}
 use Rattle.format.specs.declared.Info.{Info}
 use Rattle.format.specs.declared.Record.{Record}
-use Rattle.format.specs.Tests.{bit}
+use Rattle.format.specs.Presence.{nameBit, relativeBit, workdirBit, argumentsBit, iconBit, stringThere, stringsUnicode, localThere, networkThere, localUnicodeThere, deviceThere, providerThere, deviceUnicodeThere}
 use Rattle.format.specs.Header.{classIdentifier}
 use Rattle.format.specs.Network.{networkHead}
 use Rattle.format.specs.Contents.{bytesAt, volumeContents, networkContents}
@@ -43,26 +43,26 @@ networkFieldBytes n =
     (little 4 (networkSize n)
     ∷ little 4 (n .flags)
     ∷ little 4 (networkHead (n .unicode))
-    ∷ little 4 (cond (bit 0 (n .flags)) (deviceOffset n) 0)
-    ∷ little 4 (cond (bit 1 (n .flags)) (n .provider) 0)
-    ∷ twoFields (n .unicode) (netUnicodeOffset n) (cond (bit 0 (n .flags)) (deviceUnicodeOffset n) 0)
+    ∷ little 4 (cond (deviceThere (n .flags)) (deviceOffset n) 0)
+    ∷ little 4 (cond (providerThere (n .flags)) (n .provider) 0)
+    ∷ twoFields (n .unicode) (netUnicodeOffset n) (cond (deviceThere (n .flags)) (deviceUnicodeOffset n) 0)
     ∷ [])
 
 unfoldable pub networkNameBytes : List ℕ → Network → List ℕ
 networkNameBytes d n =
     endToEnd
     (textBytes false (bytesAt d (n .net))
-    ∷ ifThere (bit 0 (n .flags)) (textBytes false) (bytesAt d (n .device))
+    ∷ ifThere (deviceThere (n .flags)) (textBytes false) (bytesAt d (n .device))
     ∷ ifThere (n .unicode) (textBytes true) (bytesAt d (n .«net_unicode»))
-    ∷ ifThere (n .unicode && bit 0 (n .flags)) (textBytes true) (bytesAt d (n .«device_unicode»))
+    ∷ ifThere (deviceUnicodeThere (n .unicode) (n .flags)) (textBytes true) (bytesAt d (n .«device_unicode»))
     ∷ [])
 
 abbrev pub namesSize : Network → ℕ
 namesSize n =
     textSize false (n .net)
-    + textSizeIf (bit 0 (n .flags)) false (n .device)
+    + textSizeIf (deviceThere (n .flags)) false (n .device)
     + textSizeIf (n .unicode) true (n .«net_unicode»)
-    + textSizeIf (n .unicode && bit 0 (n .flags)) true (n .«device_unicode»)
+    + textSizeIf (deviceUnicodeThere (n .unicode) (n .flags)) true (n .«device_unicode»)
 
 -- ---- LinkInfo: its fields, then its pieces
 
@@ -72,31 +72,31 @@ infoFieldBytes i =
     (little 4 (infoSize i)
     ∷ little 4 (infoHead (i .long))
     ∷ little 4 (i .flags)
-    ∷ little 4 (cond (bit 0 (i .flags)) (infoHead (i .long)) 0)
-    ∷ little 4 (cond (bit 0 (i .flags)) (localOffset i) 0)
-    ∷ little 4 (cond (bit 1 (i .flags)) (networkOffset i) 0)
+    ∷ little 4 (cond (localThere (i .flags)) (infoHead (i .long)) 0)
+    ∷ little 4 (cond (localThere (i .flags)) (localOffset i) 0)
+    ∷ little 4 (cond (networkThere (i .flags)) (networkOffset i) 0)
     ∷ little 4 (suffixOffset i)
-    ∷ twoFields (i .long) (cond (bit 0 (i .flags)) (localUnicodeOffset i) 0) (suffixUnicodeOffset i)
+    ∷ twoFields (i .long) (cond (localThere (i .flags)) (localUnicodeOffset i) 0) (suffixUnicodeOffset i)
     ∷ [])
 
 unfoldable pub infoPieceBytes : List ℕ → Info → List ℕ
 infoPieceBytes d i =
     endToEnd
-    (ifThere (bit 0 (i .flags)) volumeBytes (volumeContents d (i .volume))
-    ∷ ifThere (bit 0 (i .flags)) (textBytes false) (bytesAt d (i .local))
-    ∷ ifThere (bit 1 (i .flags)) networkBytes (networkContents d (i .network))
+    (ifThere (localThere (i .flags)) volumeBytes (volumeContents d (i .volume))
+    ∷ ifThere (localThere (i .flags)) (textBytes false) (bytesAt d (i .local))
+    ∷ ifThere (networkThere (i .flags)) networkBytes (networkContents d (i .network))
     ∷ textBytes false (bytesAt d (i .suffix))
-    ∷ ifThere (i .long && bit 0 (i .flags)) (textBytes true) (bytesAt d (i .«local_unicode»))
+    ∷ ifThere (localUnicodeThere (i .long) (i .flags)) (textBytes true) (bytesAt d (i .«local_unicode»))
     ∷ ifThere (i .long) (textBytes true) (bytesAt d (i .«suffix_unicode»))
     ∷ [])
 
 abbrev pub piecesSize : Info → ℕ
 piecesSize i =
-    cond (bit 0 (i .flags)) (volumeSize (i .volume)) 0
-    + textSizeIf (bit 0 (i .flags)) false (i .local)
-    + cond (bit 1 (i .flags)) (networkSize (i .network)) 0
+    cond (localThere (i .flags)) (volumeSize (i .volume)) 0
+    + textSizeIf (localThere (i .flags)) false (i .local)
+    + cond (networkThere (i .flags)) (networkSize (i .network)) 0
     + textSize false (i .suffix)
-    + textSizeIf (i .long && bit 0 (i .flags)) true (i .«local_unicode»)
+    + textSizeIf (localUnicodeThere (i .long) (i .flags)) true (i .«local_unicode»)
     + textSizeIf (i .long) true (i .«suffix_unicode»)
 
 -- ---- the five strings
@@ -104,9 +104,9 @@ piecesSize i =
 unfoldable pub stringsBytes : List ℕ → Record → List ℕ
 stringsBytes d q =
     endToEnd
-    (ifThere (bit 2 (q .header .flags)) (stringBytes (bit 7 (q .header .flags))) (bytesAt d (q .name))
-    ∷ ifThere (bit 3 (q .header .flags)) (stringBytes (bit 7 (q .header .flags))) (bytesAt d (q .relative))
-    ∷ ifThere (bit 4 (q .header .flags)) (stringBytes (bit 7 (q .header .flags))) (bytesAt d (q .workdir))
-    ∷ ifThere (bit 5 (q .header .flags)) (stringBytes (bit 7 (q .header .flags))) (bytesAt d (q .arguments))
-    ∷ ifThere (bit 6 (q .header .flags)) (stringBytes (bit 7 (q .header .flags))) (bytesAt d (q .icon))
+    (ifThere (stringThere nameBit (q .header .flags)) (stringBytes (stringsUnicode (q .header .flags))) (bytesAt d (q .name))
+    ∷ ifThere (stringThere relativeBit (q .header .flags)) (stringBytes (stringsUnicode (q .header .flags))) (bytesAt d (q .relative))
+    ∷ ifThere (stringThere workdirBit (q .header .flags)) (stringBytes (stringsUnicode (q .header .flags))) (bytesAt d (q .workdir))
+    ∷ ifThere (stringThere argumentsBit (q .header .flags)) (stringBytes (stringsUnicode (q .header .flags))) (bytesAt d (q .arguments))
+    ∷ ifThere (stringThere iconBit (q .header .flags)) (stringBytes (stringsUnicode (q .header .flags))) (bytesAt d (q .icon))
     ∷ [])

@@ -6,7 +6,8 @@ use mathlib.Core.Bool.{true}
 use lib.ListN.{length}
 use Rattle.format.specs.declared.Record.{Record}
 use Rattle.format.specs.Shortcut.{most}
-use Rattle.format.specs.Contents.{bodies, allInside, bodiesOf}
+use Rattle.format.specs.Bodies.{bodies, allInside}
+use Rattle.format.specs.Contents.{bodiesOf}
 use Rattle.format.specs.Writing.{canonical}
 
 -- n bytes have room in the buffer from the place at on, and are no more than a shortcut can have

@@ -1,16 +1,16 @@
 -- How many bytes each part of the canonical form has, and where the pieces of LinkInfo start, by the lengths that the record holds.
 use Prim.Native.Nat.{ℕ, _+_, _/_}
-use mathlib.Core.Bool.{Bool, true, false, _&&_, cond}
+use mathlib.Core.Bool.{Bool, true, false, cond}
 use Rattle.octets.specs.Characters.{bytesOf}
 use Rattle.format.specs.declared.Place.{Place}
 use Rattle.format.specs.declared.Volume.{Volume}
 use Rattle.format.specs.declared.Network.{Network}
 use Rattle.format.specs.declared.Info.{Info}
 use Rattle.format.specs.declared.Record.{Record}
-use Rattle.format.specs.Tests.{bit}
+use Rattle.format.specs.Presence.{itemsThere, infoThere, nameBit, relativeBit, workdirBit, argumentsBit, iconBit, stringThere, localThere, networkThere, localUnicodeThere, deviceThere, deviceUnicodeThere}
 use Rattle.format.specs.Volume.{labelLeast}
 use Rattle.format.specs.Network.{networkHead}
-use Rattle.format.specs.Contents.{labelPlace, labelKind}
+use Rattle.format.specs.Bodies.{labelPlace, labelKind}
 
 -- a string with its terminator
 abbrev pub textSize : Bool → Place → ℕ
@@ -29,13 +29,13 @@ module _ (n : Network) where
   deviceOffset = networkHead (n .unicode) + textSize false (n .net)
 
   abbrev pub netUnicodeOffset : ℕ
-  netUnicodeOffset = deviceOffset + textSizeIf (bit 0 (n .flags)) false (n .device)
+  netUnicodeOffset = deviceOffset + textSizeIf (deviceThere (n .flags)) false (n .device)
 
   abbrev pub deviceUnicodeOffset : ℕ
   deviceUnicodeOffset = netUnicodeOffset + textSizeIf (n .unicode) true (n .«net_unicode»)
 
   unfoldable pub networkSize : ℕ
-  networkSize = deviceUnicodeOffset + textSizeIf (n .unicode && bit 0 (n .flags)) true (n .«device_unicode»)
+  networkSize = deviceUnicodeOffset + textSizeIf (deviceUnicodeThere (n .unicode) (n .flags)) true (n .«device_unicode»)
 
 -- ---- LinkInfo
 
@@ -44,19 +44,19 @@ infoHead long = cond long 0x24 0x1C
 
 module _ (i : Info) where
   abbrev pub localOffset : ℕ
-  localOffset = infoHead (i .long) + cond (bit 0 (i .flags)) (volumeSize (i .volume)) 0
+  localOffset = infoHead (i .long) + cond (localThere (i .flags)) (volumeSize (i .volume)) 0
 
   abbrev pub networkOffset : ℕ
-  networkOffset = localOffset + textSizeIf (bit 0 (i .flags)) false (i .local)
+  networkOffset = localOffset + textSizeIf (localThere (i .flags)) false (i .local)
 
   abbrev pub suffixOffset : ℕ
-  suffixOffset = networkOffset + cond (bit 1 (i .flags)) (networkSize (i .network)) 0
+  suffixOffset = networkOffset + cond (networkThere (i .flags)) (networkSize (i .network)) 0
 
   abbrev pub localUnicodeOffset : ℕ
   localUnicodeOffset = suffixOffset + textSize false (i .suffix)
 
   abbrev pub suffixUnicodeOffset : ℕ
-  suffixUnicodeOffset = localUnicodeOffset + textSizeIf (i .long && bit 0 (i .flags)) true (i .«local_unicode»)
+  suffixUnicodeOffset = localUnicodeOffset + textSizeIf (localUnicodeThere (i .long) (i .flags)) true (i .«local_unicode»)
 
   unfoldable pub infoSize : ℕ
   infoSize = suffixUnicodeOffset + textSizeIf (i .long) true (i .«suffix_unicode»)
@@ -74,16 +74,16 @@ sizedIf there beside b = cond there (beside + b .len) 0
 
 unfoldable pub stringsSize : Record → ℕ
 stringsSize q =
-    sizedIf (bit 2 (q .header .flags)) 2 (q .name)
-    + sizedIf (bit 3 (q .header .flags)) 2 (q .relative)
-    + sizedIf (bit 4 (q .header .flags)) 2 (q .workdir)
-    + sizedIf (bit 5 (q .header .flags)) 2 (q .arguments)
-    + sizedIf (bit 6 (q .header .flags)) 2 (q .icon)
+    sizedIf (stringThere nameBit (q .header .flags)) 2 (q .name)
+    + sizedIf (stringThere relativeBit (q .header .flags)) 2 (q .relative)
+    + sizedIf (stringThere workdirBit (q .header .flags)) 2 (q .workdir)
+    + sizedIf (stringThere argumentsBit (q .header .flags)) 2 (q .arguments)
+    + sizedIf (stringThere iconBit (q .header .flags)) 2 (q .icon)
 
 unfoldable pub canonicalSize : Record → ℕ
 canonicalSize q =
     76
-    + sizedIf (bit 0 (q .header .flags)) 4 (q .items)
-    + cond (bit 1 (q .header .flags)) (infoSize (q .info)) 0
+    + sizedIf (itemsThere (q .header .flags)) 4 (q .items)
+    + cond (infoThere (q .header .flags)) (infoSize (q .info)) 0
     + stringsSize q
     + (4 + q .blocks .len)

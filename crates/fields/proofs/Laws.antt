@@ -20,10 +20,10 @@ use Rattle.format.specs.declared.Record.{Record}
 use Rattle.format.specs.Tests.{oneOr0}
 use Rattle.format.specs.Header.{signed}
 use Rattle.format.specs.Volume.{labelOf}
-use Rattle.format.specs.Contents.{labelKind}
+use Rattle.format.specs.Bodies.{labelKind}
 use Rattle.format.specs.Writing.{bits}
 use Rattle.format.proofs.Bools.{and-true, every-out}
-use Rattle.fields.specs.Fields.{fieldCount, numbersOf, placesOf, fieldsOf, wordAt, flagAt, headerNumbers, infoNumbers, areRecord, trueAt, placeAt, headerFrom, volumeFrom, networkFrom, infoFrom, recordFrom}
+use Rattle.fields.specs.Fields.{fieldCount, numbersOf, placesOf, fieldsOf, wordAt, flagAt, headerNumbers, infoNumbers, areRecord, trueAt, slotAt, headerFrom, volumeFrom, networkFrom, infoFrom, recordFrom}
 
 module _ (f : List ℕ) where
   abbrev Word : ℕ → Type 0
@@ -104,12 +104,12 @@ module _ (f : List ℕ) where
   unfolding headerFrom
   header-is e = rw e
 
-  pub volume-is : {b : Place} {l : Label} → b ≡ placeAt f 19 → l ≡ labelOf (trueAt f 13) b
+  pub volume-is : {b : Place} {l : Label} → b ≡ slotAt f 1 → l ≡ labelOf (trueAt f 13) b
       → _≡_ {A = Volume} (record { drive = getD f 11 0; serial = getD f 12 0; label = l }) (volumeFrom f)
   unfolding volumeFrom
   volume-is e k = rw (k, e)
 
-  pub network-is : {a b c d : Place} → a ≡ placeAt f 23 → b ≡ placeAt f 25 → c ≡ placeAt f 27 → d ≡ placeAt f 29
+  pub network-is : {a b c d : Place} → a ≡ slotAt f 3 → b ≡ slotAt f 4 → c ≡ slotAt f 5 → d ≡ slotAt f 6
       → _≡_ {A = Network}
       (record {
         flags = getD f 14 0;
@@ -123,8 +123,8 @@ module _ (f : List ℕ) where
   unfolding networkFrom
   network-is e g h k = rw (e, g, h, k)
 
-  pub info-is : {v : Volume} {a : Place} {n : Network} {b c d : Place} → v ≡ volumeFrom f → a ≡ placeAt f 21 → n ≡ networkFrom f → b ≡ placeAt f 31
-      → c ≡ placeAt f 33 → d ≡ placeAt f 35
+  pub info-is : {v : Volume} {a : Place} {n : Network} {b c d : Place} → v ≡ volumeFrom f → a ≡ slotAt f 2 → n ≡ networkFrom f → b ≡ slotAt f 7
+      → c ≡ slotAt f 8 → d ≡ slotAt f 9
       → _≡_ {A = Info}
       (record {
         flags = getD f 9 0;
@@ -139,8 +139,8 @@ module _ (f : List ℕ) where
   unfolding infoFrom
   info-is e g h k l m = rw (e, g, h, k, l, m)
 
-  pub record-is : {h : Header} {a : Place} {i : Info} {b c d e g k : Place} → h ≡ headerFrom f → a ≡ placeAt f 17 → i ≡ infoFrom f → b ≡ placeAt f 37
-      → c ≡ placeAt f 39 → d ≡ placeAt f 41 → e ≡ placeAt f 43 → g ≡ placeAt f 45 → k ≡ placeAt f 47
+  pub record-is : {h : Header} {a : Place} {i : Info} {b c d e g k : Place} → h ≡ headerFrom f → a ≡ slotAt f 0 → i ≡ infoFrom f → b ≡ slotAt f 10
+      → c ≡ slotAt f 11 → d ≡ slotAt f 12 → e ≡ slotAt f 13 → g ≡ slotAt f 14 → k ≡ slotAt f 15
       → _≡_ {A = Record}
       (record {
         header = h;

@@ -14,7 +14,7 @@ use Rattle.format.specs.declared.Record.{Record}
 use Rattle.format.specs.Tests.{oneOr0}
 use Rattle.format.specs.Header.{signed}
 use Rattle.format.specs.Volume.{labelOf}
-use Rattle.format.specs.Contents.{labelKind, labelPlace}
+use Rattle.format.specs.Bodies.{labelKind, labelPlace}
 use Rattle.format.specs.Writing.{bits}
 use Rattle.format.specs.Ranges.{FitsRecord}
 use Rattle.format.proofs.Bools.{by-order}

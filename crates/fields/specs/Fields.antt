@@ -1,5 +1,5 @@
 -- The record as 49 numbers, in one fixed order.
-use Prim.Native.Nat.{ℕ, _+_}
+use Prim.Native.Nat.{ℕ, _+_, _*_}
 use mathlib.Core.List.{List, [], _∷_, _++_}
 use mathlib.Core.Bool.{Bool, _&&_}
 use lib.ListN.{length, getD}
@@ -14,7 +14,7 @@ use Rattle.format.specs.declared.Record.{Record}
 use Rattle.format.specs.Tests.{place, oneOr0}
 use Rattle.format.specs.Header.{signed}
 use Rattle.format.specs.Volume.{labelOf}
-use Rattle.format.specs.Contents.{labelPlace, labelKind}
+use Rattle.format.specs.Bodies.{labelKind, bodies}
 use Rattle.format.specs.Writing.{bits, every}
 
 abbrev pub fieldCount : ℕ
@@ -51,25 +51,7 @@ pairs [] = []
 pairs (b ∷ bs) = b .at ∷ b .len ∷ pairs bs
 
 unfoldable pub placesOf : Record → List ℕ
-placesOf q =
-    pairs
-    (q .items
-    ∷ labelPlace (q .info .volume .label)
-    ∷ q .info .local
-    ∷ q .info .network .net
-    ∷ q .info .network .device
-    ∷ q .info .network .«net_unicode»
-    ∷ q .info .network .«device_unicode»
-    ∷ q .info .suffix
-    ∷ q .info .«local_unicode»
-    ∷ q .info .«suffix_unicode»
-    ∷ q .name
-    ∷ q .relative
-    ∷ q .workdir
-    ∷ q .arguments
-    ∷ q .icon
-    ∷ q .blocks
-    ∷ [])
+placesOf q = pairs (bodies q)
 
 unfoldable pub fieldsOf : Record → List ℕ
 unfolding numbersOf placesOf
@@ -98,8 +80,9 @@ module _ (f : List ℕ) where
   abbrev pub trueAt : ℕ → Bool
   trueAt i = eqb (getD f i 0) 1
 
-  abbrev pub placeAt : ℕ → Place
-  placeAt i = place (getD f i 0) (getD f (i + 1) 0)
+  -- the place in slot k, as the table of bodies counts them
+  abbrev pub slotAt : ℕ → Place
+  slotAt k = place (getD f (17 + 2 * k) 0) (getD f (17 + 2 * k + 1) 0)
 
   unfoldable pub headerFrom : Header
   headerFrom = record {
@@ -115,17 +98,17 @@ module _ (f : List ℕ) where
   }
 
   unfoldable pub volumeFrom : Volume
-  volumeFrom = record { drive = getD f 11 0; serial = getD f 12 0; label = labelOf (trueAt 13) (placeAt 19) }
+  volumeFrom = record { drive = getD f 11 0; serial = getD f 12 0; label = labelOf (trueAt 13) (slotAt 1) }
 
   unfoldable pub networkFrom : Network
   networkFrom = record {
     flags = getD f 14 0;
     provider = getD f 15 0;
     unicode = trueAt 16;
-    net = placeAt 23;
-    device = placeAt 25;
-    «net_unicode» = placeAt 27;
-    «device_unicode» = placeAt 29;
+    net = slotAt 3;
+    device = slotAt 4;
+    «net_unicode» = slotAt 5;
+    «device_unicode» = slotAt 6;
   }
 
   unfoldable pub infoFrom : Info
@@ -134,23 +117,23 @@ module _ (f : List ℕ) where
     flags = getD f 9 0;
     long = trueAt 10;
     volume = volumeFrom;
-    local = placeAt 21;
+    local = slotAt 2;
     network = networkFrom;
-    suffix = placeAt 31;
-    «local_unicode» = placeAt 33;
-    «suffix_unicode» = placeAt 35;
+    suffix = slotAt 7;
+    «local_unicode» = slotAt 8;
+    «suffix_unicode» = slotAt 9;
   }
 
   unfoldable pub recordFrom : Record
   unfolding headerFrom infoFrom
   recordFrom = record {
     header = headerFrom;
-    items = placeAt 17;
+    items = slotAt 0;
     info = infoFrom;
-    name = placeAt 37;
-    relative = placeAt 39;
-    workdir = placeAt 41;
-    arguments = placeAt 43;
-    icon = placeAt 45;
-    blocks = placeAt 47;
+    name = slotAt 10;
+    relative = slotAt 11;
+    workdir = slotAt 12;
+    arguments = slotAt 13;
+    icon = slotAt 14;
+    blocks = slotAt 15;
   }

@@ -10,7 +10,7 @@ ghost use mathlib.Core.Bool.{true};
 ghost use Prim.Native.Nat.{_+_, _≤_, _<_};
 ghost use lib.ListN.{length, getD};
 ghost use Rattle.octets.specs.Parts.{put};
-ghost use Rattle.fields.specs.Fields.{fieldCount, numbersOf, placesOf, fieldsOf, headerNumbers, infoNumbers, areRecord, placeAt, headerFrom, volumeFrom, networkFrom, infoFrom, recordFrom};
+ghost use Rattle.fields.specs.Fields.{fieldCount, numbersOf, placesOf, fieldsOf, headerNumbers, infoNumbers, areRecord, slotAt, headerFrom, volumeFrom, networkFrom, infoFrom, recordFrom};
 
 const WORD: u64 = 0x1_0000_0000;
 
@@ -57,10 +57,13 @@ fn header_numbers(f: &[u64]) -> bool
     (f[0] < WORD) & (f[1] < WORD) & (f[5] < WORD) & (f[6] < WORD) & (f[7] < WORD) & (f[8] < 65536)
 }
 
-fn place_at(f: &[u64], i: usize) -> Place
-    requires { ⌜ i + 1 < length (now f) ⌝ }
-    ensures { λ r. ⌜ r ≡ placeAt (now (f .entry)) i ⌝ }
+// The place in slot k of the table of bodies.
+fn slot_at(f: &[u64], k: usize) -> Place
+    requires size { ⌜ length (now f) ≡ fieldCount ⌝ }
+    requires slot { ⌜ k < 16 ⌝ }
+    ensures { λ r. ⌜ r ≡ slotAt (now (f .entry)) k ⌝ }
 {
+    let i = 17 + 2 * k;
     Place {
         at: f[i] as usize,
         len: f[i + 1] as usize,
@@ -172,7 +175,7 @@ fn volume_from(f: &[u64]) -> Volume
     Volume {
         drive: f[11] as u32,
         serial: f[12] as u32,
-        label: format::label_of(f[13] == 1, place_at(f, 19)),
+        label: format::label_of(f[13] == 1, slot_at(f, 1)),
     }
 }
 
@@ -185,10 +188,10 @@ fn network_from(f: &[u64]) -> Network
         flags: f[14] as u32,
         provider: f[15] as u32,
         unicode: f[16] == 1,
-        net: place_at(f, 23),
-        device: place_at(f, 25),
-        net_unicode: place_at(f, 27),
-        device_unicode: place_at(f, 29),
+        net: slot_at(f, 3),
+        device: slot_at(f, 4),
+        net_unicode: slot_at(f, 5),
+        device_unicode: slot_at(f, 6),
     }
 }
 
@@ -201,11 +204,11 @@ fn info_from(f: &[u64]) -> Info
         flags: f[9] as u32,
         long: f[10] == 1,
         volume: volume_from(f),
-        local: place_at(f, 21),
+        local: slot_at(f, 2),
         network: network_from(f),
-        suffix: place_at(f, 31),
-        local_unicode: place_at(f, 33),
-        suffix_unicode: place_at(f, 35),
+        suffix: slot_at(f, 7),
+        local_unicode: slot_at(f, 8),
+        suffix_unicode: slot_at(f, 9),
     }
 }
 
@@ -216,13 +219,13 @@ pub fn record_from(f: &[u64]) -> Record
 {
     Record {
         header: header_from(f),
-        items: place_at(f, 17),
+        items: slot_at(f, 0),
         info: info_from(f),
-        name: place_at(f, 37),
-        relative: place_at(f, 39),
-        workdir: place_at(f, 41),
-        arguments: place_at(f, 43),
-        icon: place_at(f, 45),
-        blocks: place_at(f, 47),
+        name: slot_at(f, 10),
+        relative: slot_at(f, 11),
+        workdir: slot_at(f, 12),
+        arguments: slot_at(f, 13),
+        icon: slot_at(f, 14),
+        blocks: slot_at(f, 15),
     }
 }

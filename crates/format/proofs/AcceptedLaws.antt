@@ -15,12 +15,14 @@ use Rattle.format.specs.declared.Verdict.{Verdict}
 use Rattle.format.specs.declared.Verdict.the-variants.{Accepted, Refused}
 use Rattle.format.specs.Tests.{Outcome, got, refused, _else_, tests, andThen}
 use Rattle.format.specs.Shortcut.{Sections, most, sections, shortcut, recordOf, noRecord, verdictOf, heldBy, reading}
-use Rattle.format.specs.Contents.{Contents, present, placed, bodies, allInside, bodiesOf, contents}
+use Rattle.format.specs.Bodies.{placed, bodies, allInside}
+use Rattle.format.specs.Contents.{Contents, present, bodiesOf, contents}
 use Rattle.format.specs.Demands.{Refuses}
 use Rattle.format.proofs.Chains.{passed, got-elim, no-value}
 use Rattle.format.proofs.WholeLaws.{decode}
 use Rattle.format.proofs.PlaceLaws.{mapped, AllIn, all-in}
 use Rattle.format.proofs.ReadingLaws.{decode-is}
+use Rattle.format.proofs.TableLaws.{placed-present}
 use Rattle.format.proofs.FoundLaws.{read-present, read-inside}
 
 pub record Whole (s : List ℕ) (c : Sections) (n : ℕ) : Type 0 where
@@ -92,16 +94,16 @@ module _ (s : List ℕ) (r : Record) (n : ℕ) (e : reading s ≡ record { verdi
 
   -- its bodies lie inside
   pub accepted-inside : placed (length s) r ≡ true
-  unfolding placed
   accepted-inside =
       let x = reads in
       let w = shortcut-whole s (x .sections) n (x .is) in
       let i = read-inside s (x .sections) n (w .read) (omega (arith, w .all)) in
-      ap (λ (q : Record). allInside (length s) (bodies q)) (accepted-present ∙ sym (x .held)) ∙ i
+      placed-present r (length s) ∙ ap (λ (q : Record). allInside (length s) (bodies q)) (accepted-present ∙ sym (x .held)) ∙ i
 
   pub accepted-bodies : AllIn (length s) (bodies r)
-  unfolding placed
-  accepted-bodies = all-in (length s) (bodies r) (ap (λ (q : Record). allInside (length s) (bodies q)) (sym accepted-present) ∙ accepted-inside)
+  accepted-bodies =
+      all-in (length s) (bodies r)
+      (ap (λ (q : Record). allInside (length s) (bodies q)) (sym accepted-present) ∙ sym (placed-present r (length s)) ∙ accepted-inside)
 
   pub accepted-decode : decode s ≡ got (contents s r) n
   unfolding contents

@@ -17,7 +17,8 @@ use Rattle.format.specs.declared.Fault.the-variants.{Cut as CUT, Place a
 use Rattle.format.specs.declared.Verdict.the-variants.{Accepted}
 use Rattle.format.specs.Tests.{Outcome, got, refused}
 use Rattle.format.specs.Shortcut.{Sections, shortcut, recordOf, reading}
-use Rattle.format.specs.Contents.{present, placed, contents, Same}
+use Rattle.format.specs.Bodies.{placed}
+use Rattle.format.specs.Contents.{present, contents, Same}
 use Rattle.format.specs.Ranges.{FitsRecord}
 use Rattle.format.specs.Writing.{endToEnd, canonical, writable, writing}
 use Rattle.format.specs.Listing.{Row, listing, EndToEnd, rowBytes}

@@ -1,7 +1,7 @@
 -- What reading gives: zeros for what is absent, the blocks of a walk, bodies inside the file, and sections end to end.
 use mathlib.Core.Path.{_≡_, refl}
 use mathlib.Core.List.{List, [], _∷_, _++_}
-use mathlib.Core.Bool.{Bool, true, false, _&&_, cond}
+use mathlib.Core.Bool.{Bool, true, false, cond}
 use Prim.Native.Nat.{ℕ, _+_, _-_, _≤_, _<_}
 use native.Mathlib.Omega.{arith}
 use lib.ListN.{length, take, drop, length-take, length-drop}
@@ -16,17 +16,19 @@ use Rattle.format.specs.declared.Info.{Info}
 use Rattle.format.specs.declared.Header.{Header}
 use Rattle.format.specs.declared.Network.{Network}
 use Rattle.format.specs.declared.Fault.the-variants.{Info as INFO}
-use Rattle.format.specs.Tests.{got, bit, place, noPlace, _else_, all, chain}
+use Rattle.format.specs.Tests.{got, place, noPlace, _else_, all, chain}
+use Rattle.format.specs.Presence.{itemsThere, infoThere, nameBit, relativeBit, workdirBit, argumentsBit, iconBit, stringThere, stringsUnicode, providerThere}
 use Rattle.format.specs.Header.{header}
 use Rattle.format.specs.Items.{itemsLength, itemsRules, items}
 use Rattle.format.specs.Pieces.{textEnds, textLength, textPiece, textPlace, pieceOk}
 use Rattle.format.specs.Volume.{labelUnicode, labelOffset, labelOf, noVolume, volumeAt, volumeFields, volumeTests, volumePiece}
-use Rattle.format.specs.Network.{networkFlags, hasDevice, networkUnicode, networkHead, networkAt, networkFields, noNetwork, networkTests, networkPiece}
-use Rattle.format.specs.Info.{infoSize, infoHead, longHead, hasLocal, hasNetwork, infoRules, infoFields, info, noInfo}
+use Rattle.format.specs.Network.{networkFlags, hasDevice, networkUnicode, networkHead, networkAt, networkFields, noNetwork, networkTests, networkPiece, hasDeviceUnicode}
+use Rattle.format.specs.Info.{infoSize, infoHead, longHead, hasLocal, hasNetwork, infoRules, infoFields, info, noInfo, hasLocalUnicode}
 use Rattle.format.specs.Strings.{stringLength, string}
 use Rattle.format.specs.Blocks.{blocks}
 use Rattle.format.specs.Shortcut.{Section, Tail, Sections, blocksOf, found, stringSection, tail, sections, sum, recordOf}
-use Rattle.format.specs.Contents.{presentNetwork, presentInfo, present, labelPlace, bodies, allInside}
+use Rattle.format.specs.Bodies.{labelPlace, bodies, allInside}
+use Rattle.format.specs.Contents.{presentNetwork, presentInfo, present}
 use Rattle.format.specs.Listing.{Row, row, blockRows, rowsOf, EndToEnd}
 use Rattle.format.proofs.Bools.{and-true, choose-twice}
 use Rattle.format.proofs.Chains.{all-pass, tests-elim}
@@ -41,10 +43,10 @@ use Rattle.format.proofs.PlaceLaws.{found-elim, Always, chain-always, t
 network-present : (p : ℕ) (v : List ℕ) → presentNetwork (networkFields p v) ≡ networkFields p v
 network-present p v =
     rw (
-      choose-twice (bit 1 (networkFlags v)) (u32At v 16) 0,
+      choose-twice (providerThere (networkFlags v)) (u32At v 16) 0,
       choose-twice (hasDevice v) (place (p + u32At v 12) (textLength false (drop (u32At v 12) v))) noPlace,
       choose-twice (networkUnicode v) (place (p + u32At v 20) (textLength true (drop (u32At v 20) v))) noPlace,
-      choose-twice (networkUnicode v && hasDevice v) (place (p + u32At v 24) (textLength true (drop (u32At v 24) v))) noPlace,
+      choose-twice (hasDeviceUnicode v) (place (p + u32At v 24) (textLength true (drop (u32At v 24) v))) noPlace,
     )
 
 network-there : (b : Bool) (p : ℕ) (v : List ℕ) → cond b (presentNetwork (cond b (networkFields p v) noNetwork)) noNetwork ≡ cond b (networkFields p v) noNetwork
@@ -57,13 +59,13 @@ info-present p l =
       choose-twice (hasLocal l) (volumeFields (p + u32At l 12) (take (u32At (drop (u32At l 12) l) 0) (drop (u32At l 12) l))) noVolume,
       choose-twice (hasLocal l) (place (p + u32At l 16) (textLength false (drop (u32At l 16) l))) noPlace,
       network-there (hasNetwork l) (p + u32At l 20) (take (u32At (drop (u32At l 20) l) 0) (drop (u32At l 20) l)),
-      choose-twice (longHead l && hasLocal l) (place (p + u32At l 28) (textLength true (drop (u32At l 28) l))) noPlace,
+      choose-twice (hasLocalUnicode l) (place (p + u32At l 28) (textLength true (drop (u32At l 28) l))) noPlace,
       choose-twice (longHead l) (place (p + u32At l 32) (textLength true (drop (u32At l 32) l))) noPlace,
     )
 
 module _ (f : List ℕ) where
-  abbrev string-always : (flags k : ℕ) → Always f (stringSection flags k) (λ c. cond (bit k flags) (c .read) noPlace ≡ c .read)
-  string-always flags k = section-always f (string (bit 7 flags)) (bit k flags) noPlace (λ b. b) (λ p a n e. refl)
+  abbrev string-always : (flags k : ℕ) → Always f (stringSection flags k) (λ c. cond (stringThere k flags) (c .read) noPlace ≡ c .read)
+  string-always flags k = section-always f (string (stringsUnicode flags)) (stringThere k flags) noPlace (λ b. b) (λ p a n e. refl)
 
   -- the blocks are what a walk from their start on gives
   abbrev Walk : Section (List ℕ) → Type 0
@@ -74,19 +76,19 @@ module _ (f : List ℕ) where
 
   abbrev Known : ℕ → Tail → Type 0
   Known flags c =
-      (cond (bit 0 flags) (c .0 .read) noPlace ≡ c .0 .read)
-      × ((cond (bit 1 flags) (presentInfo (c .1 .0 .read)) noInfo ≡ c .1 .0 .read)
-      × ((cond (bit 2 flags) (c .1 .1 .0 .read) noPlace ≡ c .1 .1 .0 .read)
-      × ((cond (bit 3 flags) (c .1 .1 .1 .0 .read) noPlace ≡ c .1 .1 .1 .0 .read)
-      × ((cond (bit 4 flags) (c .1 .1 .1 .1 .0 .read) noPlace ≡ c .1 .1 .1 .1 .0 .read)
-      × ((cond (bit 5 flags) (c .1 .1 .1 .1 .1 .0 .read) noPlace ≡ c .1 .1 .1 .1 .1 .0 .read)
-      × ((cond (bit 6 flags) (c .1 .1 .1 .1 .1 .1 .0 .read) noPlace ≡ c .1 .1 .1 .1 .1 .1 .0 .read)
+      (cond (itemsThere flags) (c .0 .read) noPlace ≡ c .0 .read)
+      × ((cond (infoThere flags) (presentInfo (c .1 .0 .read)) noInfo ≡ c .1 .0 .read)
+      × ((cond (stringThere nameBit flags) (c .1 .1 .0 .read) noPlace ≡ c .1 .1 .0 .read)
+      × ((cond (stringThere relativeBit flags) (c .1 .1 .1 .0 .read) noPlace ≡ c .1 .1 .1 .0 .read)
+      × ((cond (stringThere workdirBit flags) (c .1 .1 .1 .1 .0 .read) noPlace ≡ c .1 .1 .1 .1 .0 .read)
+      × ((cond (stringThere argumentsBit flags) (c .1 .1 .1 .1 .1 .0 .read) noPlace ≡ c .1 .1 .1 .1 .1 .0 .read)
+      × ((cond (stringThere iconBit flags) (c .1 .1 .1 .1 .1 .1 .0 .read) noPlace ≡ c .1 .1 .1 .1 .1 .1 .0 .read)
       × Walk (c .1 .1 .1 .1 .1 .1 .1)))))))
 
   tail-always : (flags : ℕ) → Always f (tail flags) (Known flags)
   tail-always flags =
-      then-always f (section-always f items (bit 0 flags) noPlace (λ b. b) (λ p a n e. refl))
-      (then-always f (section-always f info (bit 1 flags) noInfo presentInfo (λ p a n e.
+      then-always f (section-always f items (itemsThere flags) noPlace (λ b. b) (λ p a n e. refl))
+      (then-always f (section-always f info (infoThere flags) noInfo presentInfo (λ p a n e.
       let s : List ℕ = drop p f in
       tests-elim (λ a n. presentInfo a ≡ a) p (sizedTests 4 infoSize (λ n. leb 0x1C n else INFO ∷ []) infoRules infoValue s)
       (infoFields p (take (infoSize s) s)) (infoSize s) (λ c. info-present p (take (infoSize s) s)) a n e))
@@ -189,7 +191,7 @@ network-inside h p l true o n k e =
       net = text-inside g (p + o) v true false (u32At v 8) n j (d .0);
       device = text-inside g (p + o) v (hasDevice v) false (u32At v 12) n j (d .1 .0);
       netUnicode = text-inside g (p + o) v (networkUnicode v) true (u32At v 20) n j (d .1 .1 .0);
-      deviceUnicode = text-inside g (p + o) v (networkUnicode v && hasDevice v) true (u32At v 24) n j (d .1 .1 .1 .0);
+      deviceUnicode = text-inside g (p + o) v (hasDeviceUnicode v) true (u32At v 24) n j (d .1 .1 .1 .0);
     }
 network-inside h p l false o n k e =
     let z : Inside n noPlace = le-leb (0 + 0) n (omega arith) in
@@ -215,7 +217,7 @@ info-inside f p i n =
     (text-inside h p l (hasLocal l) false (u32At l 16) (p + m) k (d .1 .0))
     (network-inside h p l (hasNetwork l) (u32At l 20) (p + m) k (d .1 .1 .0))
     (text-inside h p l true false (u32At l 24) (p + m) k (d .1 .1 .1 .0))
-    (text-inside h p l (longHead l && hasLocal l) true (u32At l 28) (p + m) k (d .1 .1 .1 .1 .0))
+    (text-inside h p l (hasLocalUnicode l) true (u32At l 28) (p + m) k (d .1 .1 .1 .1 .0))
     (text-inside h p l (longHead l) true (u32At l 32) (p + m) k (d .1 .1 .1 .1 .1 .0)))
     i n
 
@@ -266,7 +268,7 @@ module _ (f : List ℕ) where
       nine n noInfo z z (record { net = z; device = z; netUnicode = z; deviceUnicode = z }) z z z
 
   string-lies : (flags k j : ℕ) → Lies f (stringSection flags k) (row j) (λ c. c .read ∷ [])
-  string-lies flags k j = section-lies f (string (bit 7 flags)) j (λ b. b ∷ []) (bit k flags) noPlace none-inside (string-inside f (bit 7 flags))
+  string-lies flags k j = section-lies f (string (stringsUnicode flags)) j (λ b. b ∷ []) (stringThere k flags) noPlace none-inside (string-inside f (stringsUnicode flags))
 
   abbrev tailRows : Tail → List Row
   tailRows c =
@@ -290,8 +292,8 @@ module _ (f : List ℕ) where
 
   tail-lies : (flags : ℕ) → Lies f (tail flags) tailRows tailBodies
   tail-lies flags =
-      then-lies f (section-lies f items 1 (λ b. b ∷ []) (bit 0 flags) noPlace none-inside (items-inside f))
-      (then-lies f (section-lies f info 2 infoBodies (bit 1 flags) noInfo no-info-inside (info-inside f))
+      then-lies f (section-lies f items 1 (λ b. b ∷ []) (itemsThere flags) noPlace none-inside (items-inside f))
+      (then-lies f (section-lies f info 2 infoBodies (infoThere flags) noInfo no-info-inside (info-inside f))
       (then-lies f (string-lies flags 2 3)
       (then-lies f (string-lies flags 3 4)
       (then-lies f (string-lies flags 4 5)

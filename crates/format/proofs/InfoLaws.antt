@@ -10,11 +10,12 @@ use borrow.Author.Tests.{leb-true, le-leb, lt-leb, eqb-true}
 use Rattle.octets.specs.Numbers.{Bytes, number, numberAt, u32At, little}
 use Rattle.octets.proofs.NumberLaws.{bytes-append, bytes-nil, bytes-little, length-little, number-back, number-little, number-same}
 use Rattle.format.specs.declared.Fault.the-variants.{Info as INFO}
-use Rattle.format.specs.Tests.{_else_, all, bit}
+use Rattle.format.specs.Tests.{_else_, all}
+use Rattle.format.specs.Presence.{localThere, networkThere, localUnicodeThere}
 use Rattle.format.specs.Pieces.{textEnds, textSize, textPiece, span}
 use Rattle.format.specs.Volume.{volumeRules, volumePiece}
 use Rattle.format.specs.Network.{networkRules, networkPiece}
-use Rattle.format.specs.Info.{infoSize, infoHead, longHead, infoFlags, hasLocal, hasNetwork, infoPieces, infoRules}
+use Rattle.format.specs.Info.{infoSize, infoHead, longHead, infoFlags, hasLocal, hasNetwork, infoPieces, infoRules, hasLocalUnicode}
 use Rattle.format.specs.Shortcut.{most}
 use Rattle.format.specs.Contents.{VolumeContents, NetworkContents, InfoContents}
 use Rattle.format.specs.Writing.{textBytes, twoFields, volumeBytes, networkBytes, infoVolumeBytes, localBytes, infoNetworkBytes, suffixBytes, localUnicodeBytes, suffixUnicodeBytes, volumeStart, localStart, networkStart, suffixStart, localUnicodeStart, suffixUnicodeStart, infoLength, infoBytes, writableIf, writableText, writableVolume, writableNetwork, writableInfo}
@@ -62,16 +63,16 @@ infoValue l = record {
   local = text false (hasLocal l) l (u32At l 16);
   network = slot networkWhole structSize networkHere (hasNetwork l) noNetworkC l (u32At l 20);
   suffix = text false true l (u32At l 24);
-  localUnicode = text true (longHead l && hasLocal l) l (u32At l 28);
+  localUnicode = text true (hasLocalUnicode l) l (u32At l 28);
   suffixUnicode = text true (longHead l) l (u32At l 32);
 }
 
 pub record InfoT (i : InfoContents) : Type 0 where
-  pub volume : IfThere (bit 0 (i .flags)) noVolumeC VolumeT (i .volume)
-  pub local : IfThere (bit 0 (i .flags)) [] Bytes (i .local)
-  pub network : IfThere (bit 1 (i .flags)) noNetworkC NetworkT (i .network)
+  pub volume : IfThere (localThere (i .flags)) noVolumeC VolumeT (i .volume)
+  pub local : IfThere (localThere (i .flags)) [] Bytes (i .local)
+  pub network : IfThere (networkThere (i .flags)) noNetworkC NetworkT (i .network)
   pub suffix : Bytes (i .suffix)
-  pub localUnicode : IfThere (i .long && bit 0 (i .flags)) [] Bytes (i .localUnicode)
+  pub localUnicode : IfThere (localUnicodeThere (i .long) (i .flags)) [] Bytes (i .localUnicode)
   pub suffixUnicode : IfThere (i .long) [] Bytes (i .suffixUnicode)
 
 abbrev pub InfoV : InfoContents → Type 0
@@ -80,11 +81,11 @@ InfoV = Ok InfoT writableInfo
 abbrev cans : InfoContents → List Bool
 cans i =
     leb (i .flags) 3
-    ∷ writableIf (bit 0 (i .flags)) writableVolume (i .volume)
-    ∷ writableIf (bit 0 (i .flags)) (writableText false) (i .local)
-    ∷ writableIf (bit 1 (i .flags)) writableNetwork (i .network)
+    ∷ writableIf (localThere (i .flags)) writableVolume (i .volume)
+    ∷ writableIf (localThere (i .flags)) (writableText false) (i .local)
+    ∷ writableIf (networkThere (i .flags)) writableNetwork (i .network)
     ∷ writableText false (i .suffix)
-    ∷ writableIf (i .long && bit 0 (i .flags)) (writableText true) (i .localUnicode)
+    ∷ writableIf (localUnicodeThere (i .long) (i .flags)) (writableText true) (i .localUnicode)
     ∷ writableIf (i .long) (writableText true) (i .suffixUnicode)
     ∷ []
 
@@ -119,8 +120,8 @@ info-fits l bs k c =
     let s₃ : SlotFits networkWhole structSize networkHere (hasNetwork l) noNetworkC networkBytes NetworkV h l (u32At l 20)
     = slot-fits _ _ _ network-law (hasNetwork l) noNetworkC h l (u32At l 20) bs (d .1 .1 .0) in
     let s₄ : TextFits false true l (u32At l 24) = slot-fits _ _ _ (text-law false) true [] h l (u32At l 24) bs (d .1 .1 .1 .0) in
-    let s₅ : TextFits true (longHead l && hasLocal l) l (u32At l 28)
-    = slot-fits _ _ _ (text-law true) (longHead l && hasLocal l) [] h l (u32At l 28) bs (d .1 .1 .1 .1 .0) in
+    let s₅ : TextFits true (hasLocalUnicode l) l (u32At l 28)
+    = slot-fits _ _ _ (text-law true) (hasLocalUnicode l) [] h l (u32At l 28) bs (d .1 .1 .1 .1 .0) in
     let s₆ : TextFits true (longHead l) l (u32At l 32) = slot-fits _ _ _ (text-law true) (longHead l) [] h l (u32At l 32) bs (d .1 .1 .1 .1 .1 .0) in
     let p : h + total (map span (infoPieces l)) ≤ length l
     = pack h (length l) (map span (infoPieces l)) (q .1) (s₁ .within, (s₂ .within, (s₃ .within, (s₄ .within, (s₅ .within, (s₆ .within, tt))))))
@@ -128,7 +129,7 @@ info-fits l bs k c =
     let v₁ = there-ok VolumeT writableVolume (hasLocal l) noVolumeC (infoValue l .volume) (s₁ .valid) in
     let v₂ = there-ok Bytes (writableText false) (hasLocal l) [] (infoValue l .local) (s₂ .valid) in
     let v₃ = there-ok NetworkT writableNetwork (hasNetwork l) noNetworkC (infoValue l .network) (s₃ .valid) in
-    let v₅ = there-ok Bytes (writableText true) (longHead l && hasLocal l) [] (infoValue l .localUnicode) (s₅ .valid) in
+    let v₅ = there-ok Bytes (writableText true) (hasLocalUnicode l) [] (infoValue l .localUnicode) (s₅ .valid) in
     let v₆ = there-ok Bytes (writableText true) (longHead l) [] (infoValue l .suffixUnicode) (s₆ .valid) in
     record {
       valid = record {
@@ -181,17 +182,17 @@ module _ (i : InfoContents) (v : InfoV i) (m : length (infoBytes i) ≤ most) wh
   unfolding infoBytes little numberAt number
   at8 = number-little 4 (i .flags) (omega (arith, leb-true (i .flags) 3 (can .0)))
 
-  at12 : u32At (infoBytes i) 12 ≡ cond (bit 0 (i .flags)) (volumeStart i) 0
+  at12 : u32At (infoBytes i) 12 ≡ cond (localThere (i .flags)) (volumeStart i) 0
   unfolding infoBytes little numberAt number
-  at12 = field-is (bit 0 (i .flags)) (volumeStart i) (omega (arith, limit))
+  at12 = field-is (localThere (i .flags)) (volumeStart i) (omega (arith, limit))
 
-  at16 : u32At (infoBytes i) 16 ≡ cond (bit 0 (i .flags)) (localStart i) 0
+  at16 : u32At (infoBytes i) 16 ≡ cond (localThere (i .flags)) (localStart i) 0
   unfolding infoBytes little numberAt number
-  at16 = field-is (bit 0 (i .flags)) (localStart i) (omega (arith, limit))
+  at16 = field-is (localThere (i .flags)) (localStart i) (omega (arith, limit))
 
-  at20 : u32At (infoBytes i) 20 ≡ cond (bit 1 (i .flags)) (networkStart i) 0
+  at20 : u32At (infoBytes i) 20 ≡ cond (networkThere (i .flags)) (networkStart i) 0
   unfolding infoBytes little numberAt number
-  at20 = field-is (bit 1 (i .flags)) (networkStart i) (omega (arith, limit))
+  at20 = field-is (networkThere (i .flags)) (networkStart i) (omega (arith, limit))
 
   at24 : u32At (infoBytes i) 24 ≡ suffixStart i
   unfolding infoBytes little numberAt number
@@ -201,15 +202,15 @@ module _ (i : InfoContents) (v : InfoV i) (m : length (infoBytes i) ≤ most) wh
   pieces =
       infoVolumeBytes i ++ (localBytes i ++ (infoNetworkBytes i ++ (suffixBytes i ++ (localUnicodeBytes i ++ (suffixUnicodeBytes i ++ [])))))
 
-  at28 : cond (i .long) (u32At (infoBytes i) 28) 0 ≡ cond (i .long) (cond (bit 0 (i .flags)) (localUnicodeStart i) 0) 0
+  at28 : cond (i .long) (u32At (infoBytes i) 28) 0 ≡ cond (i .long) (cond (localThere (i .flags)) (localUnicodeStart i) 0) 0
   unfolding infoBytes little numberAt number pieces
   at28 =
-      first-field (i .long) (cond (bit 0 (i .flags)) (localUnicodeStart i) 0) (suffixUnicodeStart i) pieces
-      (choose-below (bit 0 (i .flags)) (localUnicodeStart i) (omega (arith, limit)))
+      first-field (i .long) (cond (localThere (i .flags)) (localUnicodeStart i) 0) (suffixUnicodeStart i) pieces
+      (choose-below (localThere (i .flags)) (localUnicodeStart i) (omega (arith, limit)))
 
   at32 : cond (i .long) (u32At (infoBytes i) 32) 0 ≡ cond (i .long) (suffixUnicodeStart i) 0
   unfolding infoBytes little numberAt number pieces
-  at32 = second-field (i .long) (cond (bit 0 (i .flags)) (localUnicodeStart i) 0) (suffixUnicodeStart i) pieces (omega (arith, limit))
+  at32 = second-field (i .long) (cond (localThere (i .flags)) (localUnicodeStart i) 0) (suffixUnicodeStart i) pieces (omega (arith, limit))
 
   is-long : longHead (infoBytes i) ≡ i .long
   is-long = rw at4 (long-is (i .long))
@@ -237,36 +238,36 @@ module _ (i : InfoContents) (v : InfoV i) (m : length (infoBytes i) ≤ most) wh
   abbrev TextBack : Bool → Bool → ℕ → ℕ → List ℕ → Type 0
   TextBack u b o a x = SlotBack (textEnds u) (textSize u) (textValue u) b [] (textBytes u) (volumeStart i) (infoBytes i) o a x
 
-  b₁ : SlotBack volumeWhole structSize volumeHere (bit 0 (i .flags)) noVolumeC volumeBytes (volumeStart i) (infoBytes i)
-      (cond (bit 0 (i .flags)) (volumeStart i) 0) (volumeStart i) (i .volume)
+  b₁ : SlotBack volumeWhole structSize volumeHere (localThere (i .flags)) noVolumeC volumeBytes (volumeStart i) (infoBytes i)
+      (cond (localThere (i .flags)) (volumeStart i) 0) (volumeStart i) (i .volume)
   b₁ =
       slot-back _ _ _ volume-law _ noVolumeC _ (infoBytes i) _ _ (volumeStart i) (i .volume)
-      (ok-there VolumeT writableVolume (bit 0 (i .flags)) noVolumeC (i .volume) (v .typed .volume) (can .1 .0))
-      (omega (arith, limit)) (omega arith) (choose-twice (bit 0 (i .flags)) (volumeStart i) 0) d₁
+      (ok-there VolumeT writableVolume (localThere (i .flags)) noVolumeC (i .volume) (v .typed .volume) (can .1 .0))
+      (omega (arith, limit)) (omega arith) (choose-twice (localThere (i .flags)) (volumeStart i) 0) d₁
 
-  b₂ : TextBack false (bit 0 (i .flags)) (cond (bit 0 (i .flags)) (localStart i) 0) (localStart i) (i .local)
+  b₂ : TextBack false (localThere (i .flags)) (cond (localThere (i .flags)) (localStart i) 0) (localStart i) (i .local)
   b₂ =
       slot-back _ _ _ (text-law false) _ [] _ (infoBytes i) _ _ (localStart i) (i .local)
-      (ok-there Bytes (writableText false) (bit 0 (i .flags)) [] (i .local) (v .typed .local) (can .1 .1 .0))
-      (omega (arith, limit)) (omega arith) (choose-twice (bit 0 (i .flags)) (localStart i) 0) d₂
+      (ok-there Bytes (writableText false) (localThere (i .flags)) [] (i .local) (v .typed .local) (can .1 .1 .0))
+      (omega (arith, limit)) (omega arith) (choose-twice (localThere (i .flags)) (localStart i) 0) d₂
 
-  b₃ : SlotBack networkWhole structSize networkHere (bit 1 (i .flags)) noNetworkC networkBytes (volumeStart i) (infoBytes i)
-      (cond (bit 1 (i .flags)) (networkStart i) 0) (networkStart i) (i .network)
+  b₃ : SlotBack networkWhole structSize networkHere (networkThere (i .flags)) noNetworkC networkBytes (volumeStart i) (infoBytes i)
+      (cond (networkThere (i .flags)) (networkStart i) 0) (networkStart i) (i .network)
   b₃ =
       slot-back _ _ _ network-law _ noNetworkC _ (infoBytes i) _ _ (networkStart i) (i .network)
-      (ok-there NetworkT writableNetwork (bit 1 (i .flags)) noNetworkC (i .network) (v .typed .network) (can .1 .1 .1 .0))
-      (omega (arith, limit)) (omega arith) (choose-twice (bit 1 (i .flags)) (networkStart i) 0) d₃
+      (ok-there NetworkT writableNetwork (networkThere (i .flags)) noNetworkC (i .network) (v .typed .network) (can .1 .1 .1 .0))
+      (omega (arith, limit)) (omega arith) (choose-twice (networkThere (i .flags)) (networkStart i) 0) d₃
 
   b₄ : TextBack false true (suffixStart i) (suffixStart i) (i .suffix)
   b₄ =
       slot-back _ _ _ (text-law false) true [] _ (infoBytes i) _ (suffixStart i) (suffixStart i) (i .suffix)
       (record { typed = v .typed .suffix; can = can .1 .1 .1 .1 .0 }) (omega (arith, limit)) (omega arith) refl d₄
 
-  b₅ : TextBack true (i .long && bit 0 (i .flags)) (u32At (infoBytes i) 28) (localUnicodeStart i) (i .localUnicode)
+  b₅ : TextBack true (localUnicodeThere (i .long) (i .flags)) (u32At (infoBytes i) 28) (localUnicodeStart i) (i .localUnicode)
   b₅ =
       slot-back _ _ _ (text-law true) _ [] _ (infoBytes i) _ _ (localUnicodeStart i) (i .localUnicode)
-      (ok-there Bytes (writableText true) (i .long && bit 0 (i .flags)) [] (i .localUnicode) (v .typed .localUnicode) (can .1 .1 .1 .1 .1 .0))
-      (omega (arith, limit)) (omega arith) (both-there (i .long) (bit 0 (i .flags)) (u32At (infoBytes i) 28) (localUnicodeStart i) at28) d₅
+      (ok-there Bytes (writableText true) (localUnicodeThere (i .long) (i .flags)) [] (i .localUnicode) (v .typed .localUnicode) (can .1 .1 .1 .1 .1 .0))
+      (omega (arith, limit)) (omega arith) (both-there (i .long) (localThere (i .flags)) (u32At (infoBytes i) 28) (localUnicodeStart i) at28) d₅
 
   b₆ : TextBack true (i .long) (u32At (infoBytes i) 32) (suffixUnicodeStart i) (i .suffixUnicode)
   b₆ =
@@ -275,19 +276,19 @@ module _ (i : InfoContents) (v : InfoV i) (m : length (infoBytes i) ≤ most) wh
       (omega (arith, limit)) (omega arith) at32 d₆
 
   in-order : Ordered (volumeStart i)
-      (span (volumePiece (bit 0 (i .flags)) (infoBytes i) (cond (bit 0 (i .flags)) (volumeStart i) 0))
-      ∷ span (textPiece (bit 0 (i .flags)) false (infoBytes i) (cond (bit 0 (i .flags)) (localStart i) 0))
-      ∷ span (networkPiece (bit 1 (i .flags)) (infoBytes i) (cond (bit 1 (i .flags)) (networkStart i) 0))
+      (span (volumePiece (localThere (i .flags)) (infoBytes i) (cond (localThere (i .flags)) (volumeStart i) 0))
+      ∷ span (textPiece (localThere (i .flags)) false (infoBytes i) (cond (localThere (i .flags)) (localStart i) 0))
+      ∷ span (networkPiece (networkThere (i .flags)) (infoBytes i) (cond (networkThere (i .flags)) (networkStart i) 0))
       ∷ span (textPiece true false (infoBytes i) (suffixStart i))
-      ∷ span (textPiece (i .long && bit 0 (i .flags)) true (infoBytes i) (u32At (infoBytes i) 28))
+      ∷ span (textPiece (localUnicodeThere (i .long) (i .flags)) true (infoBytes i) (u32At (infoBytes i) 28))
       ∷ span (textPiece (i .long) true (infoBytes i) (u32At (infoBytes i) 32))
       ∷ [])
   in-order =
-      spans-ordered (bit 0 (i .flags)) _ _ _ _ (b₁ .spans) (absent-empty (bit 0 (i .flags)) volumeBytes (i .volume))
-      (spans-ordered (bit 0 (i .flags)) _ _ _ _ (b₂ .spans) (absent-empty (bit 0 (i .flags)) (textBytes false) (i .local))
-      (spans-ordered (bit 1 (i .flags)) _ _ _ _ (b₃ .spans) (absent-empty (bit 1 (i .flags)) networkBytes (i .network))
+      spans-ordered (localThere (i .flags)) _ _ _ _ (b₁ .spans) (absent-empty (localThere (i .flags)) volumeBytes (i .volume))
+      (spans-ordered (localThere (i .flags)) _ _ _ _ (b₂ .spans) (absent-empty (localThere (i .flags)) (textBytes false) (i .local))
+      (spans-ordered (networkThere (i .flags)) _ _ _ _ (b₃ .spans) (absent-empty (networkThere (i .flags)) networkBytes (i .network))
       (spans-ordered true _ _ _ _ (b₄ .spans) (absent-empty true (textBytes false) (i .suffix))
-      (spans-ordered (i .long && bit 0 (i .flags)) _ _ _ _ (b₅ .spans) (absent-empty (i .long && bit 0 (i .flags)) (textBytes true) (i .localUnicode))
+      (spans-ordered (localUnicodeThere (i .long) (i .flags)) _ _ _ _ (b₅ .spans) (absent-empty (localUnicodeThere (i .long) (i .flags)) (textBytes true) (i .localUnicode))
       (spans-ordered (i .long) _ _ _ _ (b₆ .spans) (absent-empty (i .long) (textBytes true) (i .suffixUnicode)) end)))))
 
   info-judged : Pass (infoRules (infoBytes i))
@@ -297,13 +298,13 @@ module _ (i : InfoContents) (v : InfoV i) (m : length (infoBytes i) ≤ most) wh
         (
           can .0,
           (
-            zero-absent (bit 0 (i .flags)) (volumeStart i),
+            zero-absent (localThere (i .flags)) (volumeStart i),
             (
-              zero-absent (bit 0 (i .flags)) (localStart i),
+              zero-absent (localThere (i .flags)) (localStart i),
               (
-                zero-absent (bit 1 (i .flags)) (networkStart i),
+                zero-absent (networkThere (i .flags)) (networkStart i),
                 (
-                  zero-either (i .long) (bit 0 (i .flags)) (u32At (infoBytes i) 28) (localUnicodeStart i) at28,
+                  zero-either (i .long) (localThere (i .flags)) (u32At (infoBytes i) 28) (localUnicodeStart i) at28,
                   (b₁ .good, (b₂ .good, (b₃ .good, (b₄ .good, (b₅ .good, (b₆ .good, (ordered-apart in-order, tt))))))),
                 ),
               ),
@@ -325,13 +326,13 @@ unfolding infoBytes
 info-bytes i v =
     let can = every-out (cans i) (v .can) in
     let t = v .typed in
-    let s₁ = slot-bytes _ _ _ volume-law (bit 0 (i .flags)) noVolumeC (i .volume) (ok-there VolumeT writableVolume (bit 0 (i .flags)) noVolumeC (i .volume) (t .volume) (can .1 .0)) in
-    let s₂ = slot-bytes _ _ _ (text-law false) (bit 0 (i .flags)) [] (i .local) (ok-there Bytes (writableText false) (bit 0 (i .flags)) [] (i .local) (t .local) (can .1 .1 .0)) in
-    let s₃ = slot-bytes _ _ _ network-law (bit 1 (i .flags)) noNetworkC (i .network)
-    (ok-there NetworkT writableNetwork (bit 1 (i .flags)) noNetworkC (i .network) (t .network) (can .1 .1 .1 .0)) in
+    let s₁ = slot-bytes _ _ _ volume-law (localThere (i .flags)) noVolumeC (i .volume) (ok-there VolumeT writableVolume (localThere (i .flags)) noVolumeC (i .volume) (t .volume) (can .1 .0)) in
+    let s₂ = slot-bytes _ _ _ (text-law false) (localThere (i .flags)) [] (i .local) (ok-there Bytes (writableText false) (localThere (i .flags)) [] (i .local) (t .local) (can .1 .1 .0)) in
+    let s₃ = slot-bytes _ _ _ network-law (networkThere (i .flags)) noNetworkC (i .network)
+    (ok-there NetworkT writableNetwork (networkThere (i .flags)) noNetworkC (i .network) (t .network) (can .1 .1 .1 .0)) in
     let s₄ = text-law false .bytes (i .suffix) (record { typed = t .suffix; can = can .1 .1 .1 .1 .0 }) in
-    let s₅ = slot-bytes _ _ _ (text-law true) (i .long && bit 0 (i .flags)) [] (i .localUnicode)
-    (ok-there Bytes (writableText true) (i .long && bit 0 (i .flags)) [] (i .localUnicode) (t .localUnicode) (can .1 .1 .1 .1 .1 .0)) in
+    let s₅ = slot-bytes _ _ _ (text-law true) (localUnicodeThere (i .long) (i .flags)) [] (i .localUnicode)
+    (ok-there Bytes (writableText true) (localUnicodeThere (i .long) (i .flags)) [] (i .localUnicode) (t .localUnicode) (can .1 .1 .1 .1 .1 .0)) in
     let s₆ = slot-bytes _ _ _ (text-law true) (i .long) [] (i .suffixUnicode)
     (ok-there Bytes (writableText true) (i .long) [] (i .suffixUnicode) (t .suffixUnicode) (can .1 .1 .1 .1 .1 .1 .0)) in
     search (bytes-append, bytes-little, bytes-nil, bytes-two) depth 20

@@ -16,6 +16,7 @@ use Rattle.format.specs.declared.Fault.{Fault}
 use Rattle.format.specs.declared.Fault.the-variants.{Cut as CUT, Room as ROOM}
 use Rattle.format.specs.declared.Verdict.the-variants.{Accepted, Refused}
 use Rattle.format.specs.Tests.{Outcome, got, refused, bit}
+use Rattle.format.specs.Presence.{workdirBit, argumentsBit, stringThere, stringsUnicode}
 use Rattle.format.specs.Shortcut.{Sections, shortcut, verdictOf}
 use Rattle.format.specs.Contents.{bytesAt}
 use Rattle.format.specs.Writing.{outputOf}
@@ -85,10 +86,10 @@ inCharacters u (somePart x) = somePart (characters u x)
 
 -- what the record says of the key
 pub record Tells (s : List ℕ) (r : Record) : Type 0 where
-  pub unicode : keyIn s .unicode ≡ bit 7 (r .header .flags)
+  pub unicode : keyIn s .unicode ≡ stringsUnicode (r .header .flags)
   pub target : keyIn s .target ≡ partIf (hasTarget r) (targetText s r)
-  pub arguments : keyIn s .arguments ≡ partIf (bit 5 (r .header .flags)) (bytesAt s (r .arguments))
-  pub workdir : keyIn s .workdir ≡ partIf (bit 4 (r .header .flags)) (bytesAt s (r .workdir))
+  pub arguments : keyIn s .arguments ≡ partIf (stringThere argumentsBit (r .header .flags)) (bytesAt s (r .arguments))
+  pub workdir : keyIn s .workdir ≡ partIf (stringThere workdirBit (r .header .flags)) (bytesAt s (r .workdir))
 
 pub record-tells : (s : List ℕ) (r : Record) → Accepts s r → Tells s r
 unfolding Accepts keyIn keyOf
@@ -109,12 +110,12 @@ other-arguments s t out other r q n m a b differ e f same =
     let p = (same-key s t out other n m e f) .0 same in
     let k = record-tells s r a in
     let l = record-tells t q b in
-    let u : bit 7 (r .header .flags) ≡ bit 7 (q .header .flags) = sym (k .unicode) ∙ p .unicode ∙ l .unicode in
+    let u : stringsUnicode (r .header .flags) ≡ stringsUnicode (q .header .flags) = sym (k .unicode) ∙ p .unicode ∙ l .unicode in
     let w = sym (k .arguments) ∙ p .arguments ∙ l .arguments in
     differ
-    (read-as (bit 7 (r .header .flags)) (bit 5 (r .header .flags)) (bytesAt s (r .arguments))
-    ∙ ap (inCharacters (bit 7 (r .header .flags))) w
-    ∙ rw (← u) (sym (read-as (bit 7 (r .header .flags)) (bit 5 (q .header .flags)) (bytesAt t (q .arguments)))))
+    (read-as (stringsUnicode (r .header .flags)) (stringThere argumentsBit (r .header .flags)) (bytesAt s (r .arguments))
+    ∙ ap (inCharacters (stringsUnicode (r .header .flags))) w
+    ∙ rw (← u) (sym (read-as (stringsUnicode (r .header .flags)) (stringThere argumentsBit (q .header .flags)) (bytesAt t (q .arguments)))))
   where
     read-as : (u b : Bool) (x : List ℕ) → partIf b (characters u x) ≡ inCharacters u (partIf b x)
     read-as u true x = refl

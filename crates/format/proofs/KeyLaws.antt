@@ -12,6 +12,7 @@ use Rattle.octets.specs.Numbers.{number, little}
 use Rattle.octets.proofs.NumberLaws.{length-little, number-little}
 use Rattle.octets.specs.Characters.{beforeZero}
 use Rattle.format.specs.Tests.{got, bit, oneOr0}
+use Rattle.format.specs.Presence.{workdirBit, argumentsBit, stringThere}
 use Rattle.format.specs.Blocks.{firstPlace}
 use Rattle.format.specs.Shortcut.{most, Sections, blocksOf, shortcut, recordOf}
 use Rattle.format.specs.Contents.{bytesAt}
@@ -115,8 +116,8 @@ key-fits s c h =
     let text = drop 8 (bytesAt s b) in
     record {
       target = if-fits (hasTarget r) (targetText s r) (omega (arith, text-small s r));
-      arguments = if-fits (bit 5 (r .header .flags)) (bytesAt s (r .arguments)) (omega (arith, body-small s (r .arguments)));
-      workdir = if-fits (bit 4 (r .header .flags)) (bytesAt s (r .workdir)) (omega (arith, body-small s (r .workdir)));
+      arguments = if-fits (stringThere argumentsBit (r .header .flags)) (bytesAt s (r .arguments)) (omega (arith, body-small s (r .arguments)));
+      workdir = if-fits (stringThere workdirBit (r .header .flags)) (bytesAt s (r .workdir)) (omega (arith, body-small s (r .workdir)));
       environment = if-fits (leb 1 (b .len)) (blockText s b) (omega (arith, body-small s b, length-drop 8 (bytesAt s b), length-take (beforeZero text) text));
     }
 

@@ -15,10 +15,11 @@ use Rattle.format.specs.declared.Place.{Place}
 use Rattle.format.specs.declared.Record.{Record}
 use Rattle.format.specs.declared.Verdict.the-variants.{Accepted}
 use Rattle.format.specs.Tests.{got, bit, place}
+use Rattle.format.specs.Presence.{infoThere, workdirBit, argumentsBit, stringThere, stringsUnicode, localThere, networkThere}
 use Rattle.format.specs.Blocks.{blocks, firstPlace}
 use Rattle.format.specs.Shortcut.{blocksOf, sum, recordOf}
 use Rattle.format.specs.Contents.{InfoContents, Contents, bytesAt, bodiesOf, contents}
-use Rattle.format.specs.Writing.{ifThere, textBytes, networkBytes, infoBytes, stringBytes, stringThere, canonical}
+use Rattle.format.specs.Writing.{ifThere, textBytes, networkBytes, infoBytes, stringBytes, stringPart, canonical}
 use Rattle.format.specs.Demands.{Accepts}
 use Rattle.format.specs.Target.{targeted, hasTarget, separator, joined, targetText}
 use Rattle.format.specs.Key.{Part, noPart, somePart, partIf, Key, blockText, environment, keyOf, partBytes, keyBytes, key, keyAnswer, keyBy, keyIn}
@@ -36,18 +37,18 @@ use Rattle.format.proofs.KeyDemands.{record-tells}
 
 -- what stands before the suffix
 abbrev firstBytes : InfoContents → List ℕ
-firstBytes i = cond (bit 0 (i .flags)) (i .local) (i .network .net)
+firstBytes i = cond (localThere (i .flags)) (i .local) (i .network .net)
 
 abbrev wholeText : InfoContents → List ℕ
 wholeText i = joined (firstBytes i) (i .suffix)
 
 abbrev pub keyFrom : Contents → Part → Key
 keyFrom c e = record {
-  unicode = bit 7 (c .header .flags);
+  unicode = stringsUnicode (c .header .flags);
   target =
       partIf (targeted (c .header .flags) (c .info .flags)) (wholeText (c .info));
-  arguments = partIf (bit 5 (c .header .flags)) (c .arguments);
-  workdir = partIf (bit 4 (c .header .flags)) (c .workdir);
+  arguments = partIf (stringThere argumentsBit (c .header .flags)) (c .arguments);
+  workdir = partIf (stringThere workdirBit (c .header .flags)) (c .workdir);
   environment = e;
 }
 
@@ -115,11 +116,11 @@ string-few true u x = simp length-append (omega arith)
 string-few false u x = omega arith
 
 -- LinkInfo holds both texts, and the suffix's terminator has room for the separator
-text-few : (i : InfoContents) → (bit 0 (i .flags) || bit 1 (i .flags)) ≡ true → length (wholeText i) ≤ length (infoBytes i)
+text-few : (i : InfoContents) → (localThere (i .flags) || networkThere (i .flags)) ≡ true → length (wholeText i) ≤ length (infoBytes i)
 text-few i e =
     let first = firstBytes i in
     let between = separator first (i .suffix) in
-    let h = go (bit 0 (i .flags)) (bit 1 (i .flags)) e in
+    let h = go (localThere (i .flags)) (networkThere (i .flags)) e in
     omega (
       arith,
       length-append first (between ++ i .suffix),
@@ -136,10 +137,10 @@ text-few i e =
     go false false e = no-true e
 
 target-few : (a b : Bool) (i : InfoContents)
-    → bytesIn (partIf (a && b && (bit 0 (i .flags) || bit 1 (i .flags))) (wholeText i)) ≤ length (ifThere b infoBytes i)
-target-few true true i = go (bit 0 (i .flags) || bit 1 (i .flags)) refl
+    → bytesIn (partIf (a && b && (localThere (i .flags) || networkThere (i .flags))) (wholeText i)) ≤ length (ifThere b infoBytes i)
+target-few true true i = go (localThere (i .flags) || networkThere (i .flags)) refl
   where
-    go : (d : Bool) → (bit 0 (i .flags) || bit 1 (i .flags)) ≡ d → bytesIn (partIf d (wholeText i)) ≤ length (infoBytes i)
+    go : (d : Bool) → (localThere (i .flags) || networkThere (i .flags)) ≡ d → bytesIn (partIf d (wholeText i)) ≤ length (infoBytes i)
     go true e = text-few i e
     go false e = omega arith
 target-few true false i = omega arith
@@ -171,7 +172,7 @@ environment-few s p lengths =
 
 -- what holds the parts, after a header that is longer than all else in a key
 held-few : (c : Contents)
-    → 76 + length (ifThere (bit 1 (c .header .flags)) infoBytes (c .info)) + length (stringThere c 4 (c .workdir)) + length (stringThere c 5 (c .arguments)) + length (c .blocks)
+    → 76 + length (ifThere (infoThere (c .header .flags)) infoBytes (c .info)) + length (stringPart c 4 (c .workdir)) + length (stringPart c 5 (c .arguments)) + length (c .blocks)
     ≤ length (canonical c)
 unfolding canonical
 held-few c = simp (length-append, length-little) (omega arith)
@@ -182,9 +183,9 @@ key-few c e h =
     omega (
       arith,
       length-key (keyFrom c e),
-      target-few (not (bit 8 f)) (bit 1 f) (c .info),
-      string-few (bit 5 f) (bit 7 f) (c .arguments),
-      string-few (bit 4 f) (bit 7 f) (c .workdir),
+      target-few (not (bit 8 f)) (infoThere f) (c .info),
+      string-few (stringThere argumentsBit f) (stringsUnicode f) (c .arguments),
+      string-few (stringThere workdirBit f) (stringsUnicode f) (c .workdir),
       held-few c,
     )
 

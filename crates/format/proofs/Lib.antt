@@ -20,6 +20,7 @@ pub mod FoundLaws
 pub mod TypedLaws
 pub mod AcceptedLaws
 pub mod BodyLaws
+pub mod TableLaws
 pub mod TargetLaws
 pub mod KeyLaws
 pub mod KeyRows

@@ -1,7 +1,7 @@
 -- The laws of the network link.
 use mathlib.Core.Path.{_≡_, refl, sym, _∙_}
 use mathlib.Core.List.{List, [], _∷_, _++_, map}
-use mathlib.Core.Bool.{Bool, true, false, not, _&&_, cond}
+use mathlib.Core.Bool.{Bool, true, false, not, cond}
 use Prim.Native.Nat.{ℕ, _+_, _≤_, _<_, _^_}
 use native.Mathlib.Omega.{arith}
 use lib.ListN.{length, take, drop, length-append}
@@ -9,9 +9,10 @@ use lib.Dec.{leb, ltb}
 use borrow.Author.Tests.{leb-true, le-leb}
 use Rattle.octets.specs.Numbers.{Bytes, number, numberAt, u32At, little}
 use Rattle.octets.proofs.NumberLaws.{bytes-append, bytes-nil, bytes-little, length-little, number-back, number-little, number-below}
-use Rattle.format.specs.Tests.{all, bit}
+use Rattle.format.specs.Tests.{all}
+use Rattle.format.specs.Presence.{deviceThere, providerThere, deviceUnicodeThere}
 use Rattle.format.specs.Pieces.{textEnds, textSize, textPiece, span}
-use Rattle.format.specs.Network.{networkFlags, hasDevice, networkUnicode, networkHead, networkPieces, networkRules}
+use Rattle.format.specs.Network.{networkFlags, hasDevice, networkUnicode, networkHead, networkPieces, networkRules, hasDeviceUnicode}
 use Rattle.format.specs.Shortcut.{most}
 use Rattle.format.specs.Contents.{NetworkContents}
 use Rattle.format.specs.Writing.{textBytes, twoFields, netBytes, deviceBytes, netUnicodeBytes, deviceUnicodeBytes, netStart, deviceStart, netUnicodeStart, deviceUnicodeStart, networkLength, networkBytes, writableIf, writableText, writableNetwork}
@@ -29,21 +30,21 @@ text u b l o = slot (textEnds u) (textSize u) (textValue u) b [] l o
 abbrev pub networkValue : List ℕ → NetworkContents
 networkValue l = record {
   flags = networkFlags l;
-  provider = cond (bit 1 (networkFlags l)) (u32At l 16) 0;
+  provider = cond (providerThere (networkFlags l)) (u32At l 16) 0;
   unicode = networkUnicode l;
   net = text false true l (u32At l 8);
   device = text false (hasDevice l) l (u32At l 12);
   netUnicode = text true (networkUnicode l) l (u32At l 20);
-  deviceUnicode = text true (networkUnicode l && hasDevice l) l (u32At l 24);
+  deviceUnicode = text true (hasDeviceUnicode l) l (u32At l 24);
 }
 
 pub record NetworkT (n : NetworkContents) : Type 0 where
   pub provider : n .provider < 2 ^ 32
-  pub kept : cond (bit 1 (n .flags)) (n .provider) 0 ≡ n .provider
+  pub kept : cond (providerThere (n .flags)) (n .provider) 0 ≡ n .provider
   pub net : Bytes (n .net)
-  pub device : IfThere (bit 0 (n .flags)) [] Bytes (n .device)
+  pub device : IfThere (deviceThere (n .flags)) [] Bytes (n .device)
   pub netUnicode : IfThere (n .unicode) [] Bytes (n .netUnicode)
-  pub deviceUnicode : IfThere (n .unicode && bit 0 (n .flags)) [] Bytes (n .deviceUnicode)
+  pub deviceUnicode : IfThere (deviceUnicodeThere (n .unicode) (n .flags)) [] Bytes (n .deviceUnicode)
 
 abbrev pub NetworkV : NetworkContents → Type 0
 NetworkV = Ok NetworkT writableNetwork
@@ -70,9 +71,9 @@ abbrev cans : NetworkContents → List Bool
 cans n =
     leb (n .flags) 3
     ∷ writableText false (n .net)
-    ∷ writableIf (bit 0 (n .flags)) (writableText false) (n .device)
+    ∷ writableIf (deviceThere (n .flags)) (writableText false) (n .device)
     ∷ writableIf (n .unicode) (writableText true) (n .netUnicode)
-    ∷ writableIf (n .unicode && bit 0 (n .flags)) (writableText true) (n .deviceUnicode)
+    ∷ writableIf (deviceUnicodeThere (n .unicode) (n .flags)) (writableText true) (n .deviceUnicode)
     ∷ []
 
 abbrev TextFits : Bool → Bool → List ℕ → ℕ → Type 0
@@ -86,18 +87,18 @@ network-fits l bs c =
     let s₁ : TextFits false true l (u32At l 8) = slot-fits _ _ _ (text-law false) true [] h l (u32At l 8) bs (d .0) in
     let s₂ : TextFits false (hasDevice l) l (u32At l 12) = slot-fits _ _ _ (text-law false) (hasDevice l) [] h l (u32At l 12) bs (d .1 .0) in
     let s₃ : TextFits true (networkUnicode l) l (u32At l 20) = slot-fits _ _ _ (text-law true) (networkUnicode l) [] h l (u32At l 20) bs (d .1 .1 .0) in
-    let s₄ : TextFits true (networkUnicode l && hasDevice l) l (u32At l 24)
-    = slot-fits _ _ _ (text-law true) (networkUnicode l && hasDevice l) [] h l (u32At l 24) bs (d .1 .1 .1 .0) in
+    let s₄ : TextFits true (hasDeviceUnicode l) l (u32At l 24)
+    = slot-fits _ _ _ (text-law true) (hasDeviceUnicode l) [] h l (u32At l 24) bs (d .1 .1 .1 .0) in
     let p : h + total (map span (networkPieces l)) ≤ length l
     = pack h (length l) (map span (networkPieces l)) k (s₁ .within, (s₂ .within, (s₃ .within, (s₄ .within, tt)))) (d .1 .1 .1 .1 .0) in
     let v₂ = there-ok Bytes (writableText false) (hasDevice l) [] (text false (hasDevice l) l (u32At l 12)) (s₂ .valid) in
     let v₃ = there-ok Bytes (writableText true) (networkUnicode l) [] (text true (networkUnicode l) l (u32At l 20)) (s₃ .valid) in
-    let v₄ = there-ok Bytes (writableText true) (networkUnicode l && hasDevice l) [] (text true (networkUnicode l && hasDevice l) l (u32At l 24)) (s₄ .valid) in
+    let v₄ = there-ok Bytes (writableText true) (hasDeviceUnicode l) [] (text true (hasDeviceUnicode l) l (u32At l 24)) (s₄ .valid) in
     record {
       valid = record {
         typed = record {
-          provider = kept-below (bit 1 (networkFlags l)) (u32At l 16) (number-below 4 l 16 bs);
-          kept = kept-twice (bit 1 (networkFlags l)) (u32At l 16);
+          provider = kept-below (providerThere (networkFlags l)) (u32At l 16) (number-below 4 l 16 bs);
+          kept = kept-twice (providerThere (networkFlags l)) (u32At l 16);
           net = s₁ .valid .typed;
           device = v₂ .0;
           netUnicode = v₃ .0;
@@ -129,26 +130,26 @@ module _ (n : NetworkContents) (v : NetworkV n) (m : length (networkBytes n) ≤
   unfolding networkBytes little numberAt number
   at8 = number-little 4 (netStart n) (omega (arith, limit))
 
-  at12 : u32At (networkBytes n) 12 ≡ cond (bit 0 (n .flags)) (deviceStart n) 0
+  at12 : u32At (networkBytes n) 12 ≡ cond (deviceThere (n .flags)) (deviceStart n) 0
   unfolding networkBytes little numberAt number
-  at12 = field-is (bit 0 (n .flags)) (deviceStart n) (omega (arith, limit))
+  at12 = field-is (deviceThere (n .flags)) (deviceStart n) (omega (arith, limit))
 
-  at16 : u32At (networkBytes n) 16 ≡ cond (bit 1 (n .flags)) (n .provider) 0
+  at16 : u32At (networkBytes n) 16 ≡ cond (providerThere (n .flags)) (n .provider) 0
   unfolding networkBytes little numberAt number
-  at16 = number-little 4 (cond (bit 1 (n .flags)) (n .provider) 0) (kept-below (bit 1 (n .flags)) (n .provider) (v .typed .provider))
+  at16 = number-little 4 (cond (providerThere (n .flags)) (n .provider) 0) (kept-below (providerThere (n .flags)) (n .provider) (v .typed .provider))
 
   texts : List ℕ
   texts = netBytes n ++ (deviceBytes n ++ (netUnicodeBytes n ++ (deviceUnicodeBytes n ++ [])))
 
   at20 : cond (n .unicode) (u32At (networkBytes n) 20) 0 ≡ cond (n .unicode) (netUnicodeStart n) 0
   unfolding networkBytes little numberAt number texts
-  at20 = first-field (n .unicode) (netUnicodeStart n) (cond (bit 0 (n .flags)) (deviceUnicodeStart n) 0) texts (omega (arith, limit))
+  at20 = first-field (n .unicode) (netUnicodeStart n) (cond (deviceThere (n .flags)) (deviceUnicodeStart n) 0) texts (omega (arith, limit))
 
-  at24 : cond (n .unicode) (u32At (networkBytes n) 24) 0 ≡ cond (n .unicode) (cond (bit 0 (n .flags)) (deviceUnicodeStart n) 0) 0
+  at24 : cond (n .unicode) (u32At (networkBytes n) 24) 0 ≡ cond (n .unicode) (cond (deviceThere (n .flags)) (deviceUnicodeStart n) 0) 0
   unfolding networkBytes little numberAt number texts
   at24 =
-      second-field (n .unicode) (netUnicodeStart n) (cond (bit 0 (n .flags)) (deviceUnicodeStart n) 0) texts
-      (choose-below (bit 0 (n .flags)) (deviceUnicodeStart n) (omega (arith, limit)))
+      second-field (n .unicode) (netUnicodeStart n) (cond (deviceThere (n .flags)) (deviceUnicodeStart n) 0) texts
+      (choose-below (deviceThere (n .flags)) (deviceUnicodeStart n) (omega (arith, limit)))
 
   unicode-is : networkUnicode (networkBytes n) ≡ n .unicode
   unicode-is = rw at8 (head-tells (n .unicode))
@@ -187,11 +188,11 @@ module _ (n : NetworkContents) (v : NetworkV n) (m : length (networkBytes n) ≤
       slot-back _ _ _ (text-law false) true [] _ (networkBytes n) _ (netStart n) (netStart n) (n .net)
       (record { typed = v .typed .net; can = can .1 .0 }) (omega (arith, limit)) (omega arith) refl d₁
 
-  b₂ : TextBack false (bit 0 (n .flags)) (cond (bit 0 (n .flags)) (deviceStart n) 0) (deviceStart n) (n .device)
+  b₂ : TextBack false (deviceThere (n .flags)) (cond (deviceThere (n .flags)) (deviceStart n) 0) (deviceStart n) (n .device)
   b₂ =
       slot-back _ _ _ (text-law false) _ [] _ (networkBytes n) _ _ (deviceStart n) (n .device)
-      (ok-there Bytes (writableText false) (bit 0 (n .flags)) [] (n .device) (v .typed .device) (can .1 .1 .0))
-      (omega (arith, limit)) (omega arith) (choose-twice (bit 0 (n .flags)) (deviceStart n) 0) d₂
+      (ok-there Bytes (writableText false) (deviceThere (n .flags)) [] (n .device) (v .typed .device) (can .1 .1 .0))
+      (omega (arith, limit)) (omega arith) (choose-twice (deviceThere (n .flags)) (deviceStart n) 0) d₂
 
   b₃ : TextBack true (n .unicode) (u32At (networkBytes n) 20) (netUnicodeStart n) (n .netUnicode)
   b₃ =
@@ -199,23 +200,23 @@ module _ (n : NetworkContents) (v : NetworkV n) (m : length (networkBytes n) ≤
       (ok-there Bytes (writableText true) (n .unicode) [] (n .netUnicode) (v .typed .netUnicode) (can .1 .1 .1 .0))
       (omega (arith, limit)) (omega arith) at20 d₃
 
-  b₄ : TextBack true (n .unicode && bit 0 (n .flags)) (u32At (networkBytes n) 24) (deviceUnicodeStart n) (n .deviceUnicode)
+  b₄ : TextBack true (deviceUnicodeThere (n .unicode) (n .flags)) (u32At (networkBytes n) 24) (deviceUnicodeStart n) (n .deviceUnicode)
   b₄ =
       slot-back _ _ _ (text-law true) _ [] _ (networkBytes n) _ _ (deviceUnicodeStart n) (n .deviceUnicode)
-      (ok-there Bytes (writableText true) (n .unicode && bit 0 (n .flags)) [] (n .deviceUnicode) (v .typed .deviceUnicode) (can .1 .1 .1 .1 .0))
-      (omega (arith, limit)) (omega arith) (both-there (n .unicode) (bit 0 (n .flags)) (u32At (networkBytes n) 24) (deviceUnicodeStart n) at24) d₄
+      (ok-there Bytes (writableText true) (deviceUnicodeThere (n .unicode) (n .flags)) [] (n .deviceUnicode) (v .typed .deviceUnicode) (can .1 .1 .1 .1 .0))
+      (omega (arith, limit)) (omega arith) (both-there (n .unicode) (deviceThere (n .flags)) (u32At (networkBytes n) 24) (deviceUnicodeStart n) at24) d₄
 
   in-order : Ordered (netStart n)
       (span (textPiece true false (networkBytes n) (netStart n))
-      ∷ span (textPiece (bit 0 (n .flags)) false (networkBytes n) (cond (bit 0 (n .flags)) (deviceStart n) 0))
+      ∷ span (textPiece (deviceThere (n .flags)) false (networkBytes n) (cond (deviceThere (n .flags)) (deviceStart n) 0))
       ∷ span (textPiece (n .unicode) true (networkBytes n) (u32At (networkBytes n) 20))
-      ∷ span (textPiece (n .unicode && bit 0 (n .flags)) true (networkBytes n) (u32At (networkBytes n) 24))
+      ∷ span (textPiece (deviceUnicodeThere (n .unicode) (n .flags)) true (networkBytes n) (u32At (networkBytes n) 24))
       ∷ [])
   in-order =
       spans-ordered true _ _ _ _ (b₁ .spans) (absent-empty true (textBytes false) (n .net))
-      (spans-ordered (bit 0 (n .flags)) _ _ _ _ (b₂ .spans) (absent-empty (bit 0 (n .flags)) (textBytes false) (n .device))
+      (spans-ordered (deviceThere (n .flags)) _ _ _ _ (b₂ .spans) (absent-empty (deviceThere (n .flags)) (textBytes false) (n .device))
       (spans-ordered (n .unicode) _ _ _ _ (b₃ .spans) (absent-empty (n .unicode) (textBytes true) (n .netUnicode))
-      (spans-ordered (n .unicode && bit 0 (n .flags)) _ _ _ _ (b₄ .spans) (absent-empty (n .unicode && bit 0 (n .flags)) (textBytes true) (n .deviceUnicode)) end)))
+      (spans-ordered (deviceUnicodeThere (n .unicode) (n .flags)) _ _ _ _ (b₄ .spans) (absent-empty (deviceUnicodeThere (n .unicode) (n .flags)) (textBytes true) (n .deviceUnicode)) end)))
 
   network-judged : Pass (networkRules (networkBytes n))
   network-judged =
@@ -226,9 +227,9 @@ module _ (n : NetworkContents) (v : NetworkV n) (m : length (networkBytes n) ≤
           (
             le-leb (networkHead (n .unicode)) (length (networkBytes n)) (omega (arith, length-network n)),
             (
-              zero-absent (bit 0 (n .flags)) (deviceStart n),
+              zero-absent (deviceThere (n .flags)) (deviceStart n),
               (
-                zero-either (n .unicode) (bit 0 (n .flags)) (u32At (networkBytes n) 24) (deviceUnicodeStart n) at24,
+                zero-either (n .unicode) (deviceThere (n .flags)) (u32At (networkBytes n) 24) (deviceUnicodeStart n) at24,
                 (b₁ .good, (b₂ .good, (b₃ .good, (b₄ .good, (ordered-apart in-order, tt))))),
               ),
             ),
@@ -237,7 +238,7 @@ module _ (n : NetworkContents) (v : NetworkV n) (m : length (networkBytes n) ≤
       )
 
   network-same : networkValue (networkBytes n) ≡ n
-  network-same = rw (unicode-is, at4, at8, at12, at16, b₁ .same, b₂ .same, b₃ .same, b₄ .same, kept-twice (bit 1 (n .flags)) (n .provider), v .typed .kept)
+  network-same = rw (unicode-is, at4, at8, at12, at16, b₁ .same, b₂ .same, b₃ .same, b₄ .same, kept-twice (providerThere (n .flags)) (n .provider), v .typed .kept)
 
 network-bytes : (n : NetworkContents) → NetworkV n → Bytes (networkBytes n)
 unfolding networkBytes
@@ -245,10 +246,10 @@ network-bytes n v =
     let can = every-out (cans n) (v .can) in
     let t = v .typed in
     let s₁ = text-law false .bytes (n .net) (record { typed = t .net; can = can .1 .0 }) in
-    let s₂ = slot-bytes _ _ _ (text-law false) (bit 0 (n .flags)) [] (n .device) (ok-there Bytes (writableText false) (bit 0 (n .flags)) [] (n .device) (t .device) (can .1 .1 .0)) in
+    let s₂ = slot-bytes _ _ _ (text-law false) (deviceThere (n .flags)) [] (n .device) (ok-there Bytes (writableText false) (deviceThere (n .flags)) [] (n .device) (t .device) (can .1 .1 .0)) in
     let s₃ = slot-bytes _ _ _ (text-law true) (n .unicode) [] (n .netUnicode) (ok-there Bytes (writableText true) (n .unicode) [] (n .netUnicode) (t .netUnicode) (can .1 .1 .1 .0)) in
-    let s₄ = slot-bytes _ _ _ (text-law true) (n .unicode && bit 0 (n .flags)) [] (n .deviceUnicode)
-    (ok-there Bytes (writableText true) (n .unicode && bit 0 (n .flags)) [] (n .deviceUnicode) (t .deviceUnicode) (can .1 .1 .1 .1 .0)) in
+    let s₄ = slot-bytes _ _ _ (text-law true) (deviceUnicodeThere (n .unicode) (n .flags)) [] (n .deviceUnicode)
+    (ok-there Bytes (writableText true) (deviceUnicodeThere (n .unicode) (n .flags)) [] (n .deviceUnicode) (t .deviceUnicode) (can .1 .1 .1 .1 .0)) in
     search (bytes-append, bytes-little, bytes-nil, bytes-two) depth 16
 
 network-struct : Struct 0x14 networkRules networkValue networkBytes NetworkV

@@ -16,7 +16,8 @@ use Rattle.format.specs.declared.Place.{Place}
 use Rattle.format.specs.Tests.{Outcome, got, refused, place, Test, tests, Reader, andThen, chain, _then_, optional}
 use Rattle.format.specs.Pieces.{textLength, textPlace}
 use Rattle.format.specs.Shortcut.{Section, absent, found, sectionIf}
-use Rattle.format.specs.Contents.{bytesAt, allInside}
+use Rattle.format.specs.Bodies.{allInside}
+use Rattle.format.specs.Contents.{bytesAt}
 use Rattle.format.specs.Listing.{Row, row, EndToEnd}
 use Rattle.format.proofs.Bools.{by-order, and-true, and-both}
 use Rattle.format.proofs.Chains.{Pass, got-elim, no-value, chain-elim}

@@ -9,7 +9,8 @@ use Rattle.format.specs.Header.{magic, signed}
 use Rattle.format.specs.Items.{walk}
 use Rattle.format.specs.Blocks.{blockOk, blocksFrom}
 use Rattle.format.specs.Shortcut.{sections, shortcut, reading}
-use Rattle.format.specs.Contents.{present, placed, contents}
+use Rattle.format.specs.Bodies.{placed}
+use Rattle.format.specs.Contents.{present, contents}
 use Rattle.format.specs.Writing.{bits, headerBytes, itemsBytes, volumeBytes, networkBytes, infoBytes, stringBytes, canonical, writable, writing, outputOf, writeAnswer, writeOutput}
 use Rattle.format.specs.Listing.{listing}
 use Rattle.format.specs.Probes.{holds, allHold, table}

@@ -1,7 +1,7 @@
 -- The record that reading gives, beside the contents: each section's places hold its contents, and so do those of the whole.
 use mathlib.Core.Path.{_≡_, refl, sym, ap, _∙_}
 use mathlib.Core.List.{List, [], _∷_}
-use mathlib.Core.Bool.{Bool, true, false, _&&_, cond}
+use mathlib.Core.Bool.{Bool, true, false, cond}
 use Prim.Native.Nat.{ℕ, _+_, _-_}
 use native.Mathlib.Omega.{arith}
 use lib.ListN.{length, take, drop}
@@ -14,16 +14,18 @@ use Rattle.octets.proofs.NumberLaws.{part-inside}
 use Rattle.format.specs.declared.Place.{Place}
 use Rattle.format.specs.declared.Header.{Header}
 use Rattle.format.specs.declared.Fault.the-variants.{Long as LONG, Trail as TRAIL, Info as INFO}
-use Rattle.format.specs.Tests.{Outcome, got, refused, bit, place, noPlace, _else_, tests, andThen, optional}
+use Rattle.format.specs.Tests.{Outcome, got, refused, place, noPlace, _else_, tests, andThen, optional}
+use Rattle.format.specs.Presence.{itemsThere, infoThere, stringThere, stringsUnicode}
 use Rattle.format.specs.Header.{header}
 use Rattle.format.specs.Items.{itemsLength, itemsRules, items}
 use Rattle.format.specs.Volume.{labelUnicode, labelOffset, labelOf, volumeAt}
-use Rattle.format.specs.Network.{hasDevice, networkUnicode, networkAt}
-use Rattle.format.specs.Info.{infoSize, longHead, hasLocal, hasNetwork, infoRules, infoFields, info, noInfo}
+use Rattle.format.specs.Network.{hasDevice, networkUnicode, networkAt, hasDeviceUnicode}
+use Rattle.format.specs.Info.{infoSize, longHead, hasLocal, hasNetwork, infoRules, infoFields, info, noInfo, hasLocalUnicode}
 use Rattle.format.specs.Strings.{stringLength, string}
 use Rattle.format.specs.Blocks.{blocks}
 use Rattle.format.specs.Shortcut.{Section, Tail, Sections, found, stringSection, tail, sections, shortcut, most, sum, recordOf}
-use Rattle.format.specs.Contents.{labelPlace, labelKind, bytesAt, volumeContents, networkContents, infoContents, bodiesOf}
+use Rattle.format.specs.Bodies.{labelPlace, labelKind}
+use Rattle.format.specs.Contents.{bytesAt, volumeContents, networkContents, infoContents, bodiesOf}
 use Rattle.format.proofs.Chains.{drop-take}
 use Rattle.format.proofs.Sized.{sizedTests}
 use Rattle.format.proofs.ItemsLaws.{itemsValue}
@@ -88,7 +90,7 @@ module _ (f : List ℕ) where
           text-placed f (p + o) v true false (u32At v 8) G,
           text-placed f (p + o) v (hasDevice v) false (u32At v 12) G,
           text-placed f (p + o) v (networkUnicode v) true (u32At v 20) G,
-          text-placed f (p + o) v (networkUnicode v && hasDevice v) true (u32At v 24) G,
+          text-placed f (p + o) v (hasDeviceUnicode v) true (u32At v 24) G,
         )
     network-placed false = refl
 
@@ -99,7 +101,7 @@ module _ (f : List ℕ) where
         text-placed f p l (hasLocal l) false (u32At l 16) F,
         network-placed p l F (u32At l 20) (hasNetwork l),
         text-placed f p l true false (u32At l 24) F,
-        text-placed f p l (longHead l && hasLocal l) true (u32At l 28) F,
+        text-placed f p l (hasLocalUnicode l) true (u32At l 28) F,
         text-placed f p l (longHead l) true (u32At l 32) F,
       )
 
@@ -127,8 +129,8 @@ module _ (f : List ℕ) where
 
   -- ---- the whole
 
-  abbrev string-section-placed : (flags k : ℕ) → Placed f (stringSection flags k) (λ c. bytesAt f (c .read)) (optional (bit k flags) [] (stringR (bit 7 flags)))
-  string-section-placed flags k = section-placed f (bit k flags) noPlace [] refl (string-placed (bit 7 flags))
+  abbrev string-section-placed : (flags k : ℕ) → Placed f (stringSection flags k) (λ c. bytesAt f (c .read)) (optional (stringThere k flags) [] (stringR (stringsUnicode flags)))
+  string-section-placed flags k = section-placed f (stringThere k flags) noPlace [] refl (string-placed (stringsUnicode flags))
 
   abbrev viewTail : Tail → TailC
   viewTail =
@@ -137,8 +139,8 @@ module _ (f : List ℕ) where
 
   tail-placed : (flags : ℕ) → Placed f (tail flags) viewTail (tail-s flags .reader)
   tail-placed flags =
-      then-placed f (section-placed f (bit 0 flags) noPlace [] refl items-placed)
-      (then-placed f (section-placed f (bit 1 flags) noInfo noInfoC refl info-placed)
+      then-placed f (section-placed f (itemsThere flags) noPlace [] refl items-placed)
+      (then-placed f (section-placed f (infoThere flags) noInfo noInfoC refl info-placed)
       (then-placed f (string-section-placed flags 2)
       (then-placed f (string-section-placed flags 3)
       (then-placed f (string-section-placed flags 4)

@@ -7,7 +7,7 @@ use native.Mathlib.Omega.{arith}
 use lib.ListN.{length, length-append}
 use Rattle.format.specs.declared.Place.{Place}
 use Rattle.format.specs.declared.Record.{Record}
-use Rattle.format.specs.Tests.{bit}
+use Rattle.format.specs.Presence.{localThere}
 use Rattle.format.specs.Contents.{bytesAt}
 use Rattle.format.specs.Target.{separated, backslash, separator, joined, targetText}
 use Rattle.format.proofs.BodyLaws.{body-small}
@@ -32,7 +32,7 @@ separator-few first suffix = go (separated first suffix)
     go false = omega arith
 
 pub text-small : (s : List ℕ) (r : Record) → length (targetText s r) ≤ length s + 1 + length s
-text-small s r = go (bit 0 (r .info .flags))
+text-small s r = go (localThere (r .info .flags))
   where
     suffix : List ℕ
     suffix = bytesAt s (r .info .suffix)

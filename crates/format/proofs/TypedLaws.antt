@@ -1,7 +1,7 @@
 -- What a record's types give its contents: bytes are bytes, numbers fit, what is absent is zero.
 use mathlib.Core.Path.{refl}
 use mathlib.Core.List.{List, []}
-use mathlib.Core.Bool.{Bool, true, false, _&&_, cond}
+use mathlib.Core.Bool.{Bool, true, false, cond}
 use Prim.Native.Nat.{ℕ, _<_, _^_}
 use native.Mathlib.Omega.{arith}
 use lib.ListN.{drop}
@@ -12,12 +12,14 @@ use Rattle.format.specs.declared.Volume.{Volume}
 use Rattle.format.specs.declared.Network.{Network}
 use Rattle.format.specs.declared.Info.{Info}
 use Rattle.format.specs.declared.Record.{Record}
-use Rattle.format.specs.Tests.{bit, noPlace}
+use Rattle.format.specs.Tests.{noPlace}
+use Rattle.format.specs.Presence.{itemsThere, infoThere, nameBit, relativeBit, workdirBit, argumentsBit, iconBit, stringThere, localThere, networkThere, localUnicodeThere, deviceThere, providerThere, deviceUnicodeThere}
 use Rattle.format.specs.Volume.{noVolume}
 use Rattle.format.specs.Network.{noNetwork}
 use Rattle.format.specs.Info.{noInfo}
 use Rattle.format.specs.Ranges.{FitsRecord}
-use Rattle.format.specs.Contents.{bytesAt, presentNetwork, presentInfo, present, labelPlace, volumeContents, networkContents, infoContents, contents}
+use Rattle.format.specs.Bodies.{labelPlace}
+use Rattle.format.specs.Contents.{bytesAt, presentNetwork, presentInfo, present, volumeContents, networkContents, infoContents, contents}
 use Rattle.format.proofs.Bools.{choose-twice}
 use Rattle.format.proofs.Chains.{IfThere}
 use Rattle.format.proofs.VolumeLaws.{VolumeT}
@@ -43,23 +45,23 @@ module _ (d : List ℕ) (bs : Bytes d) where
 
   network-there : (t : Bool) (n : Network) → n .provider < 2 ^ 32 → IfThere t noNetworkC NetworkT (networkContents d (cond t (presentNetwork n) noNetwork))
   network-there true n h = record {
-    provider = kept-below (bit 1 (n .flags)) (n .provider) h;
-    kept = choose-twice (bit 1 (n .flags)) (n .provider) 0;
+    provider = kept-below (providerThere (n .flags)) (n .provider) h;
+    kept = choose-twice (providerThere (n .flags)) (n .provider) 0;
     net = body-bytes (n .net);
-    device = body-there (bit 0 (n .flags)) (n .device);
+    device = body-there (deviceThere (n .flags)) (n .device);
     netUnicode = body-there (n .unicode) (n .«net_unicode»);
-    deviceUnicode = body-there (n .unicode && bit 0 (n .flags)) (n .«device_unicode»);
+    deviceUnicode = body-there (deviceUnicodeThere (n .unicode) (n .flags)) (n .«device_unicode»);
   }
   network-there false n h = refl
 
   info-there : (t : Bool) (i : Info) → i .volume .serial < 2 ^ 32 → i .network .provider < 2 ^ 32
       → IfThere t noInfoC InfoT (infoContents d (cond t (presentInfo i) noInfo))
   info-there true i s p = record {
-    volume = volume-there (bit 0 (i .flags)) (i .volume) s;
-    local = body-there (bit 0 (i .flags)) (i .local);
-    network = network-there (bit 1 (i .flags)) (i .network) p;
+    volume = volume-there (localThere (i .flags)) (i .volume) s;
+    local = body-there (localThere (i .flags)) (i .local);
+    network = network-there (networkThere (i .flags)) (i .network) p;
     suffix = body-bytes (i .suffix);
-    localUnicode = body-there (i .long && bit 0 (i .flags)) (i .«local_unicode»);
+    localUnicode = body-there (localUnicodeThere (i .long) (i .flags)) (i .«local_unicode»);
     suffixUnicode = body-there (i .long) (i .«suffix_unicode»);
   }
   info-there false i s p = refl
@@ -68,12 +70,12 @@ module _ (d : List ℕ) (bs : Bytes d) where
   unfolding contents present
   record-typed r t = record {
     header = t .header;
-    items = body-there (bit 0 (r .header .flags)) (r .items);
-    info = info-there (bit 1 (r .header .flags)) (r .info) (t .serial) (t .provider);
-    name = body-there (bit 2 (r .header .flags)) (r .name);
-    relative = body-there (bit 3 (r .header .flags)) (r .relative);
-    workdir = body-there (bit 4 (r .header .flags)) (r .workdir);
-    arguments = body-there (bit 5 (r .header .flags)) (r .arguments);
-    icon = body-there (bit 6 (r .header .flags)) (r .icon);
+    items = body-there (itemsThere (r .header .flags)) (r .items);
+    info = info-there (infoThere (r .header .flags)) (r .info) (t .serial) (t .provider);
+    name = body-there (stringThere nameBit (r .header .flags)) (r .name);
+    relative = body-there (stringThere relativeBit (r .header .flags)) (r .relative);
+    workdir = body-there (stringThere workdirBit (r .header .flags)) (r .workdir);
+    arguments = body-there (stringThere argumentsBit (r .header .flags)) (r .arguments);
+    icon = body-there (stringThere iconBit (r .header .flags)) (r .icon);
     blocks = body-bytes (r .blocks);
   }

@@ -10,7 +10,8 @@ use borrow.Author.Tests.{leb-true, le-leb, eqb-true, eq-eqb}
 use Rattle.octets.specs.Numbers.{Bytes}
 use Rattle.format.specs.declared.Header.{Header}
 use Rattle.format.specs.declared.Fault.the-variants.{Long as LONG, Trail as TRAIL, Info as INFO}
-use Rattle.format.specs.Tests.{Outcome, got, refused, _else_, tests, Reader, andThen, chain, optional, bit}
+use Rattle.format.specs.Tests.{Outcome, got, refused, _else_, tests, Reader, andThen, chain, optional}
+use Rattle.format.specs.Presence.{itemsThere, infoThere, nameBit, relativeBit, workdirBit, argumentsBit, iconBit, stringThere, stringsUnicode}
 use Rattle.format.specs.Header.{header}
 use Rattle.format.specs.Items.{itemsLength, itemsRules}
 use Rattle.format.specs.Info.{infoSize, infoRules}
@@ -89,7 +90,7 @@ abbrev info-s : Sect InfoContents
 info-s = record { reader = infoR; writer = infoBytes; Valid = InfoV; law = info-law }
 
 abbrev string-s : ℕ → ℕ → Sect (List ℕ)
-string-s flags k = opt (bit k flags) [] (record { reader = stringR (bit 7 flags); writer = stringBytes (bit 7 flags); Valid = StringV (bit 7 flags); law = string-law (bit 7 flags) })
+string-s flags k = opt (stringThere k flags) [] (record { reader = stringR (stringsUnicode flags); writer = stringBytes (stringsUnicode flags); Valid = StringV (stringsUnicode flags); law = string-law (stringsUnicode flags) })
 
 abbrev blocks-s : Sect (List ℕ)
 blocks-s = record { reader = blocksR; writer = blocksBytes; Valid = BlocksV; law = blocks-law }
@@ -99,8 +100,8 @@ TailC = List ℕ × (InfoContents × (List ℕ × (List ℕ × (List ℕ × (Lis
 
 abbrev pub tail-s : ℕ → Sect TailC
 tail-s flags =
-    opt (bit 0 flags) [] items-s
-    and opt (bit 1 flags) noInfoC info-s
+    opt (itemsThere flags) [] items-s
+    and opt (infoThere flags) noInfoC info-s
     and string-s flags 2
     and string-s flags 3
     and string-s flags 4
@@ -212,20 +213,20 @@ beginning s c n e k h =
 
 pub record Typed (c : Contents) : Type 0 where
   pub header : FitsHeader (c .header)
-  pub items : IfThere (bit 0 (c .header .flags)) [] Bytes (c .items)
-  pub info : IfThere (bit 1 (c .header .flags)) noInfoC InfoT (c .info)
-  pub name : IfThere (bit 2 (c .header .flags)) [] Bytes (c .name)
-  pub relative : IfThere (bit 3 (c .header .flags)) [] Bytes (c .relative)
-  pub workdir : IfThere (bit 4 (c .header .flags)) [] Bytes (c .workdir)
-  pub arguments : IfThere (bit 5 (c .header .flags)) [] Bytes (c .arguments)
-  pub icon : IfThere (bit 6 (c .header .flags)) [] Bytes (c .icon)
+  pub items : IfThere (itemsThere (c .header .flags)) [] Bytes (c .items)
+  pub info : IfThere (infoThere (c .header .flags)) noInfoC InfoT (c .info)
+  pub name : IfThere (stringThere nameBit (c .header .flags)) [] Bytes (c .name)
+  pub relative : IfThere (stringThere relativeBit (c .header .flags)) [] Bytes (c .relative)
+  pub workdir : IfThere (stringThere workdirBit (c .header .flags)) [] Bytes (c .workdir)
+  pub arguments : IfThere (stringThere argumentsBit (c .header .flags)) [] Bytes (c .arguments)
+  pub icon : IfThere (stringThere iconBit (c .header .flags)) [] Bytes (c .icon)
   pub blocks : Bytes (c .blocks)
 
 abbrev cans : Contents → List Bool
 cans c =
     writableHeader (c .header)
-    ∷ writableIf (bit 0 (c .header .flags)) writableItems (c .items)
-    ∷ writableIf (bit 1 (c .header .flags)) writableInfo (c .info)
+    ∷ writableIf (itemsThere (c .header .flags)) writableItems (c .items)
+    ∷ writableIf (infoThere (c .header .flags)) writableInfo (c .info)
     ∷ writableStringOf c 2 (c .name)
     ∷ writableStringOf c 3 (c .relative)
     ∷ writableStringOf c 4 (c .workdir)
@@ -236,9 +237,9 @@ cans c =
     ∷ []
 
 -- a writable text of the string section k
-abbrev there-string : (c : Contents) (k : ℕ) (x : List ℕ) → IfThere (bit k (c .header .flags)) [] Bytes x → writableStringOf c k x ≡ true
-    → IfThere (bit k (c .header .flags)) [] (StringV (bit 7 (c .header .flags))) x
-there-string c k x t e = ok-there Bytes (writableString (bit 7 (c .header .flags))) (bit k (c .header .flags)) [] x t e
+abbrev there-string : (c : Contents) (k : ℕ) (x : List ℕ) → IfThere (stringThere k (c .header .flags)) [] Bytes x → writableStringOf c k x ≡ true
+    → IfThere (stringThere k (c .header .flags)) [] (StringV (stringsUnicode (c .header .flags))) x
+there-string c k x t e = ok-there Bytes (writableString (stringsUnicode (c .header .flags))) (stringThere k (c .header .flags)) [] x t e
 
 pub can-valid : (c : Contents) → Typed c → writable c ≡ true → Valid c × (length (canonical c) ≤ most)
 unfolding writable Valid
@@ -249,9 +250,9 @@ can-valid c t e =
       (
         record { typed = t .header; can = a .0 },
         (
-          ok-there Bytes writableItems (bit 0 f) [] (c .items) (t .items) (a .1 .0),
+          ok-there Bytes writableItems (itemsThere f) [] (c .items) (t .items) (a .1 .0),
           (
-            ok-there InfoT writableInfo (bit 1 f) noInfoC (c .info) (t .info) (a .1 .1 .0),
+            ok-there InfoT writableInfo (infoThere f) noInfoC (c .info) (t .info) (a .1 .1 .0),
             (
               there-string c 2 (c .name) (t .name) (b .0),
               (
@@ -274,8 +275,8 @@ can-valid c t e =
       leb-true _ _ (b .1 .1 .1 .1 .1 .1 .0),
     )
 
-abbrev string-can : (c : Contents) (k : ℕ) (x : List ℕ) → IfThere (bit k (c .header .flags)) [] (StringV (bit 7 (c .header .flags))) x → writableStringOf c k x ≡ true
-string-can c k x v = (there-ok Bytes (writableString (bit 7 (c .header .flags))) (bit k (c .header .flags)) [] x v) .1
+abbrev string-can : (c : Contents) (k : ℕ) (x : List ℕ) → IfThere (stringThere k (c .header .flags)) [] (StringV (stringsUnicode (c .header .flags))) x → writableStringOf c k x ≡ true
+string-can c k x v = (there-ok Bytes (writableString (stringsUnicode (c .header .flags))) (stringThere k (c .header .flags)) [] x v) .1
 
 pub valid-can : (c : Contents) → Valid c → length (canonical c) ≤ most → writable c ≡ true
 unfolding writable Valid
@@ -285,9 +286,9 @@ valid-can c v h =
     every-in (cans c) (
       v .0 .can,
       (
-        (there-ok Bytes writableItems (bit 0 f) [] (c .items) (v .1 .0)) .1,
+        (there-ok Bytes writableItems (itemsThere f) [] (c .items) (v .1 .0)) .1,
         (
-          (there-ok InfoT writableInfo (bit 1 f) noInfoC (c .info) (v .1 .1 .0)) .1,
+          (there-ok InfoT writableInfo (infoThere f) noInfoC (c .info) (v .1 .1 .0)) .1,
           (
             string-can c 2 (c .name) (w .0),
             (

@@ -1,99 +1,59 @@
 -- The record with its bodies' bytes in their places' stead; which parts are present; sameness.
-use Prim.Native.Nat.{ℕ, _+_}
+use Prim.Native.Nat.{ℕ}
 use mathlib.Core.Path.{_≡_}
-use mathlib.Core.List.{List, [], _∷_}
-use mathlib.Core.Bool.{Bool, true, false, _&&_, cond}
+use mathlib.Core.List.{List}
+use mathlib.Core.Bool.{Bool, cond}
 use lib.ListN.{take, drop}
-use lib.Dec.{leb}
 use Rattle.format.specs.declared.Place.{Place}
-use Rattle.format.specs.declared.Label.{Label}
-use Rattle.format.specs.declared.Label.the-variants.{Byte, Unicode}
 use Rattle.format.specs.declared.Header.{Header}
 use Rattle.format.specs.declared.Volume.{Volume}
 use Rattle.format.specs.declared.Network.{Network}
 use Rattle.format.specs.declared.Info.{Info}
 use Rattle.format.specs.declared.Record.{Record}
-use Rattle.format.specs.Tests.{bit, noPlace}
+use Rattle.format.specs.Tests.{noPlace}
+use Rattle.format.specs.Presence.{itemsThere, infoThere, nameBit, relativeBit, workdirBit, argumentsBit, iconBit, stringThere, localThere, networkThere, localUnicodeThere, deviceThere, providerThere, deviceUnicodeThere}
 use Rattle.format.specs.Volume.{noVolume}
 use Rattle.format.specs.Network.{noNetwork}
 use Rattle.format.specs.Info.{noInfo}
+use Rattle.format.specs.Bodies.{labelPlace, labelKind}
 
 -- ---- which parts are present: what is held for an absent section or part does not count, and is put to zero here
 
 abbrev pub presentNetwork : Network → Network
 presentNetwork n = record {
   flags = n .flags;
-  provider = cond (bit 1 (n .flags)) (n .provider) 0;
+  provider = cond (providerThere (n .flags)) (n .provider) 0;
   unicode = n .unicode;
   net = n .net;
-  device = cond (bit 0 (n .flags)) (n .device) noPlace;
+  device = cond (deviceThere (n .flags)) (n .device) noPlace;
   «net_unicode» = cond (n .unicode) (n .«net_unicode») noPlace;
-  «device_unicode» = cond (n .unicode && bit 0 (n .flags)) (n .«device_unicode») noPlace;
+  «device_unicode» = cond (deviceUnicodeThere (n .unicode) (n .flags)) (n .«device_unicode») noPlace;
 }
 
 abbrev pub presentInfo : Info → Info
 presentInfo i = record {
   flags = i .flags;
   long = i .long;
-  volume = cond (bit 0 (i .flags)) (i .volume) noVolume;
-  local = cond (bit 0 (i .flags)) (i .local) noPlace;
-  network = cond (bit 1 (i .flags)) (presentNetwork (i .network)) noNetwork;
+  volume = cond (localThere (i .flags)) (i .volume) noVolume;
+  local = cond (localThere (i .flags)) (i .local) noPlace;
+  network = cond (networkThere (i .flags)) (presentNetwork (i .network)) noNetwork;
   suffix = i .suffix;
-  «local_unicode» = cond (i .long && bit 0 (i .flags)) (i .«local_unicode») noPlace;
+  «local_unicode» = cond (localUnicodeThere (i .long) (i .flags)) (i .«local_unicode») noPlace;
   «suffix_unicode» = cond (i .long) (i .«suffix_unicode») noPlace;
 }
 
 unfoldable pub present : Record → Record
 present r = record {
   header = r .header;
-  items = cond (bit 0 (r .header .flags)) (r .items) noPlace;
-  info = cond (bit 1 (r .header .flags)) (presentInfo (r .info)) noInfo;
-  name = cond (bit 2 (r .header .flags)) (r .name) noPlace;
-  relative = cond (bit 3 (r .header .flags)) (r .relative) noPlace;
-  workdir = cond (bit 4 (r .header .flags)) (r .workdir) noPlace;
-  arguments = cond (bit 5 (r .header .flags)) (r .arguments) noPlace;
-  icon = cond (bit 6 (r .header .flags)) (r .icon) noPlace;
+  items = cond (itemsThere (r .header .flags)) (r .items) noPlace;
+  info = cond (infoThere (r .header .flags)) (presentInfo (r .info)) noInfo;
+  name = cond (stringThere nameBit (r .header .flags)) (r .name) noPlace;
+  relative = cond (stringThere relativeBit (r .header .flags)) (r .relative) noPlace;
+  workdir = cond (stringThere workdirBit (r .header .flags)) (r .workdir) noPlace;
+  arguments = cond (stringThere argumentsBit (r .header .flags)) (r .arguments) noPlace;
+  icon = cond (stringThere iconBit (r .header .flags)) (r .icon) noPlace;
   blocks = r .blocks;
 }
-
--- ---- the bodies
-
-abbrev pub labelPlace : Label → Place
-labelPlace (Byte b) = b
-labelPlace (Unicode b) = b
-
-abbrev pub labelKind : Label → Bool
-labelKind (Byte b) = false
-labelKind (Unicode b) = true
-
-abbrev pub bodies : Record → List Place
-bodies r =
-    r .items
-    ∷ labelPlace (r .info .volume .label)
-    ∷ r .info .local
-    ∷ r .info .network .net
-    ∷ r .info .network .device
-    ∷ r .info .network .«net_unicode»
-    ∷ r .info .network .«device_unicode»
-    ∷ r .info .suffix
-    ∷ r .info .«local_unicode»
-    ∷ r .info .«suffix_unicode»
-    ∷ r .name
-    ∷ r .relative
-    ∷ r .workdir
-    ∷ r .arguments
-    ∷ r .icon
-    ∷ r .blocks
-    ∷ []
-
-abbrev pub allInside : ℕ → List Place → Bool
-allInside n [] = true
-allInside n (b ∷ bs) = leb (b .at + b .len) n && allInside n bs
-
--- no present body's place plus its length exceeds n, the body buffer's length
-unfoldable pub placed : ℕ → Record → Bool
-unfolding present
-placed n r = allInside n (bodies (present r))
 
 -- ---- the contents: the record's fields, and each body as its bytes
 

@@ -11,7 +11,8 @@ use Rattle.format.specs.declared.Verdict.the-variants.{Accepted, Refused
 use Rattle.format.specs.declared.Fault.the-variants.{Cut as CUT, Place as PLACE, Unwritable as UNWRITABLE, Room as ROOM}
 use Rattle.format.specs.Tests.{Outcome, got, refused}
 use Rattle.format.specs.Shortcut.{reading, noRecord}
-use Rattle.format.specs.Contents.{placed, Same}
+use Rattle.format.specs.Bodies.{placed}
+use Rattle.format.specs.Contents.{Same}
 
 -- the shortcut s is accepted, all of it, and read as the record r
 unfoldable pub Accepts : List ℕ → Record → Type 0

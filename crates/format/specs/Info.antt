@@ -7,7 +7,8 @@ use lib.Dec.{leb, eqb}
 use Rattle.octets.specs.Numbers.{u32At}
 use Rattle.format.specs.declared.Info.{Info}
 use Rattle.format.specs.declared.Fault.the-variants.{Cut as CUT, Info as INFO}
-use Rattle.format.specs.Tests.{Test, _else_, tests, got, Reader, bit, noPlace}
+use Rattle.format.specs.Tests.{Test, _else_, tests, got, Reader, noPlace}
+use Rattle.format.specs.Presence.{localThere, networkThere, localUnicodeThere}
 use Rattle.format.specs.Pieces.{Piece, textPiece, textPlace, absentZero, pieceTests}
 use Rattle.format.specs.Volume.{volumePiece, volumeAt, noVolume}
 use Rattle.format.specs.Network.{networkPiece, networkAt, noNetwork}
@@ -31,10 +32,13 @@ infoFlags l = u32At l 8
 
 -- VolumeID and LocalBasePath are present by bit 0, the network link by bit 1, the suffix always
 abbrev pub hasLocal : List ℕ → Bool
-hasLocal l = bit 0 (infoFlags l)
+hasLocal l = localThere (infoFlags l)
 
 abbrev pub hasNetwork : List ℕ → Bool
-hasNetwork l = bit 1 (infoFlags l)
+hasNetwork l = networkThere (infoFlags l)
+
+abbrev pub hasLocalUnicode : List ℕ → Bool
+hasLocalUnicode l = localUnicodeThere (longHead l) (infoFlags l)
 
 -- With a long head the Unicode suffix is present, and the Unicode local path by bit 0 (house); bytes of a head beyond 0x24 are skipped.
 -- Offset fields: VolumeID at 12, LocalBasePath 16, network link 20, CommonPathSuffix 24; with a long head LocalBasePathUnicode 28, CommonPathSuffixUnicode 32
@@ -44,7 +48,7 @@ infoPieces l =
     ∷ textPiece (hasLocal l) false l (u32At l 16)
     ∷ networkPiece (hasNetwork l) l (u32At l 20)
     ∷ textPiece true false l (u32At l 24)
-    ∷ textPiece (longHead l && hasLocal l) true l (u32At l 28)
+    ∷ textPiece (hasLocalUnicode l) true l (u32At l 28)
     ∷ textPiece (longHead l) true l (u32At l 32)
     ∷ []
 
@@ -80,7 +84,7 @@ infoFields p l = record {
   local = textPlace (hasLocal l) false p l (u32At l 16);
   network = networkAt (hasNetwork l) p l (u32At l 20);
   suffix = textPlace true false p l (u32At l 24);
-  «local_unicode» = textPlace (longHead l && hasLocal l) true p l (u32At l 28);
+  «local_unicode» = textPlace (hasLocalUnicode l) true p l (u32At l 28);
   «suffix_unicode» = textPlace (longHead l) true p l (u32At l 32);
 }
 

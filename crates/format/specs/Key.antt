@@ -12,6 +12,7 @@ use Rattle.format.specs.declared.Record.{Record}
 use Rattle.format.specs.declared.Verdict.{Verdict}
 use Rattle.format.specs.declared.Fault.the-variants.{Room as ROOM}
 use Rattle.format.specs.Tests.{Outcome, got, refused, _else_, tests, andThen, bit, oneOr0}
+use Rattle.format.specs.Presence.{workdirBit, argumentsBit, stringThere, stringsUnicode}
 use Rattle.format.specs.Blocks.{firstPlace}
 use Rattle.format.specs.Shortcut.{Sections, blocksOf, shortcut, recordOf, verdictOf}
 use Rattle.format.specs.Contents.{bytesAt}
@@ -46,10 +47,10 @@ unfoldable pub keyOf : List ℕ → Sections → Key
 keyOf s c =
     let r = recordOf c in
     record {
-      unicode = bit 7 (r .header .flags);
+      unicode = stringsUnicode (r .header .flags);
       target = partIf (hasTarget r) (targetText s r);
-      arguments = partIf (bit 5 (r .header .flags)) (bytesAt s (r .arguments));
-      workdir = partIf (bit 4 (r .header .flags)) (bytesAt s (r .workdir));
+      arguments = partIf (stringThere argumentsBit (r .header .flags)) (bytesAt s (r .arguments));
+      workdir = partIf (stringThere workdirBit (r .header .flags)) (bytesAt s (r .workdir));
       environment = environment s (firstPlace s 0xA0000001 (blocksOf c .start) (blocksOf c .read));
     }
 
@@ -104,4 +105,4 @@ pub record SameParts (k l : Key) : Type 0 where
 
 -- the characters of the arguments, where there are any
 abbrev pub argumentsOf : List ℕ → Record → Part
-argumentsOf s r = partIf (bit 5 (r .header .flags)) (characters (bit 7 (r .header .flags)) (bytesAt s (r .arguments)))
+argumentsOf s r = partIf (stringThere argumentsBit (r .header .flags)) (characters (stringsUnicode (r .header .flags)) (bytesAt s (r .arguments)))

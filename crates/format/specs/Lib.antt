@@ -1,5 +1,6 @@
 pub mod Numbers
 pub mod Tests
+pub mod Presence
 pub mod Hotkey
 pub mod Header
 pub mod Items
@@ -10,6 +11,7 @@ pub mod Info
 pub mod Strings
 pub mod Blocks
 pub mod Shortcut
+pub mod Bodies
 pub mod Contents
 pub mod Ranges
 pub mod Writing

@@ -7,7 +7,8 @@ use lib.Dec.{leb, ltb}
 use Rattle.octets.specs.Numbers.{u32At}
 use Rattle.format.specs.declared.Network.{Network}
 use Rattle.format.specs.declared.Fault.the-variants.{Piece as PIECE}
-use Rattle.format.specs.Tests.{Test, _else_, all, bit, noPlace}
+use Rattle.format.specs.Tests.{Test, _else_, all, noPlace}
+use Rattle.format.specs.Presence.{deviceThere, providerThere, deviceUnicodeThere}
 use Rattle.format.specs.Pieces.{Piece, textPiece, textPlace, absentZero, pieceTests}
 
 -- In what follows v is the network link's own bytes.
@@ -16,11 +17,14 @@ networkFlags v = u32At v 4
 
 -- Device names are present by bit 0
 abbrev pub hasDevice : List ℕ → Bool
-hasDevice v = bit 0 (networkFlags v)
+hasDevice v = deviceThere (networkFlags v)
 
 -- NetNameOffset above 0x14 means that Unicode offsets for net name and device name stand at 20 and 24
 abbrev pub networkUnicode : List ℕ → Bool
 networkUnicode v = ltb 0x14 (u32At v 8)
+
+abbrev pub hasDeviceUnicode : List ℕ → Bool
+hasDeviceUnicode v = deviceUnicodeThere (networkUnicode v) (networkFlags v)
 
 -- and the head is 0x1C long; otherwise it is 0x14 long
 abbrev pub networkHead : Bool → ℕ
@@ -34,7 +38,7 @@ networkPieces v =
     textPiece true false v (u32At v 8)
     ∷ textPiece (hasDevice v) false v (u32At v 12)
     ∷ textPiece (networkUnicode v) true v (u32At v 20)
-    ∷ textPiece (networkUnicode v && hasDevice v) true v (u32At v 24)
+    ∷ textPiece (hasDeviceUnicode v) true v (u32At v 24)
     ∷ []
 
 -- flags at 4, bits 0 and 1 only; NetNameOffset at least 0x14; the head inside the declared size; device names absent: their offsets are 0;
@@ -74,12 +78,12 @@ noNetwork = record {
 abbrev pub networkFields : ℕ → List ℕ → Network
 networkFields p v = record {
   flags = networkFlags v;
-  provider = cond (bit 1 (networkFlags v)) (u32At v 16) 0;
+  provider = cond (providerThere (networkFlags v)) (u32At v 16) 0;
   unicode = networkUnicode v;
   net = textPlace true false p v (u32At v 8);
   device = textPlace (hasDevice v) false p v (u32At v 12);
   «net_unicode» = textPlace (networkUnicode v) true p v (u32At v 20);
-  «device_unicode» = textPlace (networkUnicode v && hasDevice v) true p v (u32At v 24);
+  «device_unicode» = textPlace (hasDeviceUnicode v) true p v (u32At v 24);
 }
 
 -- l starts at p in the file

@@ -13,7 +13,8 @@ use Rattle.format.specs.declared.Header.{Header}
 use Rattle.format.specs.declared.Info.{Info}
 use Rattle.format.specs.declared.Record.{Record}
 use Rattle.format.specs.declared.Reading.{Reading}
-use Rattle.format.specs.Tests.{_else_, tests, Outcome, got, refused, Reader, andThen, chain, _then_, optional, bit, place, noPlace}
+use Rattle.format.specs.Tests.{_else_, tests, Outcome, got, refused, Reader, andThen, chain, _then_, optional, place, noPlace}
+use Rattle.format.specs.Presence.{itemsThere, infoThere, nameBit, relativeBit, workdirBit, argumentsBit, iconBit, stringThere, stringsUnicode}
 use Rattle.format.specs.Header.{header}
 use Rattle.format.specs.Items.{items}
 use Rattle.format.specs.Info.{info, noInfo}
@@ -42,7 +43,7 @@ sectionIf there d P = optional there (absent d) (found P)
 
 -- Flag bits 2 to 6 in order; two bytes each where bit 7 is set
 abbrev pub stringSection : ℕ → ℕ → Reader (Section Place)
-stringSection flags k = sectionIf (bit k flags) noPlace (string (bit 7 flags))
+stringSection flags k = sectionIf (stringThere k flags) noPlace (string (stringsUnicode flags))
 
 abbrev pub Tail : Type 0
 Tail =
@@ -52,13 +53,13 @@ Tail =
 -- the sections after the header, by its LinkFlags: items, LinkInfo, name, relative path, working directory, arguments, icon, blocks
 abbrev pub tail : ℕ → Reader Tail
 tail flags =
-    sectionIf (bit 0 flags) noPlace items
-    then sectionIf (bit 1 flags) noInfo info
-    then stringSection flags 2
-    then stringSection flags 3
-    then stringSection flags 4
-    then stringSection flags 5
-    then stringSection flags 6
+    sectionIf (itemsThere flags) noPlace items
+    then sectionIf (infoThere flags) noInfo info
+    then stringSection flags nameBit
+    then stringSection flags relativeBit
+    then stringSection flags workdirBit
+    then stringSection flags argumentsBit
+    then stringSection flags iconBit
     then found blocks
 
 abbrev pub Sections : Type 0

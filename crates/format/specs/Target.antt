@@ -8,13 +8,14 @@ use Rattle.format.specs.declared.Record.{Record}
 use Rattle.format.specs.declared.Verdict.{Verdict}
 use Rattle.format.specs.declared.Fault.the-variants.{Room as ROOM, NoTarget as NOTARGET}
 use Rattle.format.specs.Tests.{Outcome, got, _else_, tests, andThen, bit}
+use Rattle.format.specs.Presence.{infoThere, localThere, networkThere}
 use Rattle.format.specs.Shortcut.{shortcut, recordOf, verdictOf}
 use Rattle.format.specs.Contents.{bytesAt}
 use Rattle.format.specs.Writing.{outputOf}
 
 -- there is a target unless flag bit 8 is set, LinkInfo is absent, or neither of its bits 0 and 1 is set
 abbrev pub targeted : ℕ → ℕ → Bool
-targeted flags infoFlags = not (bit 8 flags) && bit 1 flags && (bit 0 infoFlags || bit 1 infoFlags)
+targeted flags infoFlags = not (bit 8 flags) && infoThere flags && (localThere infoFlags || networkThere infoFlags)
 
 abbrev pub hasTarget : Record → Bool
 hasTarget r = targeted (r .header .flags) (r .info .flags)
@@ -36,7 +37,7 @@ joined first suffix = first ++ (separator first suffix ++ suffix)
 -- With LinkInfo bit 0: local path, then suffix, as bytes. Otherwise with bit 1: net name, then suffix
 abbrev pub targetText : List ℕ → Record → List ℕ
 targetText s r =
-    joined (cond (bit 0 (r .info .flags)) (bytesAt s (r .info .local)) (bytesAt s (r .info .network .net))) (bytesAt s (r .info .suffix))
+    joined (cond (localThere (r .info .flags)) (bytesAt s (r .info .local)) (bytesAt s (r .info .network .net))) (bytesAt s (r .info .suffix))
 
 -- The target call tests as reading does, then 13, then 12
 unfoldable pub target : List ℕ → ℕ → Outcome (List ℕ)

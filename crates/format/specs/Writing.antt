@@ -12,7 +12,8 @@ use Rattle.format.specs.declared.Header.{Header}
 use Rattle.format.specs.declared.Record.{Record}
 use Rattle.format.specs.declared.Verdict.{Verdict}
 use Rattle.format.specs.declared.Fault.the-variants.{Place as PLACE, Unwritable as UNWRITABLE, Room as ROOM}
-use Rattle.format.specs.Tests.{Outcome, got, refused, _else_, tests, bit}
+use Rattle.format.specs.Tests.{Outcome, got, refused, _else_, tests}
+use Rattle.format.specs.Presence.{itemsThere, infoThere, nameBit, relativeBit, workdirBit, argumentsBit, iconBit, stringThere, stringsUnicode, localThere, networkThere, localUnicodeThere, deviceThere, providerThere, deviceUnicodeThere}
 use Rattle.format.specs.Header.{classIdentifier, flagsOk, attributesOk}
 use Rattle.format.specs.Hotkey.{hotkeyOk}
 use Rattle.format.specs.Items.{itemList}
@@ -21,7 +22,8 @@ use Rattle.format.specs.Volume.{labelLeast}
 use Rattle.format.specs.Network.{networkHead}
 use Rattle.format.specs.Blocks.{blocks}
 use Rattle.format.specs.Shortcut.{most, verdictOf}
-use Rattle.format.specs.Contents.{VolumeContents, NetworkContents, InfoContents, Contents, contents, placed}
+use Rattle.format.specs.Bodies.{placed, writtenHead}
+use Rattle.format.specs.Contents.{VolumeContents, NetworkContents, InfoContents, Contents, contents}
 
 abbrev pub endToEnd : List (List ℕ) → List ℕ
 endToEnd [] = []
@@ -101,13 +103,13 @@ module _ (n : NetworkContents) where
   netBytes = textBytes false (n .net)
 
   abbrev pub deviceBytes : List ℕ
-  deviceBytes = ifThere (bit 0 (n .flags)) (textBytes false) (n .device)
+  deviceBytes = ifThere (deviceThere (n .flags)) (textBytes false) (n .device)
 
   abbrev pub netUnicodeBytes : List ℕ
   netUnicodeBytes = ifThere (n .unicode) (textBytes true) (n .netUnicode)
 
   abbrev pub deviceUnicodeBytes : List ℕ
-  deviceUnicodeBytes = ifThere (n .unicode && bit 0 (n .flags)) (textBytes true) (n .deviceUnicode)
+  deviceUnicodeBytes = ifThere (deviceUnicodeThere (n .unicode) (n .flags)) (textBytes true) (n .deviceUnicode)
 
   -- where each starts, and where the last ends
   abbrev pub netStart : ℕ
@@ -131,9 +133,9 @@ module _ (n : NetworkContents) where
       (little 4 networkLength
       ∷ little 4 (n .flags)
       ∷ little 4 netStart
-      ∷ offsetField (bit 0 (n .flags)) deviceStart
-      ∷ little 4 (cond (bit 1 (n .flags)) (n .provider) 0)
-      ∷ twoFields (n .unicode) netUnicodeStart (cond (bit 0 (n .flags)) deviceUnicodeStart 0)
+      ∷ offsetField (deviceThere (n .flags)) deviceStart
+      ∷ little 4 (cond (providerThere (n .flags)) (n .provider) 0)
+      ∷ twoFields (n .unicode) netUnicodeStart (cond (deviceThere (n .flags)) deviceUnicodeStart 0)
       ∷ netBytes
       ∷ deviceBytes
       ∷ netUnicodeBytes
@@ -143,26 +145,26 @@ module _ (n : NetworkContents) where
 -- LinkInfo has head 0x1C, or 0x24 with Unicode, then VolumeID, local path, network link, suffix, Unicode local path, Unicode suffix, no gaps
 module _ (i : InfoContents) where
   abbrev pub infoVolumeBytes : List ℕ
-  infoVolumeBytes = ifThere (bit 0 (i .flags)) volumeBytes (i .volume)
+  infoVolumeBytes = ifThere (localThere (i .flags)) volumeBytes (i .volume)
 
   abbrev pub localBytes : List ℕ
-  localBytes = ifThere (bit 0 (i .flags)) (textBytes false) (i .local)
+  localBytes = ifThere (localThere (i .flags)) (textBytes false) (i .local)
 
   abbrev pub infoNetworkBytes : List ℕ
-  infoNetworkBytes = ifThere (bit 1 (i .flags)) networkBytes (i .network)
+  infoNetworkBytes = ifThere (networkThere (i .flags)) networkBytes (i .network)
 
   abbrev pub suffixBytes : List ℕ
   suffixBytes = textBytes false (i .suffix)
 
   abbrev pub localUnicodeBytes : List ℕ
-  localUnicodeBytes = ifThere (i .long && bit 0 (i .flags)) (textBytes true) (i .localUnicode)
+  localUnicodeBytes = ifThere (localUnicodeThere (i .long) (i .flags)) (textBytes true) (i .localUnicode)
 
   abbrev pub suffixUnicodeBytes : List ℕ
   suffixUnicodeBytes = ifThere (i .long) (textBytes true) (i .suffixUnicode)
 
   -- LinkInfoHeaderSize
   abbrev pub infoHeadLength : ℕ
-  infoHeadLength = cond (i .long) 0x24 0x1C
+  infoHeadLength = writtenHead (i .long)
 
   -- where each piece starts, and where the last ends
   abbrev pub volumeStart : ℕ
@@ -193,11 +195,11 @@ module _ (i : InfoContents) where
       (little 4 infoLength
       ∷ little 4 infoHeadLength
       ∷ little 4 (i .flags)
-      ∷ offsetField (bit 0 (i .flags)) volumeStart
-      ∷ offsetField (bit 0 (i .flags)) localStart
-      ∷ offsetField (bit 1 (i .flags)) networkStart
+      ∷ offsetField (localThere (i .flags)) volumeStart
+      ∷ offsetField (localThere (i .flags)) localStart
+      ∷ offsetField (networkThere (i .flags)) networkStart
       ∷ little 4 suffixStart
-      ∷ twoFields (i .long) (cond (bit 0 (i .flags)) localUnicodeStart 0) suffixUnicodeStart
+      ∷ twoFields (i .long) (cond (localThere (i .flags)) localUnicodeStart 0) suffixUnicodeStart
       ∷ infoVolumeBytes
       ∷ localBytes
       ∷ infoNetworkBytes
@@ -215,8 +217,8 @@ stringBytes unicode x = little 2 (length (characters unicode x)) ++ x
 abbrev pub blocksBytes : List ℕ → List ℕ
 blocksBytes x = x ++ little 4 0
 
-abbrev pub stringThere : Contents → ℕ → List ℕ → List ℕ
-stringThere c k x = ifThere (bit k (c .header .flags)) (stringBytes (bit 7 (c .header .flags))) x
+abbrev pub stringPart : Contents → ℕ → List ℕ → List ℕ
+stringPart c k x = ifThere (stringThere k (c .header .flags)) (stringBytes (stringsUnicode (c .header .flags))) x
 
 -- The sections in file order
 unfoldable pub canonical : Contents → List ℕ
@@ -224,13 +226,13 @@ unfolding headerBytes itemsBytes infoBytes stringBytes
 canonical c =
     endToEnd
     (headerBytes (c .header)
-    ∷ ifThere (bit 0 (c .header .flags)) itemsBytes (c .items)
-    ∷ ifThere (bit 1 (c .header .flags)) infoBytes (c .info)
-    ∷ stringThere c 2 (c .name)
-    ∷ stringThere c 3 (c .relative)
-    ∷ stringThere c 4 (c .workdir)
-    ∷ stringThere c 5 (c .arguments)
-    ∷ stringThere c 6 (c .icon)
+    ∷ ifThere (itemsThere (c .header .flags)) itemsBytes (c .items)
+    ∷ ifThere (infoThere (c .header .flags)) infoBytes (c .info)
+    ∷ stringPart c nameBit (c .name)
+    ∷ stringPart c relativeBit (c .relative)
+    ∷ stringPart c workdirBit (c .workdir)
+    ∷ stringPart c argumentsBit (c .arguments)
+    ∷ stringPart c iconBit (c .icon)
     ∷ blocksBytes (c .blocks)
     ∷ [])
 
@@ -262,20 +264,20 @@ writableNetwork n =
     every
     (leb (n .flags) 3
     ∷ writableText false (n .net)
-    ∷ writableIf (bit 0 (n .flags)) (writableText false) (n .device)
+    ∷ writableIf (deviceThere (n .flags)) (writableText false) (n .device)
     ∷ writableIf (n .unicode) (writableText true) (n .netUnicode)
-    ∷ writableIf (n .unicode && bit 0 (n .flags)) (writableText true) (n .deviceUnicode)
+    ∷ writableIf (deviceUnicodeThere (n .unicode) (n .flags)) (writableText true) (n .deviceUnicode)
     ∷ [])
 
 abbrev pub writableInfo : InfoContents → Bool
 writableInfo i =
     every
     (leb (i .flags) 3
-    ∷ writableIf (bit 0 (i .flags)) writableVolume (i .volume)
-    ∷ writableIf (bit 0 (i .flags)) (writableText false) (i .local)
-    ∷ writableIf (bit 1 (i .flags)) writableNetwork (i .network)
+    ∷ writableIf (localThere (i .flags)) writableVolume (i .volume)
+    ∷ writableIf (localThere (i .flags)) (writableText false) (i .local)
+    ∷ writableIf (networkThere (i .flags)) writableNetwork (i .network)
     ∷ writableText false (i .suffix)
-    ∷ writableIf (i .long && bit 0 (i .flags)) (writableText true) (i .localUnicode)
+    ∷ writableIf (localUnicodeThere (i .long) (i .flags)) (writableText true) (i .localUnicode)
     ∷ writableIf (i .long) (writableText true) (i .suffixUnicode)
     ∷ [])
 
@@ -293,20 +295,20 @@ abbrev pub writableBlocks : List ℕ → Bool
 writableBlocks x = takes (length x + 4) (blocks 0 (x ++ little 4 0))
 
 abbrev pub writableStringOf : Contents → ℕ → List ℕ → Bool
-writableStringOf c k x = writableIf (bit k (c .header .flags)) (writableString (bit 7 (c .header .flags))) x
+writableStringOf c k x = writableIf (stringThere k (c .header .flags)) (writableString (stringsUnicode (c .header .flags))) x
 
 unfoldable pub writable : Contents → Bool
 unfolding canonical
 writable c =
     every
     (writableHeader (c .header)
-    ∷ writableIf (bit 0 (c .header .flags)) writableItems (c .items)
-    ∷ writableIf (bit 1 (c .header .flags)) writableInfo (c .info)
-    ∷ writableStringOf c 2 (c .name)
-    ∷ writableStringOf c 3 (c .relative)
-    ∷ writableStringOf c 4 (c .workdir)
-    ∷ writableStringOf c 5 (c .arguments)
-    ∷ writableStringOf c 6 (c .icon)
+    ∷ writableIf (itemsThere (c .header .flags)) writableItems (c .items)
+    ∷ writableIf (infoThere (c .header .flags)) writableInfo (c .info)
+    ∷ writableStringOf c nameBit (c .name)
+    ∷ writableStringOf c relativeBit (c .relative)
+    ∷ writableStringOf c workdirBit (c .workdir)
+    ∷ writableStringOf c argumentsBit (c .arguments)
+    ∷ writableStringOf c iconBit (c .icon)
     ∷ writableBlocks (c .blocks)
     ∷ leb (length (canonical c)) most
     ∷ [])

@@ -9,7 +9,7 @@ ghost use Rattle.format.specs.Network.{noNetwork};
 ghost use Rattle.format.specs.Info.{noInfo};
 ghost use Rattle.format.specs.Shortcut.{noHeader, noRecord};
 ghost use Rattle.format.specs.Writing.{bits};
-ghost use Rattle.format.specs.Contents.{labelPlace, labelKind};
+ghost use Rattle.format.specs.Bodies.{labelPlace, labelKind};
 
 // Where a body stands in the body buffer, and how many bytes it has.
 pub struct Place {

@@ -12,9 +12,10 @@ use Rattle.octets.specs.declared.Cursor.{Cursor}
 use Rattle.format.specs.declared.Fault.{Fault}
 use Rattle.format.specs.declared.Fault.the-variants.{Cut as CUT, Info as INFO, Piece as PIECE}
 use Rattle.format.specs.declared.Info.{Info}
-use Rattle.format.specs.Tests.{Outcome, got, refused, Test, _else_, tests, all, bit}
+use Rattle.format.specs.Tests.{Outcome, got, refused, Test, _else_, tests, all}
+use Rattle.format.specs.Presence.{localThere, networkThere}
 use Rattle.format.specs.Pieces.{absentZero, pieceTests, allApart}
-use Rattle.format.specs.Info.{infoSize, infoHead, longHead, hasLocal, hasNetwork, infoPieces, infoRules, infoFields}
+use Rattle.format.specs.Info.{infoSize, infoHead, longHead, hasLocal, hasNetwork, infoPieces, infoRules, infoFields, hasLocalUnicode}
 use Rattle.format.proofs.Bools.{or-true, and-true, and-assoc, and-yes}
 use Rattle.format.proofs.Chains.{tests-append, all-pass}
 use Rattle.info.specs.declared.InfoTaken.the-variants.{Got, Refused}
@@ -54,7 +55,7 @@ module _ (l : List ℕ) {head : ℕ} (eh : head ≡ u32At l 4) where
   fixed-room e = long-inside head (length l) (rw eh (all-pass (infoFixed l) e .0))
 
   pub head-passes : {flags o₁ o₂ o₃ o₄ : ℕ} {local linked x₁ x₂ x₃ x₄ : Bool} → not (headFits head (length l)) ≡ false
-      → flags ≡ u32At l 8 → local ≡ bit 0 flags → o₁ ≡ u32At l 12 → x₁ ≡ absentZero local o₁ → o₂ ≡ u32At l 16 → x₂ ≡ absentZero local o₂ → linked ≡ bit 1 flags
+      → flags ≡ u32At l 8 → local ≡ localThere flags → o₁ ≡ u32At l 12 → x₁ ≡ absentZero local o₁ → o₂ ≡ u32At l 16 → x₂ ≡ absentZero local o₂ → linked ≡ networkThere flags
       → o₃ ≡ u32At l 20 → x₃ ≡ absentZero linked o₃ → o₄ ≡ fieldIf (leb 0x24 head) l 28 → x₄ ≡ absentZero local o₄
       → ((((leb flags 3 && x₁) && x₂) && x₃) && x₄) ≡ all (infoFixed l)
   unfolding infoFixed
@@ -69,11 +70,11 @@ pub record Six (p : ℕ) (l : List ℕ) (a : VolumeFound) (b : Text) (c : Networ
   pub local : b ≡ textFound (hasLocal l) false l p (infoHead l) (u32At l 16)
   pub network : c ≡ networkFound (hasNetwork l) l p (infoHead l) (u32At l 20)
   pub suffix : d ≡ textFound true false l p (infoHead l) (u32At l 24)
-  pub localUnicode : e ≡ textFound (longHead l && hasLocal l) true l p (infoHead l) (u32At l 28)
+  pub localUnicode : e ≡ textFound (hasLocalUnicode l) true l p (infoHead l) (u32At l 28)
   pub suffixUnicode : f ≡ textFound (longHead l) true l p (infoHead l) (u32At l 32)
 
 pub six : (p : ℕ) (l : List ℕ) {head flags o₁ o₂ o₃ o₄ o₅ o₆ : ℕ} {local linked : Bool} {a : VolumeFound} {b : Text} {c : NetworkFound} {d e f : Text}
-    → head ≡ u32At l 4 → flags ≡ u32At l 8 → local ≡ bit 0 flags → linked ≡ bit 1 flags
+    → head ≡ u32At l 4 → flags ≡ u32At l 8 → local ≡ localThere flags → linked ≡ networkThere flags
     → o₁ ≡ u32At l 12 → a ≡ volumeFound local l p head o₁
     → o₂ ≡ u32At l 16 → b ≡ textFound local false l p head o₂
     → o₃ ≡ u32At l 20 → c ≡ networkFound linked l p head o₃

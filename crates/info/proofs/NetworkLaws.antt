@@ -9,9 +9,10 @@ use lib.Dec.{leb, ltb}
 use borrow.Author.Tests.{le-leb, lt-leb, leb-true, not-true, not-false}
 use Rattle.octets.specs.Numbers.{u32At}
 use Rattle.format.specs.declared.Network.{Network}
-use Rattle.format.specs.Tests.{all, bit}
+use Rattle.format.specs.Tests.{all}
+use Rattle.format.specs.Presence.{deviceThere}
 use Rattle.format.specs.Pieces.{absentZero, pieceTests, allApart}
-use Rattle.format.specs.Network.{hasDevice, networkUnicode, networkHead, networkPieces, networkRules, networkFields, networkPiece, networkAt, noNetwork}
+use Rattle.format.specs.Network.{hasDevice, networkUnicode, networkHead, networkPieces, networkRules, networkFields, networkPiece, networkAt, noNetwork, hasDeviceUnicode}
 use Rattle.format.proofs.Bools.{every-out, and-assoc, and-yes, and-no}
 use Rattle.format.proofs.Chains.{all-pass}
 use Rattle.info.specs.declared.Text.{Text}
@@ -33,7 +34,7 @@ module _ (v : List ℕ) {flags name head : ℕ} (ef : flags ≡ u32At v 4) (en :
   unfolding networkFixed
   network-short h = rw (head-fits false (lt-leb head (length v) h), and-no, and-no)
 
-  pub network-long : {device x y : Bool} {o₁ o₂ : ℕ} → head ≤ length v → device ≡ bit 0 flags → o₁ ≡ u32At v 12 → x ≡ absentZero device o₁
+  pub network-long : {device x y : Bool} {o₁ o₂ : ℕ} → head ≤ length v → device ≡ deviceThere flags → o₁ ≡ u32At v 12 → x ≡ absentZero device o₁
       → o₂ ≡ fieldIf (ltb 0x14 name) v 24 → y ≡ absentZero device o₂ → (((leb flags 3 && leb 0x14 name) && x) && y) ≡ all (networkFixed v)
   unfolding networkFixed
   network-long h ed e₁ ex e₂ ey =
@@ -72,9 +73,9 @@ pub record Four (p : ℕ) (v : List ℕ) (a b c d : Text) : Type 0 where
   pub net : a ≡ textFound true false v p (networkHead (networkUnicode v)) (u32At v 8)
   pub device : b ≡ textFound (hasDevice v) false v p (networkHead (networkUnicode v)) (u32At v 12)
   pub netUnicode : c ≡ textFound (networkUnicode v) true v p (networkHead (networkUnicode v)) (u32At v 20)
-  pub deviceUnicode : d ≡ textFound (networkUnicode v && hasDevice v) true v p (networkHead (networkUnicode v)) (u32At v 24)
+  pub deviceUnicode : d ≡ textFound (hasDeviceUnicode v) true v p (networkHead (networkUnicode v)) (u32At v 24)
 
-pub four : (p : ℕ) (v : List ℕ) {flags name head o₁ o₂ o₃ : ℕ} {device : Bool} {a b c d : Text} → flags ≡ u32At v 4 → name ≡ u32At v 8 → device ≡ bit 0 flags
+pub four : (p : ℕ) (v : List ℕ) {flags name head o₁ o₂ o₃ : ℕ} {device : Bool} {a b c d : Text} → flags ≡ u32At v 4 → name ≡ u32At v 8 → device ≡ deviceThere flags
     → head ≡ networkHead (ltb 0x14 name) → a ≡ textFound true false v p head name → o₁ ≡ u32At v 12 → b ≡ textFound device false v p head o₁
     → o₂ ≡ fieldIf (ltb 0x14 name) v 20 → c ≡ textFound (ltb 0x14 name) true v p head o₂
     → o₃ ≡ fieldIf (ltb 0x14 name) v 24 → d ≡ textFound (ltb 0x14 name && device) true v p head o₃ → Four p v a b c d
@@ -120,7 +121,7 @@ module _ (p : ℕ) (v : List ℕ) {fixed : Bool} (ex : fixed ≡ all (networkFix
               text-body true false v p h (u32At v 8) (f .net) (w .0),
               text-body (hasDevice v) false v p h (u32At v 12) (f .device) (w .1 .0),
               text-body (networkUnicode v) true v p h (u32At v 20) (f .netUnicode) (w .1 .1 .0),
-              text-body (networkUnicode v && hasDevice v) true v p h (u32At v 24) (f .deviceUnicode) (w .1 .1 .1 .0),
+              text-body (hasDeviceUnicode v) true v p h (u32At v 24) (f .deviceUnicode) (w .1 .1 .1 .0),
             ))
         go false e = refl
 

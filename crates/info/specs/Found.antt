@@ -1,7 +1,7 @@
 -- What the functions of this crate find: format's definitions, with zeros where a test fails.
 use Prim.Native.Nat.{ℕ, _+_, _≤_}
 use mathlib.Core.List.{List, [], _∷_}
-use mathlib.Core.Bool.{Bool, true, false, not, _&&_, _||_, cond}
+use mathlib.Core.Bool.{Bool, true, false, not, _||_, cond}
 use lib.ListN.{length, drop}
 use lib.Dec.{leb}
 use Rattle.octets.specs.Numbers.{u32At}
@@ -9,11 +9,12 @@ use Rattle.format.specs.declared.Place.{Place}
 use Rattle.format.specs.declared.Volume.{Volume}
 use Rattle.format.specs.declared.Network.{Network}
 use Rattle.format.specs.declared.Fault.the-variants.{Info as INFO, Piece as PIECE}
-use Rattle.format.specs.Tests.{Test, _else_, all, bit, noPlace}
+use Rattle.format.specs.Tests.{Test, _else_, all, noPlace}
+use Rattle.format.specs.Presence.{providerThere}
 use Rattle.format.specs.Pieces.{Piece, textPiece, textPlace, absentZero, pieceOk, span, pieceTests}
 use Rattle.format.specs.Volume.{volumePiece, volumeAt, volumeRules, volumeFields, noVolume}
 use Rattle.format.specs.Network.{networkFlags, hasDevice, networkUnicode, networkHead, networkRules, networkPiece, networkFields, networkAt, noNetwork}
-use Rattle.format.specs.Info.{infoHead, longHead, headOk, infoFlags, hasLocal, hasNetwork, infoPieces}
+use Rattle.format.specs.Info.{infoHead, longHead, headOk, infoFlags, hasLocal, hasNetwork, infoPieces, hasLocalUnicode}
 use Rattle.format.specs.Writing.{every}
 use Rattle.info.specs.declared.Text.{Text}
 use Rattle.info.specs.declared.VolumeFound.{VolumeFound}
@@ -83,7 +84,7 @@ unfoldable pub networkIn : ℕ → List ℕ → NetworkRead
 networkIn p v = networkIf (all (networkRules v)) (networkFields p v)
 
 abbrev pub providerOf : ℕ → ℕ → ℕ
-providerOf flags kept = cond (bit 1 flags) kept 0
+providerOf flags kept = cond (providerThere flags) kept 0
 
 -- the tests before those of the strings
 unfoldable pub networkFixed : List ℕ → List Test
@@ -119,7 +120,7 @@ piecesFound start l = record {
     local = textFound (hasLocal l) false l start (infoHead l) (u32At l 16) .body;
     network = networkFound (hasNetwork l) l start (infoHead l) (u32At l 20) .network;
     suffix = textFound true false l start (infoHead l) (u32At l 24) .body;
-    «local_unicode» = textFound (longHead l && hasLocal l) true l start (infoHead l) (u32At l 28) .body;
+    «local_unicode» = textFound (hasLocalUnicode l) true l start (infoHead l) (u32At l 28) .body;
     «suffix_unicode» = textFound (longHead l) true l start (infoHead l) (u32At l 32) .body;
   };
 }

@@ -12,7 +12,7 @@ use Rattle.format.specs.declared.Verdict.{Verdict}
 use Rattle.format.specs.declared.Verdict.the-variants.{Accepted}
 use Rattle.format.specs.Tests.{Outcome}
 use Rattle.format.specs.Shortcut.{verdictOf, reading}
-use Rattle.format.specs.Contents.{placed}
+use Rattle.format.specs.Bodies.{placed}
 use Rattle.format.specs.Ranges.{FitsRecord}
 use Rattle.format.specs.Writing.{writing, outputOf, writeAnswer, writeOutput}
 use Rattle.format.specs.Demands.{Accepts, ReadsAs, Writes, misplaced, unwritable, no-room, written}

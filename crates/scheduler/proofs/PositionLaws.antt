@@ -19,7 +19,8 @@ use Rattle.format.specs.Info.{infoSize, infoRules, noInfo, infoFields, info}
 use Rattle.format.specs.Strings.{stringLength, string}
 use Rattle.format.specs.Blocks.{blockSize, blockTests, blocks}
 use Rattle.format.specs.Shortcut.{most, Section, Sections, found, sectionIf, stringSection, tail, sections, shortcut, recordOf, verdictOf, reading}
-use Rattle.format.specs.Contents.{Contents, placed, contents}
+use Rattle.format.specs.Bodies.{placed}
+use Rattle.format.specs.Contents.{Contents, contents}
 use Rattle.format.specs.Writing.{every, canonical, writable, writing, writeAnswer}
 use Rattle.format.specs.Target.{hasTarget, targetText, target, targetAnswer}
 use Rattle.format.specs.Key.{keyOf, keyBytes, key, keyAnswer, keyIn}

@@ -9,11 +9,11 @@ use Rattle.format.specs.declared.Volume.{Volume}
 use Rattle.format.specs.declared.Network.{Network}
 use Rattle.format.specs.declared.Info.{Info}
 use Rattle.format.specs.declared.Record.{Record}
-use Rattle.format.specs.Tests.{bit}
+use Rattle.format.specs.Presence.{itemsThere, infoThere, nameBit, relativeBit, workdirBit, argumentsBit, iconBit, stringThere, localThere, networkThere, deviceThere}
 use Rattle.format.specs.Volume.{labelLeast}
 use Rattle.format.specs.Network.{networkHead}
 use Rattle.format.specs.Shortcut.{most}
-use Rattle.format.specs.Contents.{labelPlace, labelKind}
+use Rattle.format.specs.Bodies.{labelPlace, labelKind}
 use Rattle.format.proofs.Bools.{by-order}
 use Rattle.canonical.specs.Sizes.{textSizeIf, volumeSize, networkSize, infoSize, sizedIf, stringsSize, canonicalSize}
 use Rattle.writable.specs.Lengths.{capped, bodySpan}
@@ -79,7 +79,7 @@ pub volume-length : (v : Volume) (u : Bool) {l : Place} {a r : ℕ} → u ≡ la
 unfolding volumeSize
 volume-length v u eu el ea er = rw (← eu, ← el) (sum-is _ _ (count-exact (labelLeast u) (small-least u)) ea er)
 
-pub network-length : (n : Network) {t : Bool} {h a b c e x y z r : ℕ} → t ≡ bit 0 (n .flags) → h ≡ networkHead (n .unicode)
+pub network-length : (n : Network) {t : Bool} {h a b c e x y z r : ℕ} → t ≡ deviceThere (n .flags) → h ≡ networkHead (n .unicode)
     → a ≡ capped (textSizeIf true false (n .net)) → x ≡ capped (h + a)
     → b ≡ capped (textSizeIf t false (n .device)) → y ≡ capped (x + b)
     → c ≡ capped (textSizeIf (n .unicode) true (n .«net_unicode»)) → z ≡ capped (y + c)
@@ -89,7 +89,7 @@ unfolding networkSize
 network-length n et eh ea ex eb ey ec ez ee er =
     rw (← et) (sum-is _ _ (sum-is _ _ (sum-is _ _ (sum-is _ _ (eh ∙ count-exact (networkHead (n .unicode)) (small-head (n .unicode))) ea ex) eb ey) ec ez) ee er)
 
-pub info-length : (i : Info) {t w : Bool} {h a b c e f g u v x y z r : ℕ} → t ≡ bit 0 (i .flags) → w ≡ bit 1 (i .flags) → h ≡ cond (i .long) 0x24 0x1C
+pub info-length : (i : Info) {t w : Bool} {h a b c e f g u v x y z r : ℕ} → t ≡ localThere (i .flags) → w ≡ networkThere (i .flags) → h ≡ cond (i .long) 0x24 0x1C
     → a ≡ capped (cond t (volumeSize (i .volume)) 0) → u ≡ capped (h + a)
     → b ≡ capped (textSizeIf t false (i .local)) → v ≡ capped (u + b)
     → c ≡ capped (cond w (networkSize (i .network)) 0) → x ≡ capped (v + c)
@@ -105,10 +105,10 @@ info-length i et ew eh ea eu eb ev ec ex ee ey ef ez eg er =
 -- a body of the record with the test of its flag
 pub record Counted (flags k : ℕ) (b : Place) (around n : ℕ) : Type 0 where
   pub there : Bool
-  pub flag : there ≡ bit k flags
+  pub flag : there ≡ stringThere k flags
   pub is : n ≡ capped (bodySpan there b around)
 
-counted : (flags k : ℕ) (b : Place) (around : ℕ) {n : ℕ} → Counted flags k b around n → n ≡ capped (bodySpan (bit k flags) b around)
+counted : (flags k : ℕ) (b : Place) (around : ℕ) {n : ℕ} → Counted flags k b around n → n ≡ capped (bodySpan (stringThere k flags) b around)
 counted flags k b around s = rw (← (s .flag)) (s .is)
 
 beside : (t : Bool) (b : Place) (k : ℕ) → bodySpan t b k ≡ sizedIf t k b
@@ -121,30 +121,30 @@ module _ (q : Record) where
 
   -- one part after another, as the code adds them up
   total : 76
-      + bodySpan (bit 0 flagsOf) (q .items) 4
-      + cond (bit 1 flagsOf) (infoSize (q .info)) 0
-      + bodySpan (bit 2 flagsOf) (q .name) 2
-      + bodySpan (bit 3 flagsOf) (q .relative) 2
-      + bodySpan (bit 4 flagsOf) (q .workdir) 2
-      + bodySpan (bit 5 flagsOf) (q .arguments) 2
-      + bodySpan (bit 6 flagsOf) (q .icon) 2
+      + bodySpan (itemsThere flagsOf) (q .items) 4
+      + cond (infoThere flagsOf) (infoSize (q .info)) 0
+      + bodySpan (stringThere nameBit flagsOf) (q .name) 2
+      + bodySpan (stringThere relativeBit flagsOf) (q .relative) 2
+      + bodySpan (stringThere workdirBit flagsOf) (q .workdir) 2
+      + bodySpan (stringThere argumentsBit flagsOf) (q .arguments) 2
+      + bodySpan (stringThere iconBit flagsOf) (q .icon) 2
       + bodySpan true (q .blocks) 4
       ≡ canonicalSize q
   unfolding canonicalSize stringsSize
   total =
       omega (
         arith,
-        beside (bit 0 flagsOf) (q .items) 4,
-        beside (bit 2 flagsOf) (q .name) 2,
-        beside (bit 3 flagsOf) (q .relative) 2,
-        beside (bit 4 flagsOf) (q .workdir) 2,
-        beside (bit 5 flagsOf) (q .arguments) 2,
-        beside (bit 6 flagsOf) (q .icon) 2,
+        beside (itemsThere flagsOf) (q .items) 4,
+        beside (stringThere nameBit flagsOf) (q .name) 2,
+        beside (stringThere relativeBit flagsOf) (q .relative) 2,
+        beside (stringThere workdirBit flagsOf) (q .workdir) 2,
+        beside (stringThere argumentsBit flagsOf) (q .arguments) 2,
+        beside (stringThere iconBit flagsOf) (q .icon) 2,
       )
 
   pub record-length : {w : Bool} {a b c d e f g h s t u v x y z r : ℕ}
       → Counted flagsOf 0 (q .items) 4 a → s ≡ capped (76 + a)
-      → w ≡ bit 1 flagsOf → b ≡ capped (cond w (infoSize (q .info)) 0) → t ≡ capped (s + b)
+      → w ≡ infoThere flagsOf → b ≡ capped (cond w (infoSize (q .info)) 0) → t ≡ capped (s + b)
       → Counted flagsOf 2 (q .name) 2 c → u ≡ capped (t + c)
       → Counted flagsOf 3 (q .relative) 2 d → v ≡ capped (u + d)
       → Counted flagsOf 4 (q .workdir) 2 e → x ≡ capped (v + e)
@@ -154,7 +154,7 @@ module _ (q : Record) where
       → r ≡ capped (canonicalSize q)
   record-length ca es ew eb et cn eu cd ev ce ex cf ey cg ez eh er =
       let i = sum-is _ _ (count-exact 76 (omega arith)) (counted flagsOf 0 (q .items) 4 ca) es in
-      let j = sum-is _ (cond (bit 1 flagsOf) (infoSize (q .info)) 0) i (rw ew at eb) et in
+      let j = sum-is _ (cond (infoThere flagsOf) (infoSize (q .info)) 0) i (rw ew at eb) et in
       let k = sum-is _ _ j (counted flagsOf 2 (q .name) 2 cn) eu in
       let l = sum-is _ _ k (counted flagsOf 3 (q .relative) 2 cd) ev in
       let m = sum-is _ _ l (counted flagsOf 4 (q .workdir) 2 ce) ex in

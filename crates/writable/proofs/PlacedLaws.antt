@@ -10,7 +10,7 @@ use Rattle.format.specs.declared.Place.{Place}
 use Rattle.format.specs.declared.Network.{Network}
 use Rattle.format.specs.declared.Info.{Info}
 use Rattle.format.specs.declared.Record.{Record}
-use Rattle.format.specs.Contents.{labelPlace, bodies, allInside}
+use Rattle.format.specs.Bodies.{labelPlace, bodies, allInside}
 use Rattle.format.proofs.Bools.{by-order, joined-every, and-assoc}
 use Rattle.writable.specs.Bodies.{networkBodies, infoBodies}
 

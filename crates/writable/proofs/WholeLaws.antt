@@ -9,7 +9,8 @@ use lib.Dec.{leb}
 use borrow.Author.Tests.{le-leb, lt-leb}
 use Rattle.format.specs.declared.Record.{Record}
 use Rattle.format.specs.Shortcut.{most}
-use Rattle.format.specs.Contents.{bodies, allInside, bodiesOf}
+use Rattle.format.specs.Bodies.{bodies, allInside}
+use Rattle.format.specs.Contents.{bodiesOf}
 use Rattle.format.specs.Writing.{every, canonical, writable}
 use Rattle.format.proofs.Bools.{by-order, clash, and-no, and-yes}
 use Rattle.canonical.specs.Sizes.{canonicalSize}

@@ -3,7 +3,7 @@ use mathlib.Core.List.{List, [], _∷_, _++_}
 use Rattle.format.specs.declared.Place.{Place}
 use Rattle.format.specs.declared.Network.{Network}
 use Rattle.format.specs.declared.Info.{Info}
-use Rattle.format.specs.Contents.{labelPlace}
+use Rattle.format.specs.Bodies.{labelPlace}
 
 abbrev pub networkBodies : Network → List Place
 networkBodies n = n .net ∷ n .device ∷ n .«net_unicode» ∷ n .«device_unicode» ∷ []

@@ -12,8 +12,10 @@ use Rattle.format.specs.declared.Record.{Record}
 use Rattle.format.specs.declared.Fault.the-variants.{Place as PLACE, Unwritable as UNWRITABLE, Room as ROOM}
 use Rattle.format.specs.declared.Verdict.the-variants.{Accepted, Refused}
 use Rattle.format.specs.Tests.{got, refused, _else_, tests}
-use Rattle.format.specs.Contents.{present, bodies, allInside, placed, bodiesOf, contents}
+use Rattle.format.specs.Bodies.{bodies, allInside}
+use Rattle.format.specs.Contents.{present, bodiesOf, contents}
 use Rattle.format.specs.Writing.{canonical, writable, writing, outputOf, writeAnswer, writeOutput}
+use Rattle.format.proofs.TableLaws.{placed-present}
 use Rattle.writable.specs.Lengths.{capped}
 use Rattle.writable.proofs.WholeLaws.{writable-length, writable-within}
 use Rattle.canonical.specs.Puts.{Fits}
@@ -26,8 +28,8 @@ module _ (r : Record) (d out : List ℕ) {q : Record} (e : q ≡ present r) wher
   writing-is : writing r d (length out)
       ≡ tests 0 (allInside (length d) (bodies q) else PLACE ∷ writable (bodiesOf d q) else UNWRITABLE ∷ leb (length (canonical (bodiesOf d q))) (length out) else ROOM ∷ [])
       (got (canonical (bodiesOf d q)) (length (canonical (bodiesOf d q))))
-  unfolding writing placed contents
-  writing-is = rw e
+  unfolding writing contents
+  writing-is = rw (placed-present r (length d), e)
 
   module _ {p : Bool} (i : p ≡ allInside (length d) (bodies q)) where
     pub write-outside : not p ≡ true → (Refused PLACE 0 ≡ writeAnswer r d out) × (out ≡ writeOutput r d out)

@@ -9,7 +9,7 @@ use Rattle.format.specs.declared.Record.{Record}
 use Rattle.format.specs.declared.Fault.the-variants.{Place as PLACE, Unwritable as UNWRITABLE, Room as ROOM}
 use Rattle.format.specs.declared.Verdict.{Verdict}
 use Rattle.format.specs.declared.Verdict.the-variants.{Accepted, Refused}
-use Rattle.format.specs.Contents.{placed}
+use Rattle.format.specs.Bodies.{placed}
 use Rattle.format.specs.Demands.{ReadsAs}
 
 -- the answer, and the lent buffer at the end, for the record r over the body buffer d and the lent buffer out

@@ -15,24 +15,24 @@ shared-slice-read-t6 c = search needs
 volume-from-requires : tie.Need-volume-from-requires
 volume-from-requires c κs = search needs
 
-place-at-requires : tie.Need-place-at-requires
-place-at-requires c κs = search needs
+slot-at-requires : tie.Need-slot-at-requires
+slot-at-requires c κs = search needs
 
 network-from-requires : tie.Need-network-from-requires
 network-from-requires c κs = search needs
 
-place-at-requires-2 : tie.Need-place-at-requires-2
-place-at-requires-2 c κs = search needs
+slot-at-requires-2 : tie.Need-slot-at-requires-2
+slot-at-requires-2 c κs = search needs
 
-place-at-requires-3 : tie.Need-place-at-requires-3
-place-at-requires-3 c κs = search needs
+slot-at-requires-3 : tie.Need-slot-at-requires-3
+slot-at-requires-3 c κs = search needs
 
-place-at-requires-4 : tie.Need-place-at-requires-4
-place-at-requires-4 c κs = search needs
+slot-at-requires-4 : tie.Need-slot-at-requires-4
+slot-at-requires-4 c κs = search needs
 
 returns : tie.Need-returns
 returns c =
-    info-is _ (c .before .before .before .before .before .volume-from .ensures) (c .before .before .before .before .place-at .ensures) (c .before .before .before .network-from .ensures) (c .before .before .place-at2 .ensures) (c .before .place-at3 .ensures) (c .place-at4 .ensures)
+    info-is _ (c .before .before .before .before .before .volume-from .ensures) (c .before .before .before .before .slot-at .ensures) (c .before .before .before .network-from .ensures) (c .before .before .slot-at2 .ensures) (c .before .slot-at3 .ensures) (c .slot-at4 .ensures)
 
 pub info-from-spec : {M : Type 1} → statement M
 info-from-spec =
@@ -42,9 +42,9 @@ info-from-spec =
     cast-t4
     shared-slice-read-t6
     volume-from-requires
-    place-at-requires
+    slot-at-requires
     network-from-requires
-    place-at-requires-2
-    place-at-requires-3
-    place-at-requires-4
+    slot-at-requires-2
+    slot-at-requires-3
+    slot-at-requires-4
     returns)

@@ -18,21 +18,21 @@ cast-t7 c = record { fits = info-fits _ (c .before .before .before .pre .1) .pro
 shared-slice-read-t9 : tie.Need-shared-slice-read-t9
 shared-slice-read-t9 c = search needs
 
-place-at-requires : tie.Need-place-at-requires
-place-at-requires c κs = search needs
+slot-at-requires : tie.Need-slot-at-requires
+slot-at-requires c κs = search needs
 
-place-at-requires-2 : tie.Need-place-at-requires-2
-place-at-requires-2 c κs = search needs
+slot-at-requires-2 : tie.Need-slot-at-requires-2
+slot-at-requires-2 c κs = search needs
 
-place-at-requires-3 : tie.Need-place-at-requires-3
-place-at-requires-3 c κs = search needs
+slot-at-requires-3 : tie.Need-slot-at-requires-3
+slot-at-requires-3 c κs = search needs
 
-place-at-requires-4 : tie.Need-place-at-requires-4
-place-at-requires-4 c κs = search needs
+slot-at-requires-4 : tie.Need-slot-at-requires-4
+slot-at-requires-4 c κs = search needs
 
 returns : tie.Need-returns
 returns c =
-    network-is _ (c .before .before .before .place-at .ensures) (c .before .before .place-at2 .ensures) (c .before .place-at3 .ensures) (c .place-at4 .ensures)
+    network-is _ (c .before .before .before .slot-at .ensures) (c .before .before .slot-at2 .ensures) (c .before .slot-at3 .ensures) (c .slot-at4 .ensures)
 
 pub network-from-spec : {M : Type 1} → statement M
 network-from-spec =
@@ -43,8 +43,8 @@ network-from-spec =
     shared-slice-read-t6
     cast-t7
     shared-slice-read-t9
-    place-at-requires
-    place-at-requires-2
-    place-at-requires-3
-    place-at-requires-4
+    slot-at-requires
+    slot-at-requires-2
+    slot-at-requires-3
+    slot-at-requires-4
     returns)

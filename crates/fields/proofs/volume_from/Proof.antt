@@ -18,14 +18,14 @@ cast-t7 c = record { fits = info-fits _ (c .before .before .before .pre .1) .ser
 shared-slice-read-label-of : tie.Need-shared-slice-read-label-of
 shared-slice-read-label-of c = search needs
 
-place-at-requires : tie.Need-place-at-requires
-place-at-requires c κs = search needs
+slot-at-requires : tie.Need-slot-at-requires
+slot-at-requires c κs = search needs
 
 label-of-requires : tie.Need-label-of-requires
 label-of-requires c κs = search needs
 
 returns : tie.Need-returns
-returns c = volume-is _ (c .before .place-at .ensures) (c .label-of .ensures)
+returns c = volume-is _ (c .before .slot-at .ensures) (c .label-of .ensures)
 
 pub volume-from-spec : {M : Type 1} → statement M
 volume-from-spec =
@@ -36,6 +36,6 @@ volume-from-spec =
     shared-slice-read-t6
     cast-t7
     shared-slice-read-label-of
-    place-at-requires
+    slot-at-requires
     label-of-requires
     returns)
