@@ -2,7 +2,7 @@
 -- A section is a reader, a writer and a condition; the reader here gives contents, not places.
 use mathlib.Core.Path.{_≡_, refl, sym, ap, _∙_, subst₂}
 use mathlib.Core.List.{List, [], _∷_, _++_, append-assoc}
-use mathlib.Core.Bool.{Bool, true, false, cond}
+use mathlib.Core.Bool.{Bool, true, false, _&&_, cond}
 use Prim.Native.Nat.{ℕ, zero, suc, _+_, _-_, _≤_, _<_}
 use native.Mathlib.Omega.{arith}
 use native.Mathlib.Nat.{zero-add, suc-add, add-sub-of-le}
@@ -15,7 +15,7 @@ use Rattle.format.specs.declared.Fault.the-variants.{Cut as CUT}
 use Rattle.format.specs.Tests.{Outcome, got, refused, Test, tests, all, Reader, andThen, chain, optional}
 use Rattle.format.specs.Shortcut.{most}
 use Rattle.format.specs.Writing.{ifThere, writableIf}
-use Rattle.format.proofs.Bools.{and-true, and-both, by-order}
+use Rattle.format.proofs.Bools.{and-true, and-both, and-assoc, by-order}
 
 -- ---- tests
 
@@ -61,6 +61,24 @@ all-pass (t ∷ ts) e = let i = and-true (t .holds) (all ts) e in (i .0, all-pas
 pub pass-all : (ts : List Test) → Pass ts → all ts ≡ true
 pass-all [] h = refl
 pass-all (t ∷ ts) h = and-both (t .holds) (all ts) (h .0) (pass-all ts (h .1))
+
+pub all-append : (ts us : List Test) → all (ts ++ us) ≡ (all ts && all us)
+all-append [] us = refl
+all-append (t ∷ ts) us = ap (λ (b : Bool). t .holds && b) (all-append ts us) ∙ sym (and-assoc (t .holds) (all ts) (all us))
+
+-- all of these tests give the fault f
+abbrev pub Faults : Fault → List Test → Type 0
+Faults f [] = Unit {0}
+Faults f (t ∷ ts) = (t .fault ≡ f) × Faults f ts
+
+-- tests of one fault are one test
+pub one-fault : {A : Type 0} (f : Fault) (p : ℕ) (ts : List Test) (r : Outcome A) → Faults f ts → tests p ts r ≡ cond (all ts) r (refused f p)
+one-fault f p [] r h = refl
+one-fault f p (t ∷ ts) r h = rw (h .0, one-fault f p ts r (h .1)) (go (t .holds))
+  where
+    go : (b : Bool) → cond b (cond (all ts) r (refused f p)) (refused f p) ≡ cond (b && all ts) r (refused f p)
+    go true = refl
+    go false = refl
 
 -- ---- values
 

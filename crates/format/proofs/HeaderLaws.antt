@@ -5,7 +5,7 @@ use mathlib.Core.Bool.{Bool, true, false, cond}
 use Prim.Native.Nat.{ℕ, _-_, _<_, _^_}
 use native.Mathlib.Omega.{arith}
 use lib.ListN.{length, take}
-use lib.Dec.{leb, eqb}
+use lib.Dec.{leb}
 use lib.IntN.{ℤ, pos, negsuc}
 use borrow.Author.Tests.{lt-ltb, le-ltb}
 use Rattle.octets.specs.Numbers.{Bytes, number, numberAt, u16At, u32At, u64At, little}
@@ -13,12 +13,12 @@ use Rattle.octets.proofs.NumberLaws.{bytes-append, bytes-nil, bytes-little, num
 use Rattle.format.specs.declared.Header.{Header}
 use Rattle.format.specs.declared.Fault.the-variants.{Cut as CUT}
 use Rattle.format.specs.Tests.{got, refused, tests, Outcome}
-use Rattle.format.specs.Header.{classIdentifier, magic, flagsOk, attributesOk, headerRules, signed, headerFields, header}
+use Rattle.format.specs.Header.{classIdentifier, headerSizeOk, identifierOk, flagsOk, attributesOk, zerosFrom66, headerRules, signed, headerFields, header}
 use Rattle.format.specs.Hotkey.{hotkeyOk}
 use Rattle.format.specs.Ranges.{FitsSigned, FitsHeader}
 use Rattle.format.specs.Writing.{bits, headerBytes, writableHeader}
 use Rattle.format.proofs.Bools.{by-order, every-out, every-in}
-use Rattle.format.proofs.Chains.{Ok, Law, law-same}
+use Rattle.format.proofs.Chains.{Pass, Ok, Law, law-same}
 use Rattle.format.proofs.Sized.{SizedBack, Sized, sizedR, sized-law}
 
 -- ---- signed numbers
@@ -88,11 +88,15 @@ module _ (h : Header) (v : FitsHeader h) where
   unfolding headerBytes numberAt number little
   at64 = number-little 2 (h .hotkey) (v .hotkey)
 
-  magic-is : magic (headerBytes h) ≡ true
-  unfolding headerBytes numberAt number little magic
-  magic-is = refl
+  size-is : headerSizeOk (u32At (headerBytes h) 0) ≡ true
+  unfolding headerBytes numberAt number little
+  size-is = refl
 
-  ten-zeros : eqb (numberAt 10 (headerBytes h) 66) 0 ≡ true
+  identifier-is : identifierOk (headerBytes h) ≡ true
+  unfolding headerBytes numberAt number little identifierOk
+  identifier-is = refl
+
+  ten-zeros : zerosFrom66 (headerBytes h) ≡ true
   unfolding headerBytes numberAt number little
   ten-zeros = refl
 
@@ -106,6 +110,22 @@ header-bytes : (h : Header) → Bytes (headerBytes h)
 unfolding headerBytes
 header-bytes h = search (bytes-append, bytes-little, bytes-nil, identifier-bytes) depth 20 fits 2000
 
+-- ---- the tests by name
+
+record HeaderHolds (l : List ℕ) : Type 0 where
+  size : headerSizeOk (u32At l 0) ≡ true
+  identifier : identifierOk l ≡ true
+  flags : flagsOk (u32At l 20) ≡ true
+  attributes : attributesOk (u32At l 24) ≡ true
+  hotkey : hotkeyOk (u16At l 64) ≡ true
+  zeros : zerosFrom66 l ≡ true
+
+header-holds : (l : List ℕ) → Pass (headerRules l) → HeaderHolds l
+header-holds l (a, (b, (c, (d, (e, (f, z)))))) = record { size = a; identifier = b; flags = c; attributes = d; hotkey = e; zeros = f }
+
+header-passes : (l : List ℕ) → HeaderHolds l → Pass (headerRules l)
+header-passes l h = (h .size, (h .identifier, (h .flags, (h .attributes, (h .hotkey, (h .zeros, tt))))))
+
 -- ---- the law
 
 header-back : (h : Header) → HeaderV h → SizedBack (λ s. 76) (λ n. []) headerRules headerFields (headerBytes h) h
@@ -115,7 +135,15 @@ header-back h v =
     record {
       sized = λ r. sym (length-header h);
       sizable = tt;
-      judged = (magic-is h t, (rw (at20 h t) (c .0), (rw (at24 h t) (c .1 .0), (rw (at64 h t) (c .1 .1 .0), (ten-zeros h t, tt)))));
+      judged =
+          header-passes (headerBytes h) (record {
+            size = size-is h t;
+            identifier = identifier-is h t;
+            flags = rw (at20 h t) (c .0);
+            attributes = rw (at24 h t) (c .1 .0);
+            hotkey = rw (at64 h t) (c .1 .1 .0);
+            zeros = ten-zeros h t;
+          });
       same =
           rw (at20 h t, at24 h t, at28 h t, at36 h t, at44 h t, at52 h t, at56 h t, at60 h t, at64 h t, signed-bits (h .«icon_index») (t .«icon_index»));
     }
@@ -139,7 +167,9 @@ header-sized = record {
         command = number-below 4 l 60 bs;
         hotkey = number-below 2 l 64 bs;
       };
-      can = every-in (flagsOk (u32At l 20) ∷ attributesOk (u32At l 24) ∷ hotkeyOk (u16At l 64) ∷ []) (c .1 .0, (c .1 .1 .0, (c .1 .1 .1 .0, tt)));
+      can =
+          let x = header-holds l c in
+          every-in (flagsOk (u32At l 20) ∷ attributesOk (u32At l 24) ∷ hotkeyOk (u16At l 64) ∷ []) (x .flags, (x .attributes, (x .hotkey, tt)));
     };
     short = rw length-header (omega arith);
   };

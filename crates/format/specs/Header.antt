@@ -20,10 +20,14 @@ classIdentifier =
     ∷ 0x00 ∷ 0x00 ∷ 0x00 ∷ 0x46
     ∷ []
 
--- HeaderSize 0x4C, then the class identifier; for bytes, equal numbers are equal bytes
-unfoldable pub magic : List ℕ → Bool
+-- HeaderSize 0x4C
+abbrev pub headerSizeOk : ℕ → Bool
+headerSizeOk n = eqb n 0x4C
+
+-- the class identifier: for bytes, equal numbers are equal bytes
+unfoldable pub identifierOk : List ℕ → Bool
 unfolding number
-magic l = eqb (u32At l 0) 0x4C && eqb (numberAt 16 l 4) (number classIdentifier)
+identifierOk l = eqb (numberAt 16 l 4) (number classIdentifier)
 
 -- LinkFlags has bits 27 to 31 zero
 abbrev pub flagsOk : ℕ → Bool
@@ -33,15 +37,21 @@ flagsOk f = eqb (f / 2 ^ 27) 0
 abbrev pub attributesOk : ℕ → Bool
 attributesOk a = not (bit 3 a) && not (bit 6 a) && eqb (a / 2 ^ 15) 0
 
--- l is the 76 bytes
-abbrev pub headerRules : List ℕ → List Test
-headerRules l =
-    magic l else MAGIC
-    ∷ flagsOk (u32At l 20) else HEAD
+-- the ten bytes from 66, one field, are zero
+abbrev pub zerosFrom66 : List ℕ → Bool
+zerosFrom66 l = eqb (numberAt 10 l 66) 0
+
+-- In what follows l is the 76 bytes.
+abbrev pub headTests : List ℕ → List Test
+headTests l =
+    flagsOk (u32At l 20) else HEAD
     ∷ attributesOk (u32At l 24) else HEAD
     ∷ hotkeyOk (u16At l 64) else HEAD
-    ∷ eqb (numberAt 10 l 66) 0 else HEAD
+    ∷ zerosFrom66 l else HEAD
     ∷ []
+
+abbrev pub headerRules : List ℕ → List Test
+headerRules l = headerSizeOk (u32At l 0) else MAGIC ∷ identifierOk l else MAGIC ∷ headTests l
 
 -- 32 bits as a signed number
 unfoldable pub signed : ℕ → ℤ

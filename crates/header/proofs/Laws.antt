@@ -1,7 +1,7 @@
 -- The header's rules in the numbers that the code compares, and one law for each way out.
 use mathlib.Core.Path.{_≡_, refl, sym, ap, _∙_}
 use mathlib.Core.List.{List, [], _∷_}
-use mathlib.Core.Bool.{Bool, true, false, not, _&&_}
+use mathlib.Core.Bool.{Bool, true, false, not, _&&_, cond}
 use Prim.Native.Nat.{ℕ, _+_, _*_, _/_, _%_, _≤_, _<_}
 use native.Mathlib.Omega.{arith}
 use native.Mathlib.Nat.{zero-add, mod-eq-of-lt, div-eq-of-lt, add-mul-div-left, add-mul-mod-self-left, zero-lt-suc}
@@ -13,13 +13,13 @@ use Rattle.octets.specs.Numbers.{number, numberAt, u16At, u32At, u64At}
 use Rattle.octets.proofs.NumberLaws.{number-split}
 use Rattle.format.specs.declared.Header.{Header}
 use Rattle.format.specs.declared.Fault.the-variants.{Cut as CUT, Magic as MAGIC, Head as HEAD}
-use Rattle.format.specs.Tests.{_else_, tests, got}
-use Rattle.format.specs.Header.{classIdentifier, magic, flagsOk, attributesOk, signed, headerFields}
+use Rattle.format.specs.Tests.{Outcome, got, refused, all}
+use Rattle.format.specs.Header.{classIdentifier, headerSizeOk, identifierOk, flagsOk, attributesOk, zerosFrom66, headTests, signed, headerFields}
 use Rattle.format.specs.Hotkey.{hotkeyOk}
-use Rattle.format.proofs.Bools.{and-true, and-both, same-truth}
-use Rattle.format.proofs.Chains.{no-true}
+use Rattle.format.proofs.Bools.{and-true, and-both, same-truth, joined-every}
+use Rattle.format.proofs.Chains.{one-fault}
 use Rattle.header.specs.declared.HeaderTaken.the-variants.{Got, Refused}
-use Rattle.header.specs.Taken.{zerosFrom66, headRules, headerTaken, headerAt}
+use Rattle.header.specs.Taken.{headerTaken, headerAt}
 
 -- sixteen bytes are four numbers
 sixteen : (l : List ℕ) → 20 ≤ length l → numberAt 16 l 4 ≡ u32At l 4 + 4294967296 * (u32At l 8 + 4294967296 * (u32At l 12 + 4294967296 * u32At l 16))
@@ -56,21 +56,15 @@ identifier-is a b c d ha hb hc hd =
     let k = digits 4294967296 c d _ hc (zero-lt-suc 4294967295) (m .1) in
     rw (n .0, m .0, k .0, k .1))
 
-pub magic-is : (l : List ℕ) {a b c d e : ℕ} → 76 ≤ length l → a ≡ u32At l 0 → b ≡ u32At l 4 → c ≡ u32At l 8 → d ≡ u32At l 12 → e ≡ u32At l 16
-    → b < 4294967296 → c < 4294967296 → d < 4294967296 → e < 4294967296
-    → (eqb a 0x4C && eqb b 0x00021401 && eqb c 0 && eqb d 0xC0 && eqb e 0x46000000) ≡ magic l
-unfolding magic
-magic-is l {a} {b} {c} {d} {e} h pa pb pc pd pe hb hc hd he =
-    let x = identifier-is b c d e hb hc hd he in
-    let y : numberAt 16 l 4 ≡ b + 4294967296 * (c + 4294967296 * (d + 4294967296 * e)) = sixteen l (omega arith) ∙ rw (← pb, ← pc, ← pd, ← pe) in
-    five (eqb a 0x4C) (eqb b 0x00021401) (eqb c 0) (eqb d 0xC0) (eqb e 0x46000000) ∙ rw (x, y, pa)
-  where
-    five : (p q r s t : Bool) → (p && q && r && s && t) ≡ (p && (q && r && s && t))
-    five true q r s t = refl
-    five false q r s t = refl
+pub identifier-are : (l : List ℕ) {a b c d : ℕ} → 76 ≤ length l → a ≡ u32At l 4 → b ≡ u32At l 8 → c ≡ u32At l 12 → d ≡ u32At l 16
+    → a < 4294967296 → b < 4294967296 → c < 4294967296 → d < 4294967296
+    → (eqb a 0x00021401 && eqb b 0 && eqb c 0xC0 && eqb d 0x46000000) ≡ identifierOk l
+unfolding identifierOk
+identifier-are l {a} {b} {c} {d} h pa pb pc pd ha hb hc hd =
+    let n : numberAt 16 l 4 ≡ a + 4294967296 * (b + 4294967296 * (c + 4294967296 * d)) = sixteen l (omega arith) ∙ rw (← pa, ← pb, ← pc, ← pd) in
+    rw (identifier-is a b c d ha hb hc hd, n)
 
 pub zeros-are : (l : List ℕ) {a b : ℕ} → 76 ≤ length l → a ≡ u16At l 66 → b ≡ u64At l 68 → (eqb a 0 && eqb b 0) ≡ zerosFrom66 l
-unfolding zerosFrom66
 zeros-are l {a} {b} h pa pb =
     let n : numberAt 10 l 66 ≡ a + 65536 * b = number-split 2 8 l 66 (omega arith) ∙ rw (← pa, ← pb) in
     same-truth _ _
@@ -83,6 +77,10 @@ zeros-are l {a} {b} h pa pb =
     let z : numberAt 10 l 66 ≡ 0 = eqb-true _ _ e in
     and-both (eqb a 0) (eqb b 0) (eq-eqb a 0 (omega arith)) (eq-eqb b 0 (omega arith)))
 
+pub head-are : (l : List ℕ) {f g h : ℕ} {a b c d : Bool} → f ≡ u32At l 20 → a ≡ flagsOk f → g ≡ u32At l 24 → b ≡ attributesOk g → h ≡ u16At l 64 → c ≡ hotkeyOk h
+    → d ≡ zerosFrom66 l → (a && b && c && d) ≡ all (headTests l)
+head-are l {a = a} {b = b} {c = c} {d = d} ef ea eg eb eh ec ed = joined-every a (b ∷ c ∷ d ∷ []) ∙ rw (ea, eb, ec, ed, ef, eg, eh)
+
 -- ---- the ways out
 
 module _ (s : List ℕ) where
@@ -90,41 +88,35 @@ module _ (s : List ℕ) where
   unfolding headerAt
   header-cut h = rw (lt-leb 76 (length s) h)
 
-  module _ (whole : 76 ≤ length s) {m : Bool} (em : m ≡ magic (take 76 s)) where
-    pub header-magic : not m ≡ true → Refused MAGIC 0 ≡ headerAt s
+  -- n is HeaderSize
+  module _ (whole : 76 ≤ length s) {n : ℕ} {a : Bool} (en : n ≡ u32At (take 76 s) 0) (ea : a ≡ headerSizeOk n) where
+    sized : {x : Bool} → a ≡ x → headerSizeOk (u32At (take 76 s) 0) ≡ x
+    sized t = ap headerSizeOk (sym en) ∙ sym ea ∙ t
+
+    pub header-size : not a ≡ true → Refused MAGIC 0 ≡ headerAt s
     unfolding headerAt
-    header-magic t = rw (le-leb 76 (length s) whole, sym em ∙ not-true m t)
+    header-size t = rw (le-leb 76 (length s) whole, sized (not-true a t))
 
-    module _ (right : not m ≡ false) {k : Bool} (ek : k ≡ headRules (take 76 s)) where
-      pub header-head : not k ≡ true → Refused HEAD 0 ≡ headerAt s
-      unfolding headerAt headRules zerosFrom66
-      header-head t =
-          rw (le-leb 76 (length s) whole, sym em ∙ not-false m right)
-          (four (flagsOk (u32At (take 76 s) 20)) (attributesOk (u32At (take 76 s) 24)) (hotkeyOk (u16At (take 76 s) 64)) (eqb (numberAt 10 (take 76 s) 66) 0) (sym ek ∙ not-true k t))
-        where
-          four : (p q r t : Bool) → (p && q && r && t) ≡ false
-              → Refused HEAD 0 ≡ headerTaken (tests 0 (p else HEAD ∷ q else HEAD ∷ r else HEAD ∷ t else HEAD ∷ []) (got (headerFields (take 76 s)) 76))
-          four true true true true e = absurd (let z : _≡_ {A = ℕ} 0 1 = cc in omega arith)
-          four true true true false e = refl
-          four true true false t e = refl
-          four true false r t e = refl
-          four false q r t e = refl
+    module _ (ta : not a ≡ false) {b : Bool} (eb : b ≡ identifierOk (take 76 s)) where
+      pub header-identifier : not b ≡ true → Refused MAGIC 0 ≡ headerAt s
+      unfolding headerAt
+      header-identifier t = rw (le-leb 76 (length s) whole, sized (not-false a ta), sym eb ∙ not-true b t)
 
-      module _ (kept : not k ≡ false) where
-        pub header-got : {h : Header} → h ≡ headerFields (take 76 s) → Got h (record { at = 76 }) ≡ headerAt s
-        unfolding headerAt headRules zerosFrom66
-        header-got e =
-            rw (le-leb 76 (length s) whole, sym em ∙ not-false m right, e)
-            (four (flagsOk (u32At (take 76 s) 20)) (attributesOk (u32At (take 76 s) 24)) (hotkeyOk (u16At (take 76 s) 64)) (eqb (numberAt 10 (take 76 s) 66) 0) (sym ek ∙ not-false k kept))
-          where
-            four : (p q r t : Bool) → (p && q && r && t) ≡ true
-                → Got (headerFields (take 76 s)) (record { at = 76 })
-                ≡ headerTaken (tests 0 (p else HEAD ∷ q else HEAD ∷ r else HEAD ∷ t else HEAD ∷ []) (got (headerFields (take 76 s)) 76))
-            four true true true true e = refl
-            four true true true false e = no-true e
-            four true true false t e = no-true e
-            four true false r t e = no-true e
-            four false q r t e = no-true e
+      module _ (tb : not b ≡ false) {k : Bool} (ek : k ≡ all (headTests (take 76 s))) where
+        -- the rules of HEAD are one test
+        judged : headerAt s ≡ headerTaken (cond k (got (headerFields (take 76 s)) 76) (refused HEAD 0))
+        unfolding headerAt
+        judged =
+            let r : Outcome Header = got (headerFields (take 76 s)) 76 in
+            let g = one-fault HEAD 0 (headTests (take 76 s)) r (refl, (refl, (refl, (refl, tt)))) in
+            rw (le-leb 76 (length s) whole, sized (not-false a ta), sym eb ∙ not-false b tb)
+            (ap headerTaken (g ∙ ap (λ (x : Bool). cond x r (refused HEAD 0)) (sym ek)))
+
+        pub header-head : not k ≡ true → Refused HEAD 0 ≡ headerAt s
+        header-head t = sym (judged ∙ rw (not-true k t))
+
+        pub header-got : {h : Header} → not k ≡ false → h ≡ headerFields (take 76 s) → Got h (record { at = 76 }) ≡ headerAt s
+        header-got t e = rw e (sym (judged ∙ rw (not-false k t)))
 
 pub fields-are : (l : List ℕ) {a b c d e f h j : ℕ} {i : ℤ} → a ≡ u32At l 20 → b ≡ u32At l 24 → c ≡ u64At l 28 → d ≡ u64At l 36 → e ≡ u64At l 44 → f ≡ u32At l 52
     → i ≡ signed (u32At l 56) → h ≡ u32At l 60 → j ≡ u16At l 64

@@ -6,9 +6,10 @@ ghost use mathlib.Core.Path.{_≡_};
 ghost use mathlib.Core.Bool.{true};
 ghost use Prim.Native.Nat.{_≤_};
 ghost use lib.ListN.{length};
-ghost use Rattle.format.specs.Header.{magic, flagsOk, attributesOk, headerFields, windowShown};
+ghost use Rattle.format.specs.Tests.{all};
+ghost use Rattle.format.specs.Header.{headerSizeOk, identifierOk, flagsOk, attributesOk, zerosFrom66, headTests, headerFields, windowShown};
 ghost use Rattle.format.specs.Hotkey.{lowByteOk, highByteOk, hotkeyOk};
-ghost use Rattle.header.specs.Taken.{zerosFrom66, headRules, headerAt};
+ghost use Rattle.header.specs.Taken.{headerAt};
 
 // The header and the cursor after it, or why it is refused and where.
 pub enum HeaderTaken {
@@ -16,13 +17,18 @@ pub enum HeaderTaken {
     Refused(Fault, usize),
 }
 
-// The class identifier in four numbers.
-fn magic(l: &[u8]) -> bool
-    requires { ⌜ 76 ≤ length (now l) ⌝ }
-    ensures { λ r. ⌜ r ≡ magic (now (l .entry)) ⌝ }
+fn header_size_ok(n: u32) -> bool
+    ensures { λ r. ⌜ r ≡ headerSizeOk n ⌝ }
 {
-    (octets::u32_at(l, 0) == 0x4C)
-        & (octets::u32_at(l, 4) == 0x0002_1401)
+    n == 0x4C
+}
+
+// The class identifier in four numbers.
+fn identifier_ok(l: &[u8]) -> bool
+    requires { ⌜ 76 ≤ length (now l) ⌝ }
+    ensures { λ r. ⌜ r ≡ identifierOk (now (l .entry)) ⌝ }
+{
+    (octets::u32_at(l, 4) == 0x0002_1401)
         & (octets::u32_at(l, 8) == 0)
         & (octets::u32_at(l, 12) == 0xC0)
         & (octets::u32_at(l, 16) == 0x4600_0000)
@@ -81,7 +87,7 @@ fn zeros_from_66(l: &[u8]) -> bool
 
 fn head_ok(l: &[u8]) -> bool
     requires { ⌜ 76 ≤ length (now l) ⌝ }
-    ensures { λ r. ⌜ r ≡ headRules (now (l .entry)) ⌝ }
+    ensures { λ r. ⌜ r ≡ all (headTests (now (l .entry))) ⌝ }
 {
     flags_ok(octets::u32_at(l, 20))
         & attributes_ok(octets::u32_at(l, 24))
@@ -113,7 +119,10 @@ pub fn header(s: &[u8]) -> HeaderTaken
         return HeaderTaken::Refused(Fault::Cut, 0);
     }
     let l = &s[..76];
-    if !magic(l) {
+    if !header_size_ok(octets::u32_at(l, 0)) {
+        return HeaderTaken::Refused(Fault::Magic, 0);
+    }
+    if !identifier_ok(l) {
         return HeaderTaken::Refused(Fault::Magic, 0);
     }
     if !head_ok(l) {

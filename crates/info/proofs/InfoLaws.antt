@@ -17,7 +17,7 @@ use Rattle.format.specs.Presence.{localThere, networkThere}
 use Rattle.format.specs.Pieces.{absentZero, pieceTests, allApart}
 use Rattle.format.specs.Info.{infoSize, infoHead, longHead, hasLocal, hasNetwork, infoPieces, infoRules, infoFields, hasLocalUnicode}
 use Rattle.format.proofs.Bools.{or-true, and-true, and-assoc, and-yes}
-use Rattle.format.proofs.Chains.{tests-append, all-pass}
+use Rattle.format.proofs.Chains.{tests-append, all-pass, one-fault}
 use Rattle.info.specs.declared.InfoTaken.the-variants.{Got, Refused}
 use Rattle.info.specs.declared.Text.{Text}
 use Rattle.info.specs.declared.VolumeFound.{VolumeFound}
@@ -25,7 +25,7 @@ use Rattle.info.specs.declared.NetworkFound.{NetworkFound}
 use Rattle.info.specs.declared.Pieces.{Pieces}
 use Rattle.info.specs.Found.{fieldIf, textFound, volumeFound, networkFound, infoFixed, piecesFound}
 use Rattle.info.specs.Taken.{infoTaken, infoAt}
-use Rattle.info.proofs.TestLaws.{one-fault, judge, pieces-judged}
+use Rattle.info.proofs.TestLaws.{judge, pieces-judged}
 use Rattle.info.proofs.TextLaws.{text-field, zero-field}
 use Rattle.info.proofs.StructLaws.{first-number}
 

@@ -14,13 +14,13 @@ use Rattle.format.specs.Presence.{deviceThere}
 use Rattle.format.specs.Pieces.{absentZero, pieceTests, allApart}
 use Rattle.format.specs.Network.{hasDevice, networkUnicode, networkHead, networkPieces, networkRules, networkFields, networkPiece, networkAt, noNetwork, hasDeviceUnicode}
 use Rattle.format.proofs.Bools.{every-out, and-assoc, and-yes, and-no}
-use Rattle.format.proofs.Chains.{all-pass}
+use Rattle.format.proofs.Chains.{all-pass, all-append}
 use Rattle.info.specs.declared.Text.{Text}
 use Rattle.info.specs.declared.NetworkFound.{NetworkFound}
 use Rattle.info.specs.declared.NetworkRead.{NetworkRead}
 use Rattle.info.specs.declared.NetworkRead.the-variants.{Good, Bad}
 use Rattle.info.specs.Found.{fieldIf, found, textFound, networkFixed, networkIf, networkIn, providerOf, makeNetwork, networkFound}
-use Rattle.info.proofs.TestLaws.{room, all-append, judge, pieces-judged}
+use Rattle.info.proofs.TestLaws.{room, judge, pieces-judged}
 use Rattle.info.proofs.TextLaws.{text-body, text-field, zero-field}
 use Rattle.info.proofs.StructLaws.{Kind}
 

@@ -6,12 +6,12 @@ use Prim.Native.Nat.{ℕ, _+_, _≤_}
 use native.Mathlib.Omega.{arith}
 use lib.Dec.{leb, eqb}
 use borrow.Author.Tests.{le-leb, eqb-true}
-use Rattle.format.specs.declared.Fault.{Fault}
 use Rattle.format.specs.declared.Place.{Place}
-use Rattle.format.specs.Tests.{Outcome, refused, Test, tests, all, noPlace}
+use Rattle.format.specs.Tests.{all, noPlace}
 use Rattle.format.specs.Pieces.{Piece, pieceOk, span, apart, allApart, eachOk, pieceTests}
 use Rattle.format.specs.Writing.{every}
 use Rattle.format.proofs.Bools.{and-true, and-assoc, and-yes}
+use Rattle.format.proofs.Chains.{all-append}
 use Rattle.info.specs.Found.{foundSpan, found}
 
 -- ---- conjunctions
@@ -23,26 +23,6 @@ or-false false b e = (refl, e)
 -- a choice of two lengths leaves room for the one chosen
 pub room : (m n : ℕ) {k z : ℕ} (u : Bool) → k ≡ cond u m n → k ≤ z → u ≡ true → m ≤ z
 room m n u e h t = let i : cond u m n ≡ m = rw t in omega arith
-
--- ---- one fault
-
--- all of these tests give the fault f
-abbrev pub Faults : Fault → List Test → Type 0
-Faults f [] = Unit {0}
-Faults f (t ∷ ts) = (t .fault ≡ f) × Faults f ts
-
--- tests of one fault are one test
-pub one-fault : {A : Type 0} (f : Fault) (p : ℕ) (ts : List Test) (r : Outcome A) → Faults f ts → tests p ts r ≡ cond (all ts) r (refused f p)
-one-fault f p [] r h = refl
-one-fault f p (t ∷ ts) r h = rw (h .0, one-fault f p ts r (h .1)) (go (t .holds))
-  where
-    go : (b : Bool) → cond b (cond (all ts) r (refused f p)) (refused f p) ≡ cond (b && all ts) r (refused f p)
-    go true = refl
-    go false = refl
-
-pub all-append : (ts us : List Test) → all (ts ++ us) ≡ (all ts && all us)
-all-append [] us = refl
-all-append (t ∷ ts) us = ap (λ (b : Bool). t .holds && b) (all-append ts us) ∙ sym (and-assoc (t .holds) (all ts) (all us))
 
 -- ---- the tests of all pieces
 

@@ -1,4 +1,4 @@
-use Rattle.header.specs.Taken.{headRules}
+use Rattle.header.proofs.Laws.{head-are}
 use borrow.Author.Needs.{needs}
 use Rattle.header.proofs.head_ok.Statement.{statement}
 use Rattle.header.proofs.head_ok.Tie as tie
@@ -25,8 +25,11 @@ zeros-from-66-requires : tie.Need-zeros-from-66-requires
 zeros-from-66-requires c κs = search needs
 
 returns : tie.Need-returns
-unfolding headRules
-returns c = cc
+returns c =
+    let flags = c .before .before .before .before .before in
+    let hotkey = c .before .before in
+    head-are _ (flags .before .u32-at .ensures) (flags .flags-ok .ensures) (hotkey .before .before .u32-at2 .ensures) (hotkey .before .attributes-ok .ensures)
+    (hotkey .u16-at .ensures) (c .before .hotkey-ok .ensures) (c .zeros-from-66 .ensures)
 
 pub head-ok-spec : {M : Type 1} → statement M
 head-ok-spec =
