@@ -7,7 +7,7 @@ use native.Mathlib.Omega.{arith}
 use lib.ListN.{length, take, drop, length-take, length-drop}
 use lib.Seq.{length-take-le}
 use lib.Dec.{leb}
-use borrow.Author.Tests.{leb-true, le-leb, ltb-true}
+use borrow.Author.Tests.{le-leb, ltb-true}
 use Rattle.octets.specs.Numbers.{u16At, u32At}
 use Rattle.octets.specs.Characters.{bytesOf, characters, beforeZero}
 use Rattle.octets.proofs.CharacterLaws.{characters-fit, bytes-of-le, bytes-of-add}
@@ -16,23 +16,24 @@ use Rattle.format.specs.declared.Info.{Info}
 use Rattle.format.specs.declared.Header.{Header}
 use Rattle.format.specs.declared.Network.{Network}
 use Rattle.format.specs.declared.Fault.the-variants.{Info as INFO}
-use Rattle.format.specs.Tests.{got, place, noPlace, _else_, all, chain}
-use Rattle.format.specs.Presence.{itemsThere, infoThere, nameBit, relativeBit, workdirBit, argumentsBit, iconBit, stringThere, stringsUnicode, providerThere}
+use Rattle.format.specs.Tests.{got, place, noPlace, _else_, chain}
 use Rattle.format.specs.Header.{header}
 use Rattle.format.specs.Items.{itemsLength, itemsRules, items}
-use Rattle.format.specs.Pieces.{textEnds, textLength, textPiece, textPlace, pieceOk}
-use Rattle.format.specs.Volume.{labelUnicode, labelOffset, labelOf, noVolume, volumeAt, volumeFields, volumeTests, volumePiece}
-use Rattle.format.specs.Network.{networkFlags, hasDevice, networkUnicode, networkHead, networkAt, networkFields, noNetwork, networkTests, networkPiece, hasDeviceUnicode}
-use Rattle.format.specs.Info.{infoSize, infoHead, longHead, hasLocal, hasNetwork, infoRules, infoFields, info, noInfo, hasLocalUnicode}
+use Rattle.format.specs.Pieces.{textEnds, textLength, textPiece, textPlace, testsOf}
+use Rattle.format.specs.Volume.{labelUnicode, labelOffset, labelOf, noVolume, volumeAt, volumeFields, volumeRules, volumePiece}
+use Rattle.format.specs.Network.{networkFlags, hasDevice, networkUnicode, networkHead, networkAt, networkFields, noNetwork, networkHeadTests, networkRules, networkPiece, hasDeviceUnicode}
+use Rattle.format.specs.Info.{infoSize, infoHead, longHead, hasLocal, hasNetwork, infoHeadTests, infoRules, infoFields, info, noInfo, hasLocalUnicode}
+use Rattle.format.specs.Presence.{itemsThere, infoThere, nameBit, relativeBit, workdirBit, argumentsBit, iconBit, stringThere, stringsUnicode, providerThere}
 use Rattle.format.specs.Strings.{stringLength, string}
 use Rattle.format.specs.Blocks.{blocks}
 use Rattle.format.specs.Shortcut.{Section, Tail, Sections, blocksOf, found, stringSection, tail, sections, sum, recordOf}
 use Rattle.format.specs.Bodies.{labelPlace, bodies, allInside}
 use Rattle.format.specs.Contents.{presentNetwork, presentInfo, present}
 use Rattle.format.specs.Listing.{Row, row, blockRows, rowsOf, EndToEnd}
-use Rattle.format.proofs.Bools.{and-true, choose-twice}
-use Rattle.format.proofs.Chains.{all-pass, tests-elim}
-use Rattle.format.proofs.Sized.{sizedTests}
+use Rattle.format.proofs.Bools.{choose-twice}
+use Rattle.format.proofs.Chains.{Pass, pass-split, tests-elim}
+use Rattle.format.proofs.Holds.{struct-holds, volume-holds, networkPieceTests, network-pieces-hold, infoPieceTests, info-pieces-hold}
+use Rattle.format.proofs.Sized.{sizedTests, sized-holds}
 use Rattle.format.proofs.ItemsLaws.{itemsValue}
 use Rattle.format.proofs.InfoLaws.{infoValue}
 use Rattle.format.proofs.BlockLaws.{blocks-walked}
@@ -137,26 +138,22 @@ text-within u l o e =
 abbrev Inside : ℕ → Place → Type 0
 Inside n b = leb (b .at + b .len) n ≡ true
 
-text-inside : (h p : ℕ) (l : List ℕ) (b u : Bool) (o n : ℕ) → p + length l ≤ n → pieceOk h (textPiece b u l o) ≡ true → Inside n (textPlace b u p l o)
+text-inside : (h p : ℕ) (l : List ℕ) (b u : Bool) (o n : ℕ) → p + length l ≤ n → Pass (testsOf h (textPiece b u l o)) → Inside n (textPlace b u p l o)
 text-inside h p l true u o n k e =
-    let i = and-true (leb h o) (textEnds u (drop o l)) e in
-    le-leb (p + o + textLength u (drop o l)) n (omega (arith, text-within u l o (i .1)))
+    le-leb (p + o + textLength u (drop o l)) n (omega (arith, text-within u l o (e .1 .0)))
 text-inside h p l false u o n k e = le-leb (0 + 0) n (omega arith)
 
 place-of : (u : Bool) (b : Place) → labelPlace (labelOf u b) ≡ b
 place-of true b = refl
 place-of false b = refl
 
-volume-inside : (h p : ℕ) (l : List ℕ) (b : Bool) (o n : ℕ) → p + length l ≤ n → pieceOk h (volumePiece b l o) ≡ true → Inside n (labelPlace (volumeAt b p l o .label))
+volume-inside : (h p : ℕ) (l : List ℕ) (b : Bool) (o n : ℕ) → p + length l ≤ n → Pass (testsOf h (volumePiece b l o)) → Inside n (labelPlace (volumeAt b p l o .label))
 volume-inside h p l true o n k e =
-    let i = and-true (leb h o) (all (volumeTests (drop o l))) e in
-    let c = all-pass (volumeTests (drop o l)) (i .1) in
+    let c = struct-holds 0x11 volumeRules (drop o l) (e .1) in
     let m : ℕ = u32At (drop o l) 0 in
     let v : List ℕ = take m (drop o l) in
-    let q : m ≤ length (drop o l) = leb-true m (length (drop o l)) (c .1 .0) in
-    let r : length v ≡ m = length-take-le m (drop o l) q in
-    let f : 4 ≤ length (drop o l) = leb-true 4 (length (drop o l)) (c .0) in
-    let t = text-within (labelUnicode v) v (labelOffset v) (c .1 .1 .1 .1 .1 .1 .0) in
+    let r : length v ≡ m = length-take-le m (drop o l) (c .inside) in
+    let t = text-within (labelUnicode v) v (labelOffset v) (volume-holds v (c .own) .ends) in
     rw (place-of (labelUnicode v))
     (le-leb (p + o + labelOffset v + textLength (labelUnicode v) (drop (labelOffset v) v)) n (omega (arith, length-drop o l)))
 volume-inside h p l false o n k e = le-leb (0 + 0) n (omega arith)
@@ -175,23 +172,20 @@ record NetworkInside (n : ℕ) (k : Network) : Type 0 where
   netUnicode : Inside n (k .«net_unicode»)
   deviceUnicode : Inside n (k .«device_unicode»)
 
-network-inside : (h p : ℕ) (l : List ℕ) (b : Bool) (o n : ℕ) → p + length l ≤ n → pieceOk h (networkPiece b l o) ≡ true → NetworkInside n (networkAt b p l o)
+network-inside : (h p : ℕ) (l : List ℕ) (b : Bool) (o n : ℕ) → p + length l ≤ n → Pass (testsOf h (networkPiece b l o)) → NetworkInside n (networkAt b p l o)
 network-inside h p l true o n k e =
-    let i = and-true (leb h o) (all (networkTests (drop o l))) e in
-    let c = all-pass (networkTests (drop o l)) (i .1) in
+    let c = struct-holds 0x14 networkRules (drop o l) (e .1) in
     let m : ℕ = u32At (drop o l) 0 in
     let v : List ℕ = take m (drop o l) in
-    let q : m ≤ length (drop o l) = leb-true m (length (drop o l)) (c .1 .0) in
-    let r : length v ≡ m = length-take-le m (drop o l) q in
-    let f : 4 ≤ length (drop o l) = leb-true 4 (length (drop o l)) (c .0) in
+    let r : length v ≡ m = length-take-le m (drop o l) (c .inside) in
     let j : p + o + length v ≤ n = omega (arith, length-drop o l) in
     let g : ℕ = networkHead (networkUnicode v) in
-    let d = c .1 .1 .1 .1 .1 .1 .1 .1 in
+    let d = network-pieces-hold v (pass-split (networkHeadTests v) (networkPieceTests v) (c .own) .1) in
     record {
-      net = text-inside g (p + o) v true false (u32At v 8) n j (d .0);
-      device = text-inside g (p + o) v (hasDevice v) false (u32At v 12) n j (d .1 .0);
-      netUnicode = text-inside g (p + o) v (networkUnicode v) true (u32At v 20) n j (d .1 .1 .0);
-      deviceUnicode = text-inside g (p + o) v (hasDeviceUnicode v) true (u32At v 24) n j (d .1 .1 .1 .0);
+      net = text-inside g (p + o) v true false (u32At v 8) n j (d .net);
+      device = text-inside g (p + o) v (hasDevice v) false (u32At v 12) n j (d .device);
+      netUnicode = text-inside g (p + o) v (networkUnicode v) true (u32At v 20) n j (d .netUnicode);
+      deviceUnicode = text-inside g (p + o) v (hasDeviceUnicode v) true (u32At v 24) n j (d .deviceUnicode);
     }
 network-inside h p l false o n k e =
     let z : Inside n noPlace = le-leb (0 + 0) n (omega arith) in
@@ -210,15 +204,16 @@ info-inside f p i n =
     tests-elim (λ i n. allInside (p + n) (infoBodies i) ≡ true) p (sizedTests 4 infoSize (λ n. leb 0x1C n else INFO ∷ []) infoRules infoValue s) (infoFields p l) m
     (λ c.
     let k : p + length l ≤ p + m = omega (arith, length-take m s) in
-    let d = c .1 .1 .1 .1 .1 .1 .1 .1 .1 in
+    let g = sized-holds 4 infoSize (λ n. leb 0x1C n else INFO ∷ []) infoRules infoValue s c in
+    let d = info-pieces-hold l (pass-split (infoHeadTests l) (infoPieceTests l) (g .judged) .1) in
     let h : ℕ = infoHead l in
     nine (p + m) (infoFields p l)
-    (volume-inside h p l (hasLocal l) (u32At l 12) (p + m) k (d .0))
-    (text-inside h p l (hasLocal l) false (u32At l 16) (p + m) k (d .1 .0))
-    (network-inside h p l (hasNetwork l) (u32At l 20) (p + m) k (d .1 .1 .0))
-    (text-inside h p l true false (u32At l 24) (p + m) k (d .1 .1 .1 .0))
-    (text-inside h p l (hasLocalUnicode l) true (u32At l 28) (p + m) k (d .1 .1 .1 .1 .0))
-    (text-inside h p l (longHead l) true (u32At l 32) (p + m) k (d .1 .1 .1 .1 .1 .0)))
+    (volume-inside h p l (hasLocal l) (u32At l 12) (p + m) k (d .volume))
+    (text-inside h p l (hasLocal l) false (u32At l 16) (p + m) k (d .local))
+    (network-inside h p l (hasNetwork l) (u32At l 20) (p + m) k (d .network))
+    (text-inside h p l true false (u32At l 24) (p + m) k (d .suffix))
+    (text-inside h p l (hasLocalUnicode l) true (u32At l 28) (p + m) k (d .localUnicode))
+    (text-inside h p l (longHead l) true (u32At l 32) (p + m) k (d .suffixUnicode)))
     i n
 
 one : (n : ℕ) (b : Place) → Inside n b → allInside n (b ∷ []) ≡ true

@@ -18,7 +18,8 @@ use Rattle.format.specs.Hotkey.{hotkeyOk}
 use Rattle.format.specs.Ranges.{FitsSigned, FitsHeader}
 use Rattle.format.specs.Writing.{bits, headerBytes, writableHeader}
 use Rattle.format.proofs.Bools.{by-order, every-out, every-in}
-use Rattle.format.proofs.Chains.{Pass, Ok, Law, law-same}
+use Rattle.format.proofs.Chains.{Ok, Law, law-same}
+use Rattle.format.proofs.Holds.{header-holds, header-passes}
 use Rattle.format.proofs.Sized.{SizedBack, Sized, sizedR, sized-law}
 
 -- ---- signed numbers
@@ -109,22 +110,6 @@ identifier-bytes =
 header-bytes : (h : Header) → Bytes (headerBytes h)
 unfolding headerBytes
 header-bytes h = search (bytes-append, bytes-little, bytes-nil, identifier-bytes) depth 20 fits 2000
-
--- ---- the tests by name
-
-record HeaderHolds (l : List ℕ) : Type 0 where
-  size : headerSizeOk (u32At l 0) ≡ true
-  identifier : identifierOk l ≡ true
-  flags : flagsOk (u32At l 20) ≡ true
-  attributes : attributesOk (u32At l 24) ≡ true
-  hotkey : hotkeyOk (u16At l 64) ≡ true
-  zeros : zerosFrom66 l ≡ true
-
-header-holds : (l : List ℕ) → Pass (headerRules l) → HeaderHolds l
-header-holds l (a, (b, (c, (d, (e, (f, z)))))) = record { size = a; identifier = b; flags = c; attributes = d; hotkey = e; zeros = f }
-
-header-passes : (l : List ℕ) → HeaderHolds l → Pass (headerRules l)
-header-passes l h = (h .size, (h .identifier, (h .flags, (h .attributes, (h .hotkey, (h .zeros, tt))))))
 
 -- ---- the law
 

@@ -10,20 +10,21 @@ use borrow.Author.Tests.{leb-true, le-leb, lt-leb, eqb-true}
 use Rattle.octets.specs.Numbers.{Bytes, number, numberAt, u32At, little}
 use Rattle.octets.proofs.NumberLaws.{bytes-append, bytes-nil, bytes-little, length-little, number-back, number-little, number-same}
 use Rattle.format.specs.declared.Fault.the-variants.{Info as INFO}
-use Rattle.format.specs.Tests.{_else_, all}
+use Rattle.format.specs.Tests.{_else_}
+use Rattle.format.specs.Pieces.{textSize, textTests, textPiece, span}
+use Rattle.format.specs.Volume.{volumePiece, volumeTests}
+use Rattle.format.specs.Network.{networkPiece, networkTests}
+use Rattle.format.specs.Info.{infoSize, infoHead, longHead, infoFlags, hasLocal, hasNetwork, infoPieces, infoHeadTests, infoRules, hasLocalUnicode}
 use Rattle.format.specs.Presence.{localThere, networkThere, localUnicodeThere}
-use Rattle.format.specs.Pieces.{textEnds, textSize, textPiece, span}
-use Rattle.format.specs.Volume.{volumeRules, volumePiece}
-use Rattle.format.specs.Network.{networkRules, networkPiece}
-use Rattle.format.specs.Info.{infoSize, infoHead, longHead, infoFlags, hasLocal, hasNetwork, infoPieces, infoRules, hasLocalUnicode}
 use Rattle.format.specs.Shortcut.{most}
 use Rattle.format.specs.Contents.{VolumeContents, NetworkContents, InfoContents}
 use Rattle.format.specs.Writing.{textBytes, twoFields, volumeBytes, networkBytes, infoVolumeBytes, localBytes, infoNetworkBytes, suffixBytes, localUnicodeBytes, suffixUnicodeBytes, volumeStart, localStart, networkStart, suffixStart, localUnicodeStart, suffixUnicodeStart, infoLength, infoBytes, writableIf, writableText, writableVolume, writableNetwork, writableInfo}
 use Rattle.format.proofs.Bools.{and-true, or-true, Every, every-out, every-in, choose-twice}
 use Rattle.format.proofs.Intervals.{total, pack, Ordered, end, ordered-apart}
-use Rattle.format.proofs.Chains.{Pass, Ok, Fits, Law, IfThere, ok-there, there-ok}
+use Rattle.format.proofs.Chains.{Pass, pass-split, pass-join, Ok, Fits, Law, IfThere, ok-there, there-ok}
+use Rattle.format.proofs.Holds.{infoPieceTests, info-head-holds, info-head-passes, info-pieces-hold, info-pieces-pass}
 use Rattle.format.proofs.Sized.{SizedBack, Sized, sizedR, sized-law}
-use Rattle.format.proofs.PieceLaws.{TextV, textValue, text-law, slot, SlotFits, SlotBack, slot-fits, slot-back, slot-bytes, spans-ordered, absent-empty, next, structTests}
+use Rattle.format.proofs.PieceLaws.{TextV, textValue, text-law, slot, SlotFits, SlotBack, slot-fits, slot-back, slot-bytes, spans-ordered, absent-empty, next}
 use Rattle.format.proofs.FieldLaws.{choose-below, field-is, length-two, bytes-two, first-field, second-field, both-there, zero-absent, zero-either}
 use Rattle.format.proofs.VolumeLaws.{VolumeT, VolumeV, volumeValue, volume-law}
 use Rattle.format.proofs.NetworkLaws.{NetworkT, NetworkV, networkValue, network-law}
@@ -37,13 +38,7 @@ abbrev pub noNetworkC : NetworkContents
 noNetworkC = record { flags = 0; provider = 0; unicode = false; net = []; device = []; netUnicode = []; deviceUnicode = [] }
 
 abbrev text : Bool → Bool → List ℕ → ℕ → List ℕ
-text u b l o = slot (textEnds u) (textSize u) (textValue u) b [] l o
-
-abbrev volumeWhole : List ℕ → Bool
-volumeWhole s = all (structTests 0x11 volumeRules volumeValue s)
-
-abbrev networkWhole : List ℕ → Bool
-networkWhole s = all (structTests 0x14 networkRules networkValue s)
+text u b l o = slot (textTests u) (textSize u) (textValue u) b [] l o
 
 abbrev structSize : List ℕ → ℕ
 structSize s = u32At s 0
@@ -59,9 +54,9 @@ abbrev pub infoValue : List ℕ → InfoContents
 infoValue l = record {
   flags = infoFlags l;
   long = longHead l;
-  volume = slot volumeWhole structSize volumeHere (hasLocal l) noVolumeC l (u32At l 12);
+  volume = slot volumeTests structSize volumeHere (hasLocal l) noVolumeC l (u32At l 12);
   local = text false (hasLocal l) l (u32At l 16);
-  network = slot networkWhole structSize networkHere (hasNetwork l) noNetworkC l (u32At l 20);
+  network = slot networkTests structSize networkHere (hasNetwork l) noNetworkC l (u32At l 20);
   suffix = text false true l (u32At l 24);
   localUnicode = text true (hasLocalUnicode l) l (u32At l 28);
   suffixUnicode = text true (longHead l) l (u32At l 32);
@@ -107,25 +102,27 @@ head-fits h n k e =
     (λ t. let q = and-true (leb 0x24 h) (leb h n) t in rw (q .0) (leb-true _ _ (q .0), leb-true _ _ (q .1)))
 
 abbrev TextFits : Bool → Bool → List ℕ → ℕ → Type 0
-TextFits u b l o = SlotFits (textEnds u) (textSize u) (textValue u) b [] (textBytes u) (TextV u) (infoHead l) l o
+TextFits u b l o = SlotFits (textTests u) (textSize u) (textValue u) b [] (textBytes u) (TextV u) (infoHead l) l o
 
 info-fits : (l : List ℕ) → Bytes l → 0x1C ≤ length l → Pass (infoRules l) → Fits infoBytes InfoV (infoValue l) (length l)
 info-fits l bs k c =
     let h : ℕ = infoHead l in
-    let q = head-fits h (length l) k (c .0) in
-    let d = c .1 .1 .1 .1 .1 .1 in
-    let s₁ : SlotFits volumeWhole structSize volumeHere (hasLocal l) noVolumeC volumeBytes VolumeV h l (u32At l 12)
-    = slot-fits _ _ _ volume-law (hasLocal l) noVolumeC h l (u32At l 12) bs (d .0) in
-    let s₂ : TextFits false (hasLocal l) l (u32At l 16) = slot-fits _ _ _ (text-law false) (hasLocal l) [] h l (u32At l 16) bs (d .1 .0) in
-    let s₃ : SlotFits networkWhole structSize networkHere (hasNetwork l) noNetworkC networkBytes NetworkV h l (u32At l 20)
-    = slot-fits _ _ _ network-law (hasNetwork l) noNetworkC h l (u32At l 20) bs (d .1 .1 .0) in
-    let s₄ : TextFits false true l (u32At l 24) = slot-fits _ _ _ (text-law false) true [] h l (u32At l 24) bs (d .1 .1 .1 .0) in
+    let (c₁, c₂) = pass-split (infoHeadTests l) (infoPieceTests l) c in
+    let x = info-head-holds l c₁ in
+    let d = info-pieces-hold l c₂ in
+    let q = head-fits h (length l) k (x .head) in
+    let s₁ : SlotFits volumeTests structSize volumeHere (hasLocal l) noVolumeC volumeBytes VolumeV h l (u32At l 12)
+    = slot-fits _ _ _ volume-law (hasLocal l) noVolumeC h l (u32At l 12) bs (d .volume) in
+    let s₂ : TextFits false (hasLocal l) l (u32At l 16) = slot-fits _ _ _ (text-law false) (hasLocal l) [] h l (u32At l 16) bs (d .local) in
+    let s₃ : SlotFits networkTests structSize networkHere (hasNetwork l) noNetworkC networkBytes NetworkV h l (u32At l 20)
+    = slot-fits _ _ _ network-law (hasNetwork l) noNetworkC h l (u32At l 20) bs (d .network) in
+    let s₄ : TextFits false true l (u32At l 24) = slot-fits _ _ _ (text-law false) true [] h l (u32At l 24) bs (d .suffix) in
     let s₅ : TextFits true (hasLocalUnicode l) l (u32At l 28)
-    = slot-fits _ _ _ (text-law true) (hasLocalUnicode l) [] h l (u32At l 28) bs (d .1 .1 .1 .1 .0) in
-    let s₆ : TextFits true (longHead l) l (u32At l 32) = slot-fits _ _ _ (text-law true) (longHead l) [] h l (u32At l 32) bs (d .1 .1 .1 .1 .1 .0) in
+    = slot-fits _ _ _ (text-law true) (hasLocalUnicode l) [] h l (u32At l 28) bs (d .localUnicode) in
+    let s₆ : TextFits true (longHead l) l (u32At l 32) = slot-fits _ _ _ (text-law true) (longHead l) [] h l (u32At l 32) bs (d .suffixUnicode) in
     let p : h + total (map span (infoPieces l)) ≤ length l
     = pack h (length l) (map span (infoPieces l)) (q .1) (s₁ .within, (s₂ .within, (s₃ .within, (s₄ .within, (s₅ .within, (s₆ .within, tt))))))
-    (d .1 .1 .1 .1 .1 .1 .0) in
+    (d .apart) in
     let v₁ = there-ok VolumeT writableVolume (hasLocal l) noVolumeC (infoValue l .volume) (s₁ .valid) in
     let v₂ = there-ok Bytes (writableText false) (hasLocal l) [] (infoValue l .local) (s₂ .valid) in
     let v₃ = there-ok NetworkT writableNetwork (hasNetwork l) noNetworkC (infoValue l .network) (s₃ .valid) in
@@ -141,7 +138,7 @@ info-fits l bs k c =
           localUnicode = v₅ .0;
           suffixUnicode = v₆ .0;
         };
-        can = every-in (cans (infoValue l)) (c .1 .0, (v₁ .1, (v₂ .1, (v₃ .1, (s₄ .valid .can, (v₅ .1, (v₆ .1, tt)))))));
+        can = every-in (cans (infoValue l)) (x .flags, (v₁ .1, (v₂ .1, (v₃ .1, (s₄ .valid .can, (v₅ .1, (v₆ .1, tt)))))));
       };
       short = rw (length-info (infoValue l)) (omega (arith, p, q .0, s₁ .short, s₂ .short, s₃ .short, s₄ .short, s₅ .short, s₆ .short));
     }
@@ -236,9 +233,9 @@ module _ (i : InfoContents) (v : InfoV i) (m : length (infoBytes i) ≤ most) wh
   d₆ = next (infoBytes i) (localUnicodeBytes i) _ (localUnicodeStart i) d₅
 
   abbrev TextBack : Bool → Bool → ℕ → ℕ → List ℕ → Type 0
-  TextBack u b o a x = SlotBack (textEnds u) (textSize u) (textValue u) b [] (textBytes u) (volumeStart i) (infoBytes i) o a x
+  TextBack u b o a x = SlotBack (textTests u) (textSize u) (textValue u) b [] (textBytes u) (volumeStart i) (infoBytes i) o a x
 
-  b₁ : SlotBack volumeWhole structSize volumeHere (localThere (i .flags)) noVolumeC volumeBytes (volumeStart i) (infoBytes i)
+  b₁ : SlotBack volumeTests structSize volumeHere (localThere (i .flags)) noVolumeC volumeBytes (volumeStart i) (infoBytes i)
       (cond (localThere (i .flags)) (volumeStart i) 0) (volumeStart i) (i .volume)
   b₁ =
       slot-back _ _ _ volume-law _ noVolumeC _ (infoBytes i) _ _ (volumeStart i) (i .volume)
@@ -251,7 +248,7 @@ module _ (i : InfoContents) (v : InfoV i) (m : length (infoBytes i) ≤ most) wh
       (ok-there Bytes (writableText false) (localThere (i .flags)) [] (i .local) (v .typed .local) (can .1 .1 .0))
       (omega (arith, limit)) (omega arith) (choose-twice (localThere (i .flags)) (localStart i) 0) d₂
 
-  b₃ : SlotBack networkWhole structSize networkHere (networkThere (i .flags)) noNetworkC networkBytes (volumeStart i) (infoBytes i)
+  b₃ : SlotBack networkTests structSize networkHere (networkThere (i .flags)) noNetworkC networkBytes (volumeStart i) (infoBytes i)
       (cond (networkThere (i .flags)) (networkStart i) 0) (networkStart i) (i .network)
   b₃ =
       slot-back _ _ _ network-law _ noNetworkC _ (infoBytes i) _ _ (networkStart i) (i .network)
@@ -293,25 +290,25 @@ module _ (i : InfoContents) (v : InfoV i) (m : length (infoBytes i) ≤ most) wh
 
   info-judged : Pass (infoRules (infoBytes i))
   info-judged =
-      rw (is-long, at4, at8, at12, at16, at20, at24) (
-        head-good (i .long) (length (infoBytes i)) (omega (arith, length-info i)),
-        (
-          can .0,
-          (
-            zero-absent (localThere (i .flags)) (volumeStart i),
-            (
-              zero-absent (localThere (i .flags)) (localStart i),
-              (
-                zero-absent (networkThere (i .flags)) (networkStart i),
-                (
-                  zero-either (i .long) (localThere (i .flags)) (u32At (infoBytes i) 28) (localUnicodeStart i) at28,
-                  (b₁ .good, (b₂ .good, (b₃ .good, (b₄ .good, (b₅ .good, (b₆ .good, (ordered-apart in-order, tt))))))),
-                ),
-              ),
-            ),
-          ),
-        ),
-      )
+      let b : List ℕ = infoBytes i in
+      pass-join (infoHeadTests b) (infoPieceTests b)
+      (info-head-passes b (record {
+        head = rw (is-long, at4) (head-good (i .long) (length b) (omega (arith, length-info i)));
+        flags = rw at8 (can .0);
+        volumeOffset = rw (at8, at12) (zero-absent (localThere (i .flags)) (volumeStart i));
+        localOffset = rw (at8, at16) (zero-absent (localThere (i .flags)) (localStart i));
+        networkOffset = rw (at8, at20) (zero-absent (networkThere (i .flags)) (networkStart i));
+        localUnicodeOffset = rw (is-long, at8) (zero-either (i .long) (localThere (i .flags)) (u32At b 28) (localUnicodeStart i) at28);
+      }))
+      (info-pieces-pass b (record {
+        volume = rw (at4, at8, at12) (b₁ .good);
+        local = rw (at4, at8, at16) (b₂ .good);
+        network = rw (at4, at8, at20) (b₃ .good);
+        suffix = rw (at4, at24) (b₄ .good);
+        localUnicode = rw (is-long, at4, at8) (b₅ .good);
+        suffixUnicode = rw (is-long, at4) (b₆ .good);
+        apart = rw (is-long, at8, at12, at16, at20, at24) (ordered-apart in-order);
+      }))
 
   info-back : SizedBack infoSize (λ n. leb 0x1C n else INFO ∷ []) infoRules infoValue (infoBytes i) i
   info-back = record {

@@ -1,7 +1,7 @@
 -- Intervals that share no place and lie in [h, n) have at most n - h places together.
 use mathlib.Core.Path.{_≡_, refl, ap}
 use mathlib.Core.List.{List, [], _∷_, map}
-use mathlib.Core.Bool.{true, cond}
+use mathlib.Core.Bool.{Bool, true, _&&_, cond}
 use Prim.Native.Nat.{ℕ, zero, suc, _+_, _-_, _≤_, _<_}
 use native.Mathlib.Omega.{arith}
 use native.Mathlib.Nat.{not-suc-le-zero, le-of-suc-le-suc}
@@ -10,8 +10,14 @@ use lib.Dec.{leb}
 use borrow.Author.Tests.{leb-true, le-leb, lt-leb}
 use Rattle.format.specs.declared.Place.{Place}
 use Rattle.format.specs.Tests.{place}
-use Rattle.format.specs.Pieces.{apart, apartFrom, allApart}
+use Rattle.format.specs.Pieces.{apart, apartFrom, apartTests}
 use Rattle.format.proofs.Bools.{and-true, and-both, or-true, or-left, or-right, by-order}
+use Rattle.format.proofs.Chains.{Pass}
+
+-- no two share a place: each is apart from the later ones
+abbrev pub allApart : List Place → Bool
+allApart [] = true
+allApart (x ∷ xs) = apartFrom x xs && allApart xs
 
 abbrev pub Within : ℕ → ℕ → List Place → Type 0
 Within h n [] = Unit {0}
@@ -29,6 +35,43 @@ apart-before x y h = or-left _ _ (le-leb _ _ h)
 
 pub apart-behind : (x y : Place) → y .at + y .len ≤ x .at → apart x y ≡ true
 apart-behind x y h = or-right (leb (x .at + x .len) (y .at)) _ (le-leb _ _ h)
+
+-- ---- apart from the earlier ones, or from the later ones
+
+apart-back : (x y : Place) → apart x y ≡ true → apart y x ≡ true
+apart-back x y e = apart-cases x y e (apart-behind y x) (apart-before y x)
+
+-- each of these is apart from all of those
+abbrev EachFrom : List Place → List Place → Type 0
+EachFrom [] xs = Unit {0}
+EachFrom (b ∷ bs) xs = (apartFrom b xs ≡ true) × EachFrom bs xs
+
+each-more : (x : Place) (bs xs : List Place) → apartFrom x bs ≡ true → EachFrom bs xs → EachFrom bs (x ∷ xs)
+each-more x [] xs e h = tt
+each-more x (b ∷ bs) xs e h =
+    let i = and-true (apart x b) (apartFrom x bs) e in
+    (and-both (apart b x) (apartFrom b xs) (apart-back x b (i .0)) (h .0), each-more x bs xs (i .1) (h .1))
+
+each-less : (x : Place) (bs xs : List Place) → EachFrom bs (x ∷ xs) → (apartFrom x bs ≡ true) × EachFrom bs xs
+each-less x [] xs h = (refl, tt)
+each-less x (b ∷ bs) xs h =
+    let i = and-true (apart b x) (apartFrom b xs) (h .0) in
+    let j = each-less x bs xs (h .1) in
+    (and-both (apart x b) (apartFrom x bs) (apart-back b x (i .0)) (j .0), (i .1, j .1))
+
+pub tests-apart : (bs xs : List Place) → Pass (apartTests bs xs) → EachFrom bs xs × (allApart xs ≡ true)
+tests-apart [] [] c = (tt, refl)
+tests-apart (b ∷ bs) [] c = ((refl, tests-apart bs [] tt .0), refl)
+tests-apart bs (x ∷ xs) c =
+    let i = tests-apart (x ∷ bs) xs (c .1) in
+    (each-more x bs xs (c .0) (i .0 .1), and-both (apartFrom x xs) (allApart xs) (i .0 .0) (i .1))
+
+pub apart-tests : (bs xs : List Place) → EachFrom bs xs → allApart xs ≡ true → Pass (apartTests bs xs)
+apart-tests bs [] h e = tt
+apart-tests bs (x ∷ xs) h e =
+    let i = and-true (apartFrom x xs) (allApart xs) e in
+    let j = each-less x bs xs h in
+    (j .0, apart-tests (x ∷ bs) xs (i .0, j .1) (i .1))
 
 -- ---- with x taken out: what stands behind x moves down by x's length
 

@@ -1,6 +1,7 @@
 pub mod Bools
-pub mod Intervals
 pub mod Chains
+pub mod Intervals
+pub mod Holds
 pub mod Sized
 pub mod HotkeyLaws
 pub mod HeaderLaws

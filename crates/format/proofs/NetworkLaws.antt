@@ -1,7 +1,7 @@
 -- The laws of the network link.
 use mathlib.Core.Path.{_≡_, refl, sym, _∙_}
 use mathlib.Core.List.{List, [], _∷_, _++_, map}
-use mathlib.Core.Bool.{Bool, true, false, not, cond}
+use mathlib.Core.Bool.{Bool, true, false, not, _||_, cond}
 use Prim.Native.Nat.{ℕ, _+_, _≤_, _<_, _^_}
 use native.Mathlib.Omega.{arith}
 use lib.ListN.{length, take, drop, length-append}
@@ -9,22 +9,22 @@ use lib.Dec.{leb, ltb}
 use borrow.Author.Tests.{leb-true, le-leb}
 use Rattle.octets.specs.Numbers.{Bytes, number, numberAt, u32At, little}
 use Rattle.octets.proofs.NumberLaws.{bytes-append, bytes-nil, bytes-little, length-little, number-back, number-little, number-below}
-use Rattle.format.specs.Tests.{all}
+use Rattle.format.specs.Pieces.{textSize, textTests, textPiece, span}
+use Rattle.format.specs.Network.{networkFlags, hasDevice, networkUnicode, networkHead, networkPieces, networkHeadTests, networkRules, networkTests, hasDeviceUnicode}
 use Rattle.format.specs.Presence.{deviceThere, providerThere, deviceUnicodeThere}
-use Rattle.format.specs.Pieces.{textEnds, textSize, textPiece, span}
-use Rattle.format.specs.Network.{networkFlags, hasDevice, networkUnicode, networkHead, networkPieces, networkRules, hasDeviceUnicode}
 use Rattle.format.specs.Shortcut.{most}
 use Rattle.format.specs.Contents.{NetworkContents}
 use Rattle.format.specs.Writing.{textBytes, twoFields, netBytes, deviceBytes, netUnicodeBytes, deviceUnicodeBytes, netStart, deviceStart, netUnicodeStart, deviceUnicodeStart, networkLength, networkBytes, writableIf, writableText, writableNetwork}
 use Rattle.format.proofs.Bools.{Every, every-out, every-in, choose-twice}
 use Rattle.format.proofs.Intervals.{total, pack, Ordered, end, ordered-apart}
-use Rattle.format.proofs.Chains.{Pass, Ok, Fits, IfThere, ok-there, there-ok}
-use Rattle.format.proofs.PieceLaws.{PieceLaw, TextV, textValue, text-law, slot, SlotFits, SlotBack, slot-fits, slot-back, slot-bytes, spans-ordered, absent-empty, next, Struct, structTests, struct-law}
+use Rattle.format.proofs.Chains.{Pass, pass-split, pass-join, Ok, Fits, IfThere, ok-there, there-ok}
+use Rattle.format.proofs.Holds.{networkPieceTests, network-head-holds, network-head-passes, network-pieces-hold, network-pieces-pass}
+use Rattle.format.proofs.PieceLaws.{PieceLaw, TextV, textValue, text-law, slot, SlotFits, SlotBack, slot-fits, slot-back, slot-bytes, spans-ordered, absent-empty, next, Struct, struct-law}
 use Rattle.format.proofs.FieldLaws.{choose-below, field-is, length-two, bytes-two, first-field, second-field, both-there, zero-absent, zero-either}
 
 -- a text of the link that is there or not
 abbrev text : Bool → Bool → List ℕ → ℕ → List ℕ
-text u b l o = slot (textEnds u) (textSize u) (textValue u) b [] l o
+text u b l o = slot (textTests u) (textSize u) (textValue u) b [] l o
 
 -- what the link's own bytes say
 abbrev pub networkValue : List ℕ → NetworkContents
@@ -59,6 +59,15 @@ length-network n = simp (length-append, length-little, length-two) (omega (arith
 
 -- ---- from bytes
 
+head-inside : (u : Bool) (n : ℕ) → 0x14 ≤ n → (not u || leb 0x1C n) ≡ true → networkHead u ≤ n
+head-inside true n h e = leb-true 0x1C n e
+head-inside false n h e = h
+
+-- and back: a field that ends with the head or before it
+field-there : (u : Bool) (i n : ℕ) → i ≤ 0x1C → networkHead u ≤ n → (not u || leb i n) ≡ true
+field-there true i n k h = le-leb i n (omega arith)
+field-there false i n k h = refl
+
 kept-below : (b : Bool) (x : ℕ) → x < 2 ^ 32 → cond b x 0 < 2 ^ 32
 kept-below true x h = h
 kept-below false x h = omega arith
@@ -77,20 +86,22 @@ cans n =
     ∷ []
 
 abbrev TextFits : Bool → Bool → List ℕ → ℕ → Type 0
-TextFits u b l o = SlotFits (textEnds u) (textSize u) (textValue u) b [] (textBytes u) (TextV u) (networkHead (networkUnicode l)) l o
+TextFits u b l o = SlotFits (textTests u) (textSize u) (textValue u) b [] (textBytes u) (TextV u) (networkHead (networkUnicode l)) l o
 
-network-fits : (l : List ℕ) → Bytes l → Pass (networkRules l) → Fits networkBytes NetworkV (networkValue l) (length l)
-network-fits l bs c =
+network-fits : (l : List ℕ) → Bytes l → 0x14 ≤ length l → Pass (networkRules l) → Fits networkBytes NetworkV (networkValue l) (length l)
+network-fits l bs e c =
     let h : ℕ = networkHead (networkUnicode l) in
-    let k : h ≤ length l = leb-true _ _ (c .1 .1 .0) in
-    let d = c .1 .1 .1 .1 .1 in
-    let s₁ : TextFits false true l (u32At l 8) = slot-fits _ _ _ (text-law false) true [] h l (u32At l 8) bs (d .0) in
-    let s₂ : TextFits false (hasDevice l) l (u32At l 12) = slot-fits _ _ _ (text-law false) (hasDevice l) [] h l (u32At l 12) bs (d .1 .0) in
-    let s₃ : TextFits true (networkUnicode l) l (u32At l 20) = slot-fits _ _ _ (text-law true) (networkUnicode l) [] h l (u32At l 20) bs (d .1 .1 .0) in
+    let (c₁, c₂) = pass-split (networkHeadTests l) (networkPieceTests l) c in
+    let x = network-head-holds l c₁ in
+    let d = network-pieces-hold l c₂ in
+    let k : h ≤ length l = head-inside (networkUnicode l) (length l) e (x .deviceUnicodeField) in
+    let s₁ : TextFits false true l (u32At l 8) = slot-fits _ _ _ (text-law false) true [] h l (u32At l 8) bs (d .net) in
+    let s₂ : TextFits false (hasDevice l) l (u32At l 12) = slot-fits _ _ _ (text-law false) (hasDevice l) [] h l (u32At l 12) bs (d .device) in
+    let s₃ : TextFits true (networkUnicode l) l (u32At l 20) = slot-fits _ _ _ (text-law true) (networkUnicode l) [] h l (u32At l 20) bs (d .netUnicode) in
     let s₄ : TextFits true (hasDeviceUnicode l) l (u32At l 24)
-    = slot-fits _ _ _ (text-law true) (hasDeviceUnicode l) [] h l (u32At l 24) bs (d .1 .1 .1 .0) in
+    = slot-fits _ _ _ (text-law true) (hasDeviceUnicode l) [] h l (u32At l 24) bs (d .deviceUnicode) in
     let p : h + total (map span (networkPieces l)) ≤ length l
-    = pack h (length l) (map span (networkPieces l)) k (s₁ .within, (s₂ .within, (s₃ .within, (s₄ .within, tt)))) (d .1 .1 .1 .1 .0) in
+    = pack h (length l) (map span (networkPieces l)) k (s₁ .within, (s₂ .within, (s₃ .within, (s₄ .within, tt)))) (d .apart) in
     let v₂ = there-ok Bytes (writableText false) (hasDevice l) [] (text false (hasDevice l) l (u32At l 12)) (s₂ .valid) in
     let v₃ = there-ok Bytes (writableText true) (networkUnicode l) [] (text true (networkUnicode l) l (u32At l 20)) (s₃ .valid) in
     let v₄ = there-ok Bytes (writableText true) (hasDeviceUnicode l) [] (text true (hasDeviceUnicode l) l (u32At l 24)) (s₄ .valid) in
@@ -104,7 +115,7 @@ network-fits l bs c =
           netUnicode = v₃ .0;
           deviceUnicode = v₄ .0;
         };
-        can = every-in (cans (networkValue l)) (c .0, (s₁ .valid .can, (v₂ .1, (v₃ .1, (v₄ .1, tt)))));
+        can = every-in (cans (networkValue l)) (x .flags, (s₁ .valid .can, (v₂ .1, (v₃ .1, (v₄ .1, tt)))));
       };
       short = rw (length-network (networkValue l)) (omega (arith, p, s₁ .short, s₂ .short, s₃ .short, s₄ .short));
     }
@@ -178,7 +189,7 @@ module _ (n : NetworkContents) (v : NetworkV n) (m : length (networkBytes n) ≤
   d₄ = next (networkBytes n) (netUnicodeBytes n) _ (netUnicodeStart n) d₃
 
   abbrev TextBack : Bool → Bool → ℕ → ℕ → List ℕ → Type 0
-  TextBack u b o a x = SlotBack (textEnds u) (textSize u) (textValue u) b [] (textBytes u) (networkHead (n .unicode)) (networkBytes n) o a x
+  TextBack u b o a x = SlotBack (textTests u) (textSize u) (textValue u) b [] (textBytes u) (networkHead (n .unicode)) (networkBytes n) o a x
 
   can : Every (cans n)
   can = every-out (cans n) (v .can)
@@ -220,22 +231,24 @@ module _ (n : NetworkContents) (v : NetworkV n) (m : length (networkBytes n) ≤
 
   network-judged : Pass (networkRules (networkBytes n))
   network-judged =
-      rw (unicode-is, at4, at8, at12) (
-        can .0,
-        (
-          le-leb 0x14 (netStart n) (omega (arith, head-is (n .unicode))),
-          (
-            le-leb (networkHead (n .unicode)) (length (networkBytes n)) (omega (arith, length-network n)),
-            (
-              zero-absent (deviceThere (n .flags)) (deviceStart n),
-              (
-                zero-either (n .unicode) (deviceThere (n .flags)) (u32At (networkBytes n) 24) (deviceUnicodeStart n) at24,
-                (b₁ .good, (b₂ .good, (b₃ .good, (b₄ .good, (ordered-apart in-order, tt))))),
-              ),
-            ),
-          ),
-        ),
-      )
+      let b : List ℕ = networkBytes n in
+      let room : networkHead (n .unicode) ≤ length b = omega (arith, length-network n) in
+      pass-join (networkHeadTests b) (networkPieceTests b)
+      (network-head-passes b (record {
+        flags = rw at4 (can .0);
+        netOffset = rw at8 (le-leb 0x14 (netStart n) (omega (arith, head-is (n .unicode))));
+        netUnicodeField = rw unicode-is (field-there (n .unicode) 0x18 (length b) (omega arith) room);
+        deviceUnicodeField = rw unicode-is (field-there (n .unicode) 0x1C (length b) (omega arith) room);
+        deviceOffset = rw (at4, at12) (zero-absent (deviceThere (n .flags)) (deviceStart n));
+        deviceUnicodeOffset = rw (unicode-is, at4) (zero-either (n .unicode) (deviceThere (n .flags)) (u32At b 24) (deviceUnicodeStart n) at24);
+      }))
+      (network-pieces-pass b (record {
+        net = rw (unicode-is, at8) (b₁ .good);
+        device = rw (unicode-is, at4, at12) (b₂ .good);
+        netUnicode = rw unicode-is (b₃ .good);
+        deviceUnicode = rw (unicode-is, at4) (b₄ .good);
+        apart = rw (unicode-is, at4, at8, at12) (ordered-apart in-order);
+      }))
 
   network-same : networkValue (networkBytes n) ≡ n
   network-same = rw (unicode-is, at4, at8, at12, at16, b₁ .same, b₂ .same, b₃ .same, b₄ .same, kept-twice (providerThere (n .flags)) (n .provider), v .typed .kept)
@@ -260,8 +273,8 @@ network-struct = record {
   long = λ n v. omega (arith, length-network n, head-is (n .unicode));
   judged = network-judged;
   same = network-same;
-  fits = λ l bs k c. network-fits l bs c;
+  fits = network-fits;
 }
 
-pub network-law : PieceLaw (λ s. all (structTests 0x14 networkRules networkValue s)) (λ s. u32At s 0) (λ s. networkValue (take (u32At s 0) s)) networkBytes NetworkV
+pub network-law : PieceLaw networkTests (λ s. u32At s 0) (λ s. networkValue (take (u32At s 0) s)) networkBytes NetworkV
 network-law = struct-law 0x14 networkRules networkValue network-struct

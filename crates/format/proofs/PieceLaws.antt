@@ -6,26 +6,24 @@ use Prim.Native.Nat.{ℕ, zero, suc, _+_, _≤_, _<_}
 use native.Mathlib.Omega.{arith}
 use lib.ListN.{length, take, drop, replicate, length-append, length-drop, length-replicate}
 use lib.Seq.{length-take-le, take-at, drop-drop, drop-append-seam}
-use lib.Dec.{leb}
 use borrow.Author.Tests.{leb-true, le-leb, ltb-true, lt-ltb, eqb-true, eq-eqb}
 use Rattle.octets.specs.Numbers.{Bytes, u32At}
 use Rattle.octets.specs.Characters.{bytesOf, units, characters, beforeZero}
 use Rattle.octets.proofs.NumberLaws.{bytes-append, bytes-drop, bytes-take, bytes-nil, bytes-cons}
 use Rattle.octets.proofs.CharacterLaws.{before-le, before-take, before-append, characters-fit, characters-take, characters-append, bytes-of-le, bytes-of-add, bytes-of-same}
 use Rattle.format.specs.declared.Place.{Place}
-use Rattle.format.specs.declared.Fault.the-variants.{Piece as PIECE}
-use Rattle.format.specs.Tests.{Test, _else_, all, place, noPlace}
-use Rattle.format.specs.Pieces.{Piece, textEnds, textLength, textSize, pieceOk, span}
+use Rattle.format.specs.Tests.{Test, place, noPlace}
+use Rattle.format.specs.Pieces.{Piece, textLength, textSize, textTests, structTests, testsOf, span}
 use Rattle.format.specs.Shortcut.{most}
 use Rattle.format.specs.Writing.{textBytes, ifThere, writableText}
-use Rattle.format.proofs.Bools.{and-true, and-both}
 use Rattle.format.proofs.Intervals.{Ordered, skip, put}
-use Rattle.format.proofs.Chains.{Pass, all-pass, pass-all, Ok, Fits, IfThere}
+use Rattle.format.proofs.Chains.{Pass, Ok, Fits, IfThere}
+use Rattle.format.proofs.Holds.{struct-holds, struct-passes}
 
--- ---- what is asked of a kind of piece: whether it is whole, how many bytes it has, and what it says
+-- ---- what is asked of a kind of piece: its own tests, how many bytes it has, and what it says
 
-pub record PieceBack {A : Type 0} (whole : List ℕ → Bool) (size : List ℕ → ℕ) (value : List ℕ → A) (s : List ℕ) (a : A) (n : ℕ) : Type 0 where
-  pub is-whole : whole s ≡ true
+pub record PieceBack {A : Type 0} (own : List ℕ → List Test) (size : List ℕ → ℕ) (value : List ℕ → A) (s : List ℕ) (a : A) (n : ℕ) : Type 0 where
+  pub passes : Pass (own s)
   pub sized : size s ≡ n
   pub same : value s ≡ a
 
@@ -35,10 +33,10 @@ pub record PieceFits {A : Type 0} (size : List ℕ → ℕ) (value : List ℕ �
   pub some : 0 < size s
   pub inside : size s ≤ length s
 
-pub record PieceLaw {A : Type 0} (whole : List ℕ → Bool) (size : List ℕ → ℕ) (value : List ℕ → A) (enc : A → List ℕ) (Valid : A → Type 0) : Type 0 where
+pub record PieceLaw {A : Type 0} (own : List ℕ → List Test) (size : List ℕ → ℕ) (value : List ℕ → A) (enc : A → List ℕ) (Valid : A → Type 0) : Type 0 where
   pub bytes : (a : A) → Valid a → Bytes (enc a)
-  pub back : (a : A) → Valid a → length (enc a) ≤ most → (r : List ℕ) → PieceBack whole size value (enc a ++ r) a (length (enc a))
-  pub fits : (s : List ℕ) → Bytes s → whole s ≡ true → PieceFits size value enc Valid s
+  pub back : (a : A) → Valid a → length (enc a) ≤ most → (r : List ℕ) → PieceBack own size value (enc a ++ r) a (length (enc a))
+  pub fits : (s : List ℕ) → Bytes s → Pass (own s) → PieceFits size value enc Valid s
 
 -- ---- a string with its terminator, of either kind
 
@@ -75,7 +73,7 @@ plain u x e =
     let w : bytesOf u (length c) ≡ length x = omega arith in
     record { whole = w; no-zero = bytes-of-same u (a ∙ sym w) }
 
-text-back : (u : Bool) (x : List ℕ) → TextV u x → (r : List ℕ) → PieceBack (textEnds u) (textSize u) (textValue u) (textBytes u x ++ r) x (length (textBytes u x))
+text-back : (u : Bool) (x : List ℕ) → TextV u x → (r : List ℕ) → PieceBack (textTests u) (textSize u) (textValue u) (textBytes u x ++ r) x (length (textBytes u x))
 text-back u x v r =
     let p = plain u x (v .can) in
     let s : List ℕ = textBytes u x ++ r in
@@ -86,16 +84,16 @@ text-back u x v r =
     let m : length (characters u s) ≡ length (characters u x) + suc (length (characters u r)) = ap length c ∙ length-append (characters u x) (0 ∷ characters u r) in
     let n : textLength u s ≡ length x = ap (bytesOf u) k ∙ p .whole in
     record {
-      is-whole = lt-ltb (beforeZero (characters u s)) (length (characters u s)) (omega arith);
+      passes = (lt-ltb (beforeZero (characters u s)) (length (characters u s)) (omega arith), tt);
       sized = ap (λ (l : ℕ). l + bytesOf u 1) n ∙ sym (length-text u x);
       same = ap (λ (l : ℕ). take l s) n ∙ ap (take (length x)) (append-assoc x z r) ∙ take-at x (z ++ r) (length x) refl;
     }
 
-text-fits : (u : Bool) (s : List ℕ) → Bytes s → textEnds u s ≡ true → PieceFits (textSize u) (textValue u) (textBytes u) (TextV u) s
+text-fits : (u : Bool) (s : List ℕ) → Bytes s → Pass (textTests u s) → PieceFits (textSize u) (textValue u) (textBytes u) (TextV u) s
 text-fits u s bs e =
     let c : List ℕ = characters u s in
     let k : ℕ = beforeZero c in
-    let h : k < length c = ltb-true _ _ e in
+    let h : k < length c = ltb-true _ _ (e .0) in
     let f : bytesOf u (length c) ≤ length s = characters-fit u s in
     let g : bytesOf u (k + 1) ≤ bytesOf u (length c) = bytes-of-le u (omega arith) in
     let a : bytesOf u (k + 1) ≡ bytesOf u k + bytesOf u 1 = bytes-of-add u k 1 in
@@ -110,7 +108,7 @@ text-fits u s bs e =
       inside = omega arith;
     }
 
-pub text-law : (u : Bool) → PieceLaw (textEnds u) (textSize u) (textValue u) (textBytes u) (TextV u)
+pub text-law : (u : Bool) → PieceLaw (textTests u) (textSize u) (textValue u) (textBytes u) (TextV u)
 text-law u = record {
   bytes = λ x v. bytes-append x (replicate (bytesOf u 1) 0) (v .typed) (zeros-bytes u);
   back = λ x v h r. text-back u x v r;
@@ -123,9 +121,9 @@ text-law u = record {
 
 -- ---- a piece that is there or not, at an offset of l
 
-module _ {A : Type 0} (whole : List ℕ → Bool) (size : List ℕ → ℕ) (value : List ℕ → A) where
+module _ {A : Type 0} (own : List ℕ → List Test) (size : List ℕ → ℕ) (value : List ℕ → A) where
   abbrev pub pieceAt : Bool → List ℕ → ℕ → Piece
-  pieceAt b l o = record { present = b; offset = o; whole = whole (drop o l); size = size (drop o l) }
+  pieceAt b l o = record { present = b; offset = o; own = own (drop o l); size = size (drop o l) }
 
   abbrev pub slot : Bool → A → List ℕ → ℕ → A
   slot b d l o = cond b (value (drop o l)) d
@@ -138,18 +136,17 @@ module _ {A : Type 0} (whole : List ℕ → Bool) (size : List ℕ → ℕ) (val
 
   -- a piece of the canonical layout, from the place a on, to which its offset field o leads
   pub record SlotBack (b : Bool) (d : A) (enc : A → List ℕ) (h : ℕ) (l : List ℕ) (o a : ℕ) (x : A) : Type 0 where
-    pub good : pieceOk h (pieceAt b l o) ≡ true
+    pub good : Pass (testsOf h (pieceAt b l o))
     pub spans : span (pieceAt b l o) ≡ cond b (place a (length (ifThere b enc x))) noPlace
     pub same : slot b d l o ≡ x
 
-  module _ {enc : A → List ℕ} {Valid : A → Type 0} (F : PieceLaw whole size value enc Valid) where
-    pub slot-fits : (b : Bool) (d : A) (h : ℕ) (l : List ℕ) (o : ℕ) → Bytes l → pieceOk h (pieceAt b l o) ≡ true → SlotFits b d enc Valid h l o
+  module _ {enc : A → List ℕ} {Valid : A → Type 0} (F : PieceLaw own size value enc Valid) where
+    pub slot-fits : (b : Bool) (d : A) (h : ℕ) (l : List ℕ) (o : ℕ) → Bytes l → Pass (testsOf h (pieceAt b l o)) → SlotFits b d enc Valid h l o
     slot-fits true d h l o bs e =
-        let i = and-true (leb h o) (whole (drop o l)) e in
-        let f = F .fits (drop o l) (bytes-drop o l bs) (i .1) in
+        let f = F .fits (drop o l) (bytes-drop o l bs) (e .1) in
         let n = f .inside in
         let p = f .some in
-        record { valid = f .valid; short = f .short; within = λ z. (leb-true h o (i .0), omega (arith, length-drop o l)) }
+        record { valid = f .valid; short = f .short; within = λ z. (leb-true h o (e .0), omega (arith, length-drop o l)) }
     slot-fits false d h l o bs e = record { valid = refl; short = omega arith; within = λ z. absurd (omega arith) }
 
     pub slot-back : (b : Bool) (d : A) (h : ℕ) (l r : List ℕ) (o a : ℕ) (x : A) → IfThere b d Valid x → length (ifThere b enc x) ≤ most → h ≤ a
@@ -158,11 +155,11 @@ module _ {A : Type 0} (whole : List ℕ → Bool) (size : List ℕ → ℕ) (val
         let f = F .back x v k r in
         let i : drop o l ≡ enc x ++ r = ap (λ (m : ℕ). drop m l) q ∙ e in
         record {
-          good = and-both (leb h o) (whole (drop o l)) (le-leb h o (omega arith)) (rw i (f .is-whole));
+          good = (le-leb h o (omega arith), rw i (f .passes));
           spans = rw (i, f .sized, q);
           same = rw i (f .same);
         }
-    slot-back false d h l r o a x v k g q e = record { good = refl; spans = refl; same = sym v }
+    slot-back false d h l r o a x v k g q e = record { good = tt; spans = refl; same = sym v }
 
     pub slot-bytes : (b : Bool) (d x : A) → IfThere b d Valid x → Bytes (ifThere b enc x)
     slot-bytes true d x v = F .bytes x v
@@ -186,10 +183,6 @@ next l e r o h = sym (drop-drop (length e) o l) ∙ ap (drop (length e)) h ∙ d
 -- ---- a structure that says its size in its first four bytes, low or more
 
 module _ {A : Type 0} (low : ℕ) (rules : List ℕ → List Test) (value : List ℕ → A) where
-  abbrev pub structTests : List ℕ → List Test
-  structTests s =
-      leb 4 (length s) else PIECE ∷ leb (u32At s 0) (length s) else PIECE ∷ leb low (u32At s 0) else PIECE ∷ rules (take (u32At s 0) s)
-
   -- what is asked of it: of one whole structure l, with nothing after it
   pub record Struct (enc : A → List ℕ) (Valid : A → Type 0) : Type 0 where
     pub low-four : 4 ≤ low
@@ -202,7 +195,7 @@ module _ {A : Type 0} (low : ℕ) (rules : List ℕ → List Test) (value : List
 
   module _ {enc : A → List ℕ} {Valid : A → Type 0} (F : Struct enc Valid) where
     struct-back : (a : A) → Valid a → length (enc a) ≤ most → (r : List ℕ)
-        → PieceBack (λ s. all (structTests s)) (λ s. u32At s 0) (λ s. value (take (u32At s 0) s)) (enc a ++ r) a (length (enc a))
+        → PieceBack (structTests low rules) (λ s. u32At s 0) (λ s. value (take (u32At s 0) s)) (enc a ++ r) a (length (enc a))
     struct-back a v m r =
         let s : List ℕ = enc a ++ r in
         let n : u32At s 0 ≡ length (enc a) = F .sized a v m r in
@@ -211,24 +204,23 @@ module _ {A : Type 0} (low : ℕ) (rules : List ℕ → List Test) (value : List
         let f = F .low-four in
         let t : take (u32At s 0) s ≡ enc a = ap (λ (i : ℕ). take i s) n ∙ take-at (enc a) r (length (enc a)) refl in
         record {
-          is-whole =
-              pass-all (structTests s)
-              (le-leb 4 (length s) (omega arith), (le-leb (u32At s 0) (length s) (omega arith), (le-leb low (u32At s 0) (omega arith), rw t (F .judged a v m))));
+          passes =
+              struct-passes low rules s (record { field = omega arith; inside = omega arith; enough = omega arith; own = rw t (F .judged a v m) });
           sized = n;
           same = ap value t ∙ F .same a v m;
         }
 
-    struct-fits : (s : List ℕ) → Bytes s → all (structTests s) ≡ true → PieceFits (λ s. u32At s 0) (λ s. value (take (u32At s 0) s)) enc Valid s
+    struct-fits : (s : List ℕ) → Bytes s → Pass (structTests low rules s) → PieceFits (λ s. u32At s 0) (λ s. value (take (u32At s 0) s)) enc Valid s
     struct-fits s bs e =
-        let c = all-pass (structTests s) e in
+        let c = struct-holds low rules s e in
         let n : ℕ = u32At s 0 in
-        let i : n ≤ length s = leb-true n (length s) (c .1 .0) in
-        let j : low ≤ n = leb-true low n (c .1 .1 .0) in
+        let i : n ≤ length s = c .inside in
+        let j : low ≤ n = c .enough in
         let k : length (take n s) ≡ n = length-take-le n s i in
-        let f = F .fits (take n s) (bytes-take n s bs) (rw k j) (c .1 .1 .1) in
+        let f = F .fits (take n s) (bytes-take n s bs) (rw k j) (c .own) in
         let z = f .short in
         let g = F .low-four in
         record { valid = f .valid; short = omega arith; some = omega arith; inside = i }
 
-    pub struct-law : PieceLaw (λ s. all (structTests s)) (λ s. u32At s 0) (λ s. value (take (u32At s 0) s)) enc Valid
+    pub struct-law : PieceLaw (structTests low rules) (λ s. u32At s 0) (λ s. value (take (u32At s 0) s)) enc Valid
     struct-law = record { bytes = F .bytes; back = struct-back; fits = struct-fits }

@@ -38,19 +38,20 @@ module _ {A : Type 0} (h : ℕ) (size : List ℕ → ℕ) (sizes : ℕ → List 
     pub back : (a : A) → Valid a → length (enc a) ≤ most → SizedBack size sizes rules value (enc a) a
     pub fits : (l : List ℕ) → Bytes l → size l ≡ length l → Pass (sizes (length l)) → Pass (rules l) → Fits enc Valid (value l) (length l)
 
-  -- the tests of a section in their three groups
-  record Passed (s : List ℕ) : Type 0 where
-    sizable : Pass (sizes (size s))
-    within : size s ≤ length s
-    judged : Pass (rules (take (size s) s))
+  -- the tests of a section by name
+  pub record SizedHolds (s : List ℕ) : Type 0 where
+    pub field : h ≤ length s
+    pub sizable : Pass (sizes (size s))
+    pub within : size s ≤ length s
+    pub judged : Pass (rules (take (size s) s))
 
-  groups : (s : List ℕ) → Pass (sizedTests s) → Passed s
-  groups s c =
-      let i = pass-split (sizes (size s)) (leb (size s) (length s) else CUT ∷ rules (take (size s) s)) (c .1) in
-      record { sizable = i .0; within = leb-true _ _ (i .1 .0); judged = i .1 .1 }
+  pub sized-holds : (s : List ℕ) → Pass (sizedTests s) → SizedHolds s
+  sized-holds s (a, b) =
+      let (i, (j, k)) = pass-split (sizes (size s)) (leb (size s) (length s) else CUT ∷ rules (take (size s) s)) b in
+      record { field = leb-true h (length s) a; sizable = i; within = leb-true (size s) (length s) j; judged = k }
 
-  ungroup : (s : List ℕ) → h ≤ length s → Pass (sizes (size s)) → size s ≤ length s → Pass (rules (take (size s) s)) → Pass (sizedTests s)
-  ungroup s a b c d = (le-leb h (length s) a, pass-join (sizes (size s)) _ b (le-leb (size s) (length s) c, d))
+  sized-passes : (s : List ℕ) → SizedHolds s → Pass (sizedTests s)
+  sized-passes s x = (le-leb h (length s) (x .field), pass-join (sizes (size s)) _ (x .sizable) (le-leb (size s) (length s) (x .within), x .judged))
 
   module _ {enc : A → List ℕ} {Valid : A → Type 0} (F : Sized enc Valid) where
     pub sized-read : (l : List ℕ) (a : A) → SizedBack size sizes rules value l a → (p : ℕ) (r : List ℕ) → sizedR p (l ++ r) ≡ got a (length l)
@@ -59,18 +60,19 @@ module _ {A : Type 0} (h : ℕ) (size : List ℕ → ℕ) (sizes : ℕ → List 
         let k = length-append l r in
         let e : size s ≡ length l = b .sized r in
         let o : h ≤ length l = rw e at (F .low s (rw e (b .sizable))) in
-        let c : Pass (sizedTests s) = ungroup s (omega arith) (rw e (b .sizable)) (omega arith) (rw (e, take-append-seam l r) (b .judged)) in
+        let c : Pass (sizedTests s)
+        = sized-passes s (record { field = omega arith; sizable = rw e (b .sizable); within = omega arith; judged = rw (e, take-append-seam l r) (b .judged) }) in
         pass p (sizedTests s) (got (value (take (size s) s)) (size s)) c ∙ rw (e, take-append-seam l r, b .same)
 
     sized-inside : (p : ℕ) (s : List ℕ) (a : A) (n : ℕ) → sizedR p s ≡ got a n → n ≤ length s
     sized-inside p s a n =
-        tests-elim (λ a n. n ≤ length s) p (sizedTests s) (value (take (size s) s)) (size s) (λ c. (groups s c) .within) a n
+        tests-elim (λ a n. n ≤ length s) p (sizedTests s) (value (take (size s) s)) (size s) (λ c. sized-holds s c .within) a n
 
     sized-fits : (p : ℕ) (s : List ℕ) (a : A) (n : ℕ) → sizedR p s ≡ got a n → Bytes s → Fits enc Valid a n
     sized-fits p s a n e bs =
         tests-elim (λ a n. Fits enc Valid a n) p (sizedTests s) (value (take (size s) s)) (size s)
         (λ c.
-        let g = groups s c in
+        let g = sized-holds s c in
         let l : List ℕ = take (size s) s in
         let k : length l ≡ size s = length-take-le (size s) s (g .within) in
         let o : h ≤ size s = F .low s (g .sizable) in
@@ -82,10 +84,11 @@ module _ {A : Type 0} (h : ℕ) (size : List ℕ → ℕ) (sizes : ℕ → List 
     sized-alike p s a n e q t =
         tests-elim (λ a n. take n t ≡ take n s → n ≤ length t → sizedR q t ≡ got a n) p (sizedTests s) (value (take (size s) s)) (size s)
         (λ c u k.
-        let g = groups s c in
+        let g = sized-holds s c in
         let o : h ≤ size s = F .low s (g .sizable) in
         let z : size t ≡ size s = F .first t s (sym (take-take h (size s) t o) ∙ ap (take h) u ∙ take-take h (size s) s o) in
-        let d : Pass (sizedTests t) = ungroup t (omega arith) (rw z (g .sizable)) (omega arith) (rw (z, u) (g .judged)) in
+        let d : Pass (sizedTests t)
+        = sized-passes t (record { field = omega arith; sizable = rw z (g .sizable); within = omega arith; judged = rw (z, u) (g .judged) }) in
         pass q (sizedTests t) (got (value (take (size t) t)) (size t)) d ∙ rw (z, u))
         a n e
 
@@ -93,7 +96,7 @@ module _ {A : Type 0} (h : ℕ) (size : List ℕ → ℕ) (sizes : ℕ → List 
     sized-short p s a n e k =
         tests-elim (λ a n. k < n → sizedR p (take k s) ≡ refused CUT p) p (sizedTests s) (value (take (size s) s)) (size s)
         (λ c u.
-        let g = groups s c in
+        let g = sized-holds s c in
         let o : h ≤ size s = F .low s (g .sizable) in
         let i : size s ≤ length s = g .within in
         let m : length (take k s) ≡ k = length-take-le k s (omega arith) in

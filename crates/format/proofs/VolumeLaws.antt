@@ -1,7 +1,7 @@
 -- The laws of VolumeID.
 use mathlib.Core.Path.{_≡_, refl, sym, _∙_}
 use mathlib.Core.List.{List, [], _++_}
-use mathlib.Core.Bool.{Bool, true, false}
+use mathlib.Core.Bool.{Bool, true, false, not, _||_}
 use Prim.Native.Nat.{ℕ, _+_, _≤_, _<_, _^_}
 use native.Mathlib.Omega.{arith}
 use lib.ListN.{length, take, drop, replicate, length-append, length-drop}
@@ -10,14 +10,14 @@ use borrow.Author.Tests.{leb-true, le-leb}
 use Rattle.octets.specs.Numbers.{Bytes, number, numberAt, u32At, little}
 use Rattle.octets.specs.Characters.{bytesOf}
 use Rattle.octets.proofs.NumberLaws.{bytes-append, bytes-drop, bytes-nil, bytes-little, length-little, number-back, number-little, number-below}
-use Rattle.format.specs.Tests.{all}
-use Rattle.format.specs.Volume.{labelUnicode, labelOffset, labelLeast, volumeRules}
+use Rattle.format.specs.Volume.{labelUnicode, labelOffset, labelLeast, volumeRules, volumeTests}
 use Rattle.format.specs.Shortcut.{most}
 use Rattle.format.specs.Contents.{VolumeContents}
 use Rattle.format.specs.Writing.{textBytes, volumeLength, labelFields, volumeBytes, writableText, writableVolume}
 use Rattle.format.proofs.Bools.{and-true, and-both}
 use Rattle.format.proofs.Chains.{Pass, Ok, Fits}
-use Rattle.format.proofs.PieceLaws.{PieceLaw, TextV, textValue, text-law, Struct, structTests, struct-law}
+use Rattle.format.proofs.Holds.{volume-holds, volume-passes}
+use Rattle.format.proofs.PieceLaws.{PieceLaw, TextV, textValue, text-law, Struct, struct-law}
 
 -- what VolumeID's own bytes say
 abbrev pub volumeValue : List ℕ → VolumeContents
@@ -84,21 +84,22 @@ text-some : (u : Bool) (x : List ℕ) → 0x11 ≤ labelLeast u + length (textBy
 text-some true x = omega (arith, length-append x (replicate (bytesOf true 1) 0))
 text-some false x = omega (arith, length-append x (replicate (bytesOf false 1) 0))
 
-least-fits : (u : Bool) → labelLeast u ≤ 0x14
-least-fits true = omega arith
-least-fits false = omega arith
+field-there : (u : Bool) (n : ℕ) → labelLeast u ≤ n → (not u || leb 0x14 n) ≡ true
+field-there true n h = le-leb 0x14 n h
+field-there false n h = refl
 
 volume-fits : (l : List ℕ) → Bytes l → Pass (volumeRules l) → Fits volumeBytes VolumeV (volumeValue l) (length l)
 volume-fits l bs c =
     let u : Bool = labelUnicode l in
     let o : ℕ = labelOffset l in
-    let m : labelLeast u ≤ o = leb-true _ _ (c .1 .1 .0) in
-    let f = text-law u .fits (drop o l) (bytes-drop o l bs) (c .1 .1 .1 .0) in
+    let x = volume-holds l c in
+    let m : labelLeast u ≤ o = leb-true _ _ (x .start) in
+    let f = text-law u .fits (drop o l) (bytes-drop o l bs) (x .ends, tt) in
     let s = f .short in
     let i = f .inside in
     let p = f .some in
     record {
-      valid = record { typed = record { serial = number-below 4 l 8 bs; label = f .valid .typed }; can = and-both (leb (u32At l 4) 6) _ (c .0) (f .valid .can) };
+      valid = record { typed = record { serial = number-below 4 l 8 bs; label = f .valid .typed }; can = and-both (leb (u32At l 4) 6) _ (x .drive) (f .valid .can) };
       short = rw (length-volume (volumeValue l)) (omega (arith, length-drop o l));
     }
 
@@ -113,13 +114,16 @@ module _ (v : VolumeContents) (q : VolumeV v) (m : length (volumeBytes v) ≤ mo
   volume-judged =
       let u : Bool = v .unicode in
       let n = length-volume v in
-      rw (offset-is (v .drive) (v .serial) u (v .label), kind-is (v .drive) (v .serial) u (v .label), label-drop (v .drive) (v .serial) u (v .label), at4 v (drive-of v q)) (
-        le-leb _ _ (drive-of v q),
-        (
-          le-leb (labelLeast u) (length (volumeBytes v)) (omega arith),
-          (le-leb (labelLeast u) (labelLeast u) (omega arith), ((text-law u .back (v .label) (text-of v q) (omega arith) []) .is-whole, tt)),
-        ),
-      )
+      let t = text-law u .back (v .label) (text-of v q) (omega arith) [] in
+      volume-passes (volumeBytes v) (record {
+        drive = rw (at4 v (drive-of v q)) (le-leb _ _ (drive-of v q));
+        offsetField = rw (kind-is (v .drive) (v .serial) u (v .label)) (field-there u (length (volumeBytes v)) (omega arith));
+        start =
+            rw (offset-is (v .drive) (v .serial) u (v .label), kind-is (v .drive) (v .serial) u (v .label)) (le-leb (labelLeast u) (labelLeast u) (omega arith));
+        ends =
+            rw (offset-is (v .drive) (v .serial) u (v .label), kind-is (v .drive) (v .serial) u (v .label), label-drop (v .drive) (v .serial) u (v .label))
+            (t .passes .0);
+      })
 
   volume-same : volumeValue (volumeBytes v) ≡ v
   volume-same = rw (at4 v (drive-of v q), at8 v (q .typed .serial), read-label, kind-is (v .drive) (v .serial) (v .unicode) (v .label))
@@ -146,5 +150,5 @@ volume-struct = record {
   fits = λ l bs k c. volume-fits l bs c;
 }
 
-pub volume-law : PieceLaw (λ s. all (structTests 0x11 volumeRules volumeValue s)) (λ s. u32At s 0) (λ s. volumeValue (take (u32At s 0) s)) volumeBytes VolumeV
+pub volume-law : PieceLaw volumeTests (λ s. u32At s 0) (λ s. volumeValue (take (u32At s 0) s)) volumeBytes VolumeV
 volume-law = struct-law 0x11 volumeRules volumeValue volume-struct

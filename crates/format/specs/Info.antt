@@ -1,6 +1,6 @@
 -- LinkInfo.
 use Prim.Native.Nat.{ℕ}
-use mathlib.Core.List.{List, [], _∷_}
+use mathlib.Core.List.{List, [], _∷_, _++_}
 use mathlib.Core.Bool.{Bool, true, false, not, _&&_, _||_}
 use lib.ListN.{length, take}
 use lib.Dec.{leb, eqb}
@@ -52,16 +52,20 @@ infoPieces l =
     ∷ textPiece (longHead l) true l (u32At l 32)
     ∷ []
 
--- then INFO unless the head is right; flags at 8 use bits 0 and 1 only; offset fields of absent parts are 0; then the pieces' tests, PIECE
-abbrev pub infoRules : List ℕ → List Test
-infoRules l =
+-- INFO unless the head is right; flags at 8 use bits 0 and 1 only; offset fields of absent parts are 0
+abbrev pub infoHeadTests : List ℕ → List Test
+infoHeadTests l =
     headOk l else INFO
     ∷ leb (infoFlags l) 3 else INFO
     ∷ absentZero (hasLocal l) (u32At l 12) else INFO
     ∷ absentZero (hasLocal l) (u32At l 16) else INFO
     ∷ absentZero (hasNetwork l) (u32At l 20) else INFO
     ∷ (not (longHead l) || absentZero (hasLocal l) (u32At l 28)) else INFO
-    ∷ pieceTests (infoHead l) (infoPieces l)
+    ∷ []
+
+-- then the pieces' tests, PIECE
+abbrev pub infoRules : List ℕ → List Test
+infoRules l = infoHeadTests l ++ pieceTests (infoHead l) (infoPieces l)
 
 abbrev pub noInfo : Info
 noInfo = record {

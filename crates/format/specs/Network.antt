@@ -1,15 +1,15 @@
 -- Network link.
 use Prim.Native.Nat.{ℕ, _+_}
-use mathlib.Core.List.{List, [], _∷_}
-use mathlib.Core.Bool.{Bool, true, false, not, _&&_, _||_, cond}
-use lib.ListN.{length, take, drop}
+use mathlib.Core.List.{List, [], _∷_, _++_}
+use mathlib.Core.Bool.{Bool, true, false, not, _||_, cond}
+use lib.ListN.{take, drop}
 use lib.Dec.{leb, ltb}
 use Rattle.octets.specs.Numbers.{u32At}
 use Rattle.format.specs.declared.Network.{Network}
 use Rattle.format.specs.declared.Fault.the-variants.{Piece as PIECE}
-use Rattle.format.specs.Tests.{Test, _else_, all, noPlace}
+use Rattle.format.specs.Tests.{Test, _else_, bit, noPlace}
+use Rattle.format.specs.Pieces.{Piece, textPiece, textPlace, structTests, absentZero, uncut, pieceTests}
 use Rattle.format.specs.Presence.{deviceThere, providerThere, deviceUnicodeThere}
-use Rattle.format.specs.Pieces.{Piece, textPiece, textPlace, absentZero, pieceTests}
 
 -- In what follows v is the network link's own bytes.
 abbrev pub networkFlags : List ℕ → ℕ
@@ -41,27 +41,27 @@ networkPieces v =
     ∷ textPiece (hasDeviceUnicode v) true v (u32At v 24)
     ∷ []
 
--- flags at 4, bits 0 and 1 only; NetNameOffset at least 0x14; the head inside the declared size; device names absent: their offsets are 0;
--- the strings lie after the head, inside the declared size, and share no byte
-abbrev pub networkRules : List ℕ → List Test
-networkRules v =
+-- flags at 4, bits 0 and 1 only; NetNameOffset at least 0x14; the fields at 20 and 24 inside the declared size; device names absent: their offsets are 0
+abbrev pub networkHeadTests : List ℕ → List Test
+networkHeadTests v =
     leb (networkFlags v) 3 else PIECE
     ∷ leb 0x14 (u32At v 8) else PIECE
-    ∷ leb (networkHead (networkUnicode v)) (length v) else PIECE
+    ∷ uncut (networkUnicode v) 0x18 v else PIECE
+    ∷ uncut (networkUnicode v) 0x1C v else PIECE
     ∷ absentZero (hasDevice v) (u32At v 12) else PIECE
     ∷ (not (networkUnicode v) || absentZero (hasDevice v) (u32At v 24)) else PIECE
-    ∷ pieceTests (networkHead (networkUnicode v)) (networkPieces v)
+    ∷ []
+
+-- the strings lie after the head, inside the declared size, and share no byte
+abbrev pub networkRules : List ℕ → List Test
+networkRules v = networkHeadTests v ++ pieceTests (networkHead (networkUnicode v)) (networkPieces v)
 
 -- s is LinkInfo's bytes from the network link on; size at least 0x14
 abbrev pub networkTests : List ℕ → List Test
-networkTests s =
-    leb 4 (length s) else PIECE
-    ∷ leb (networkSize s) (length s) else PIECE
-    ∷ leb 0x14 (networkSize s) else PIECE
-    ∷ networkRules (take (networkSize s) s)
+networkTests s = structTests 0x14 networkRules s
 
 abbrev pub networkPiece : Bool → List ℕ → ℕ → Piece
-networkPiece present l o = record { present = present; offset = o; whole = all (networkTests (drop o l)); size = networkSize (drop o l) }
+networkPiece present l o = record { present = present; offset = o; own = networkTests (drop o l); size = networkSize (drop o l) }
 
 abbrev pub noNetwork : Network
 noNetwork = record {

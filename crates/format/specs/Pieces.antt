@@ -2,18 +2,19 @@
 use Prim.Native.Nat.{ℕ, _+_}
 use mathlib.Core.List.{List, [], _∷_, _++_, map}
 use mathlib.Core.Bool.{Bool, true, not, _&&_, _||_, cond}
-use lib.ListN.{drop}
+use lib.ListN.{length, take, drop}
 use lib.Dec.{leb, eqb}
+use Rattle.octets.specs.Numbers.{u32At}
 use Rattle.octets.specs.Characters.{bytesOf, characters, beforeZero, hasZero}
 use Rattle.format.specs.declared.Place.{Place}
 use Rattle.format.specs.declared.Fault.the-variants.{Piece as PIECE}
 use Rattle.format.specs.Tests.{Test, _else_, place, noPlace}
 
--- whether it is present, its offset, whether it ends within its structure and keeps its own rules, and how many bytes it has
+-- whether it is present, its offset, its own tests, that it ends within its structure among them, and how many bytes it has
 pub record Piece : Type 0 where
   pub present : Bool
   pub offset : ℕ
-  pub whole : Bool
+  pub own : List Test
   pub size : ℕ
 
 -- ---- strings
@@ -29,23 +30,47 @@ textLength unicode s = bytesOf unicode (beforeZero (characters unicode s))
 abbrev pub textSize : Bool → List ℕ → ℕ
 textSize unicode s = textLength unicode s + bytesOf unicode 1
 
+abbrev pub textTests : Bool → List ℕ → List Test
+textTests unicode s = textEnds unicode s else PIECE ∷ []
+
 abbrev pub textPiece : Bool → Bool → List ℕ → ℕ → Piece
 textPiece present unicode l o =
-    record { present = present; offset = o; whole = textEnds unicode (drop o l); size = textSize unicode (drop o l) }
+    record { present = present; offset = o; own = textTests unicode (drop o l); size = textSize unicode (drop o l) }
 
 -- where its body stands in the file, in which l starts at p
 abbrev pub textPlace : Bool → Bool → ℕ → List ℕ → ℕ → Place
 textPlace present unicode p l o = cond present (place (p + o) (textLength unicode (drop o l))) noPlace
 
--- ---- the rules of all pieces of a structure
+-- ---- structures
+
+-- s is from the structure on: it says its size in its first four bytes, which lie inside, as all of it does, and it has the least size or more; then its own rules
+abbrev pub structTests : ℕ → (List ℕ → List Test) → List ℕ → List Test
+structTests least rules s =
+    leb 4 (length s) else PIECE
+    ∷ leb (u32At s 0) (length s) else PIECE
+    ∷ leb least (u32At s 0) else PIECE
+    ∷ rules (take (u32At s 0) s)
+
+-- ---- offset fields
 
 -- offset fields of absent parts are 0
 abbrev pub absentZero : Bool → ℕ → Bool
 absentZero present o = present || eqb o 0
 
+-- a field that only some structures have, and that ends here, is not cut by the declared size
+abbrev pub uncut : Bool → ℕ → List ℕ → Bool
+uncut there end l = not there || leb end (length l)
+
+-- ---- the tests of all pieces of a structure
+
 -- A present piece starts at or after the head and ends within its structure
-abbrev pub pieceOk : ℕ → Piece → Bool
-pieceOk head x = not (x .present) || (leb head (x .offset) && x .whole)
+abbrev pub testsOf : ℕ → Piece → List Test
+testsOf head x = cond (x .present) (leb head (x .offset) else PIECE ∷ x .own) []
+
+-- where its offset field stands
+abbrev pub eachOk : ℕ → List Piece → List Test
+eachOk head [] = []
+eachOk head (x ∷ xs) = testsOf head x ++ eachOk head xs
 
 -- the bytes of a piece; an absent one has none, and stands at 0, apart from every other
 abbrev pub span : Piece → Place
@@ -58,14 +83,10 @@ abbrev pub apartFrom : Place → List Place → Bool
 apartFrom x [] = true
 apartFrom x (y ∷ ys) = apart x y && apartFrom x ys
 
--- No two share a byte (house). Order is free and gaps are allowed
-abbrev pub allApart : List Place → Bool
-allApart [] = true
-allApart (x ∷ xs) = apartFrom x xs && allApart xs
-
-abbrev pub eachOk : ℕ → List Piece → List Test
-eachOk head [] = []
-eachOk head (x ∷ xs) = pieceOk head x else PIECE ∷ eachOk head xs
+-- No two share a byte (house): each is apart from those of the fields before it. Order is free and gaps are allowed
+abbrev pub apartTests : List Place → List Place → List Test
+apartTests before [] = []
+apartTests before (x ∷ xs) = apartFrom x before else PIECE ∷ apartTests (x ∷ before) xs
 
 abbrev pub pieceTests : ℕ → List Piece → List Test
-pieceTests head xs = eachOk head xs ++ allApart (map span xs) else PIECE ∷ []
+pieceTests head xs = eachOk head xs ++ apartTests [] (map span xs)

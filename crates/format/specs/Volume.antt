@@ -1,8 +1,8 @@
 -- VolumeID.
 use Prim.Native.Nat.{ℕ, _+_}
-use mathlib.Core.List.{List, [], _∷_}
-use mathlib.Core.Bool.{Bool, cond}
-use lib.ListN.{length, take, drop}
+use mathlib.Core.List.{List, _∷_}
+use mathlib.Core.Bool.{Bool, true, cond}
+use lib.ListN.{take, drop}
 use lib.Dec.{leb, eqb}
 use Rattle.octets.specs.Numbers.{u32At}
 use Rattle.format.specs.declared.Place.{Place}
@@ -10,8 +10,8 @@ use Rattle.format.specs.declared.Label.{Label}
 use Rattle.format.specs.declared.Label.the-variants.{Byte, Unicode}
 use Rattle.format.specs.declared.Volume.{Volume}
 use Rattle.format.specs.declared.Fault.the-variants.{Piece as PIECE}
-use Rattle.format.specs.Tests.{Test, _else_, all, place, noPlace}
-use Rattle.format.specs.Pieces.{Piece, textEnds, textLength}
+use Rattle.format.specs.Tests.{Test, _else_, place, noPlace}
+use Rattle.format.specs.Pieces.{Piece, textPiece, textLength, structTests, uncut, testsOf}
 
 -- In what follows v is VolumeID's own bytes.
 -- label offset at 12; if that is 0x14, the label is Unicode, at the offset held at 16; otherwise it is a byte string at that offset
@@ -28,26 +28,20 @@ labelLeast unicode = cond unicode 0x14 0x10
 abbrev pub volumeSize : List ℕ → ℕ
 volumeSize s = u32At s 0
 
--- drive type at 4, 0 to 6; the offset fields, and the label with its terminator after them, lie inside the declared size
+-- drive type at 4, 0 to 6; the field at 16, if it is used, and the label with its terminator after the offset fields lie inside the declared size
 abbrev pub volumeRules : List ℕ → List Test
 volumeRules v =
     leb (u32At v 4) 6 else PIECE
-    ∷ leb (labelLeast (labelUnicode v)) (length v) else PIECE
-    ∷ leb (labelLeast (labelUnicode v)) (labelOffset v) else PIECE
-    ∷ textEnds (labelUnicode v) (drop (labelOffset v) v) else PIECE
-    ∷ []
+    ∷ uncut (labelUnicode v) 0x14 v else PIECE
+    ∷ testsOf (labelLeast (labelUnicode v)) (textPiece true (labelUnicode v) v (labelOffset v))
 
 -- s is LinkInfo's bytes from VolumeID on; size at least 0x11
 abbrev pub volumeTests : List ℕ → List Test
-volumeTests s =
-    leb 4 (length s) else PIECE
-    ∷ leb (volumeSize s) (length s) else PIECE
-    ∷ leb 0x11 (volumeSize s) else PIECE
-    ∷ volumeRules (take (volumeSize s) s)
+volumeTests s = structTests 0x11 volumeRules s
 
 -- a structure counts with its declared size
 abbrev pub volumePiece : Bool → List ℕ → ℕ → Piece
-volumePiece present l o = record { present = present; offset = o; whole = all (volumeTests (drop o l)); size = volumeSize (drop o l) }
+volumePiece present l o = record { present = present; offset = o; own = volumeTests (drop o l); size = volumeSize (drop o l) }
 
 abbrev pub labelOf : Bool → Place → Label
 labelOf unicode b = cond unicode (Unicode b) (Byte b)

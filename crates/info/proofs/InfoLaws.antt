@@ -13,19 +13,22 @@ use Rattle.format.specs.declared.Fault.{Fault}
 use Rattle.format.specs.declared.Fault.the-variants.{Cut as CUT, Info as INFO, Piece as PIECE}
 use Rattle.format.specs.declared.Info.{Info}
 use Rattle.format.specs.Tests.{Outcome, got, refused, Test, _else_, tests, all}
+use Rattle.format.specs.Pieces.{Piece, textPiece, absentZero, testsOf, apartTests}
+use Rattle.format.specs.Volume.{volumePiece}
+use Rattle.format.specs.Network.{networkPiece}
+use Rattle.format.specs.Info.{infoSize, infoHead, longHead, hasLocal, hasNetwork, infoPieces, infoHeadTests, infoRules, infoFields, hasLocalUnicode}
 use Rattle.format.specs.Presence.{localThere, networkThere}
-use Rattle.format.specs.Pieces.{absentZero, pieceTests, allApart}
-use Rattle.format.specs.Info.{infoSize, infoHead, longHead, hasLocal, hasNetwork, infoPieces, infoRules, infoFields, hasLocalUnicode}
 use Rattle.format.proofs.Bools.{or-true, and-true, and-assoc, and-yes}
-use Rattle.format.proofs.Chains.{tests-append, all-pass, one-fault}
+use Rattle.format.proofs.Chains.{Pass, tests-append, all-pass, pass-all, one-fault}
+use Rattle.format.proofs.Holds.{infoPieceTests, info-head-holds, info-pieces-hold}
 use Rattle.info.specs.declared.InfoTaken.the-variants.{Got, Refused}
 use Rattle.info.specs.declared.Text.{Text}
 use Rattle.info.specs.declared.VolumeFound.{VolumeFound}
 use Rattle.info.specs.declared.NetworkFound.{NetworkFound}
 use Rattle.info.specs.declared.Pieces.{Pieces}
-use Rattle.info.specs.Found.{fieldIf, textFound, volumeFound, networkFound, infoFixed, piecesFound}
+use Rattle.info.specs.Found.{fieldIf, pieceOk, textFound, volumeFound, networkFound, piecesFound}
 use Rattle.info.specs.Taken.{infoTaken, infoAt}
-use Rattle.info.proofs.TestLaws.{judge, pieces-judged}
+use Rattle.info.proofs.TestLaws.{judge, pieces-judged, info-faults}
 use Rattle.info.proofs.TextLaws.{text-field, zero-field}
 use Rattle.info.proofs.StructLaws.{first-number}
 
@@ -43,22 +46,19 @@ long-inside head z h t =
     (λ e. omega (arith, leb-true head z (and-true (leb 0x24 head) (leb head z) e .1)))
 
 module _ (l : List ℕ) {head : ℕ} (eh : head ≡ u32At l 4) where
-  pub head-fails : not (headFits head (length l)) ≡ true → false ≡ all (infoFixed l)
-  unfolding infoFixed
+  pub head-fails : not (headFits head (length l)) ≡ true → false ≡ all (infoHeadTests l)
   head-fails t = rw (← eh, not-true (headFits head (length l)) t)
 
   pub head-room : not (headFits head (length l)) ≡ false → leb 0x24 head ≡ true → 0x24 ≤ length l
   head-room t = long-inside head (length l) (not-false (headFits head (length l)) t)
 
-  pub fixed-room : all (infoFixed l) ≡ true → leb 0x24 head ≡ true → 0x24 ≤ length l
-  unfolding infoFixed
-  fixed-room e = long-inside head (length l) (rw eh (all-pass (infoFixed l) e .0))
+  pub fixed-room : all (infoHeadTests l) ≡ true → leb 0x24 head ≡ true → 0x24 ≤ length l
+  fixed-room e = long-inside head (length l) (rw eh (info-head-holds l (all-pass (infoHeadTests l) e) .head))
 
   pub head-passes : {flags o₁ o₂ o₃ o₄ : ℕ} {local linked x₁ x₂ x₃ x₄ : Bool} → not (headFits head (length l)) ≡ false
       → flags ≡ u32At l 8 → local ≡ localThere flags → o₁ ≡ u32At l 12 → x₁ ≡ absentZero local o₁ → o₂ ≡ u32At l 16 → x₂ ≡ absentZero local o₂ → linked ≡ networkThere flags
       → o₃ ≡ u32At l 20 → x₃ ≡ absentZero linked o₃ → o₄ ≡ fieldIf (leb 0x24 head) l 28 → x₄ ≡ absentZero local o₄
-      → ((((leb flags 3 && x₁) && x₂) && x₃) && x₄) ≡ all (infoFixed l)
-  unfolding infoFixed
+      → ((((leb flags 3 && x₁) && x₂) && x₃) && x₄) ≡ all (infoHeadTests l)
   head-passes t ef ea e₁ f₁ e₂ f₂ eb e₃ f₃ e₄ f₄ =
       rw (← eh, not-false (headFits head (length l)) t, f₁, f₂, f₃, f₄, e₁, e₂, e₃, e₄, zero-field _ (leb 0x24 head) l 28, ea, eb, ef) (simp (and-assoc, and-yes))
 
@@ -98,8 +98,8 @@ abbrev made : Bool → Info → Pieces
 made ok i = record { ok = ok; info = i }
 
 module _ (p : ℕ) (l : List ℕ) {a : VolumeFound} {b : Text} {c : NetworkFound} {d e f : Text} {far : Bool}
-    (S : Six p l a b c d e f) (ef : far ≡ allApart (a .span ∷ b .span ∷ c .span ∷ d .span ∷ e .span ∷ f .span ∷ [])) where
-  pieces-ok : ((((((a .ok && b .ok) && c .ok) && d .ok) && e .ok) && f .ok) && far) ≡ all (pieceTests (infoHead l) (infoPieces l))
+    (S : Six p l a b c d e f) (ef : far ≡ all (apartTests [] (a .span ∷ b .span ∷ c .span ∷ d .span ∷ e .span ∷ f .span ∷ []))) where
+  pieces-ok : ((((((a .ok && b .ok) && c .ok) && d .ok) && e .ok) && f .ok) && far) ≡ all (infoPieceTests l)
   unfolding textFound volumeFound networkFound
   pieces-ok =
       let h : ℕ = infoHead l in
@@ -130,21 +130,31 @@ module _ (p : ℕ) (l : List ℕ) {a : VolumeFound} {b : Text} {c : NetworkFound
 pieces-say : (p : ℕ) (l : List ℕ) {r : Pieces} → r ≡ piecesFound p l → r .ok ≡ true → r .info ≡ infoFields p l
 unfolding piecesFound volumeFound textFound networkFound
 pieces-say p l e k =
-    let o : all (pieceTests (infoHead l) (infoPieces l)) ≡ true = sym (ap (λ (x : Pieces). x .ok) e) ∙ k in
-    let c = all-pass (pieceTests (infoHead l) (infoPieces l)) o in
-    ap (λ (x : Pieces). x .info) e ∙ rw (c .0, c .1 .0, c .1 .1 .0, c .1 .1 .1 .0, c .1 .1 .1 .1 .0, c .1 .1 .1 .1 .1 .0)
+    let o : all (infoPieceTests l) ≡ true = sym (ap (λ (x : Pieces). x .ok) e) ∙ k in
+    let c = info-pieces-hold l (all-pass (infoPieceTests l) o) in
+    ap (λ (x : Pieces). x .info) e
+    ∙ rw (
+      ok (volumePiece (hasLocal l) l (u32At l 12)) (c .volume),
+      ok (textPiece (hasLocal l) false l (u32At l 16)) (c .local),
+      ok (networkPiece (hasNetwork l) l (u32At l 20)) (c .network),
+      ok (textPiece true false l (u32At l 24)) (c .suffix),
+      ok (textPiece (hasLocalUnicode l) true l (u32At l 28)) (c .localUnicode),
+      ok (textPiece (longHead l) true l (u32At l 32)) (c .suffixUnicode),
+    )
+  where
+    ok : (x : Piece) → Pass (testsOf (infoHead l) x) → pieceOk (infoHead l) x ≡ true
+    ok x = pass-all (testsOf (infoHead l) x)
 
 -- ---- the section
 
 -- the rules as two tests: the head, then the pieces
 rules-grouped : {A : Type 0} (p : ℕ) (l : List ℕ) (r : Outcome A)
-    → tests p (infoRules l) r ≡ cond (all (infoFixed l)) (cond (all (pieceTests (infoHead l) (infoPieces l))) r (refused PIECE p)) (refused INFO p)
-unfolding infoFixed
+    → tests p (infoRules l) r ≡ cond (all (infoHeadTests l)) (cond (all (infoPieceTests l)) r (refused PIECE p)) (refused INFO p)
 rules-grouped {A} p l r =
-    let ts : List Test = pieceTests (infoHead l) (infoPieces l) in
-    tests-append p (infoFixed l) ts r
-    ∙ one-fault INFO p (infoFixed l) (tests p ts r) (refl, (refl, (refl, (refl, (refl, (refl, tt))))))
-    ∙ ap (λ (x : Outcome A). cond (all (infoFixed l)) x (refused INFO p)) (one-fault PIECE p ts r (refl, (refl, (refl, (refl, (refl, (refl, (refl, tt))))))))
+    let ts : List Test = infoPieceTests l in
+    tests-append p (infoHeadTests l) ts r
+    ∙ one-fault INFO p (infoHeadTests l) (tests p ts r) (refl, (refl, (refl, (refl, (refl, (refl, tt))))))
+    ∙ ap (λ (x : Outcome A). cond (all (infoHeadTests l)) x (refused INFO p)) (one-fault PIECE p ts r (info-faults l))
 
 three-pass : {A : Type 0} (p : ℕ) (a b c : Bool) (f g h : Fault) (ts : List Test) (r : Outcome A) → a ≡ true → b ≡ true → c ≡ true
     → tests p (a else f ∷ b else g ∷ c else h ∷ ts) r ≡ tests p ts r
@@ -173,11 +183,11 @@ module _ (s : List ℕ) (p : ℕ) where
           let i : leb n (length (drop p s)) ≡ false = lt-leb n (length (drop p s)) (rw length-drop (omega arith)) in
           rw (starts, size-is, le-leb 0x1C n h, i)
 
-      module _ {d : Cursor} {x : Bool} (g : p + n ≤ length s) (q : d .at ≡ p + n) (ex : x ≡ all (infoFixed (take (d .at - p) (drop p s)))) where
+      module _ {d : Cursor} {x : Bool} (g : p + n ≤ length s) (q : d .at ≡ p + n) (ex : x ≡ all (infoHeadTests (take (d .at - p) (drop p s)))) where
         abbrev part : List ℕ
         part = take (d .at - p) (drop p s)
 
-        info-is : infoAt s p ≡ infoTaken p (cond x (cond (all (pieceTests (infoHead part) (infoPieces part))) (got (infoFields p part) n) (refused PIECE p)) (refused INFO p))
+        info-is : infoAt s p ≡ infoTaken p (cond x (cond (all (infoPieceTests part)) (got (infoFields p part) n) (refused PIECE p)) (refused INFO p))
         unfolding infoAt
         info-is =
             let t : List ℕ = drop p s in
@@ -190,13 +200,13 @@ module _ (s : List ℕ) (p : ℕ) where
             (three-pass p (leb 4 (length t)) (leb 0x1C m) (leb m (length t)) CUT INFO CUT (infoRules (take m t)) (got (infoFields p (take m t)) m) starts (le-leb 0x1C m b) (le-leb m (length t) c)
             ∙ ap₂ (λ (l : List ℕ) (i : ℕ). tests p (infoRules l) (got (infoFields p l) i)) k size-is
             ∙ rules-grouped p part (got (infoFields p part) n)
-            ∙ ap (λ (y : Bool). cond y (cond (all (pieceTests (infoHead part) (infoPieces part))) (got (infoFields p part) n) (refused PIECE p)) (refused INFO p)) (sym ex))
+            ∙ ap (λ (y : Bool). cond y (cond (all (infoPieceTests part)) (got (infoFields p part) n) (refused PIECE p)) (refused INFO p)) (sym ex))
 
         pub info-head : not x ≡ true → Refused INFO p ≡ infoAt s p
         info-head t = sym (info-is ∙ rw (not-true x t))
 
         module _ {r : Pieces} (t : not x ≡ false) (er : r ≡ piecesFound p part) where
-          judged : all (pieceTests (infoHead part) (infoPieces part)) ≡ r .ok
+          judged : all (infoPieceTests part) ≡ r .ok
           unfolding piecesFound
           judged = sym (ap (λ (y : Pieces). y .ok) er)
 

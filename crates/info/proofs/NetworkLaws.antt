@@ -1,57 +1,65 @@
 -- The network link: its head, its own bytes, and the piece of LinkInfo.
 use mathlib.Core.Path.{_≡_, refl, sym, ap, _∙_}
 use mathlib.Core.List.{List, [], _∷_, map}
-use mathlib.Core.Bool.{Bool, true, false, not, _&&_, cond}
-use Prim.Native.Nat.{ℕ, _≤_, _<_}
+use mathlib.Core.Bool.{Bool, true, false, not, _&&_, _||_, cond}
+use Prim.Native.Nat.{ℕ, _≤_}
 use native.Mathlib.Omega.{arith}
 use lib.ListN.{length}
 use lib.Dec.{leb, ltb}
-use borrow.Author.Tests.{le-leb, lt-leb, leb-true, not-true, not-false}
+use borrow.Author.Tests.{not-true, not-false}
 use Rattle.octets.specs.Numbers.{u32At}
 use Rattle.format.specs.declared.Network.{Network}
-use Rattle.format.specs.Tests.{all}
+use Rattle.format.specs.Tests.{all, bit}
+use Rattle.format.specs.Pieces.{absentZero, uncut, apartTests}
+use Rattle.format.specs.Network.{hasDevice, networkUnicode, networkHead, networkPieces, networkHeadTests, networkRules, networkFields, networkPiece, networkAt, noNetwork, hasDeviceUnicode}
+use Rattle.format.proofs.Bools.{every-out, and-true, and-assoc, and-yes}
 use Rattle.format.specs.Presence.{deviceThere}
-use Rattle.format.specs.Pieces.{absentZero, pieceTests, allApart}
-use Rattle.format.specs.Network.{hasDevice, networkUnicode, networkHead, networkPieces, networkRules, networkFields, networkPiece, networkAt, noNetwork, hasDeviceUnicode}
-use Rattle.format.proofs.Bools.{every-out, and-assoc, and-yes, and-no}
 use Rattle.format.proofs.Chains.{all-pass, all-append}
+use Rattle.format.proofs.Holds.{networkPieceTests, network-head-holds}
 use Rattle.info.specs.declared.Text.{Text}
 use Rattle.info.specs.declared.NetworkFound.{NetworkFound}
 use Rattle.info.specs.declared.NetworkRead.{NetworkRead}
 use Rattle.info.specs.declared.NetworkRead.the-variants.{Good, Bad}
-use Rattle.info.specs.Found.{fieldIf, found, textFound, networkFixed, networkIf, networkIn, providerOf, makeNetwork, networkFound}
-use Rattle.info.proofs.TestLaws.{room, judge, pieces-judged}
+use Rattle.info.specs.Found.{fieldIf, pieceFound, textFound, networkIf, networkIn, providerOf, makeNetwork, networkFound}
+use Rattle.info.proofs.TestLaws.{uncut-room, judge, pieces-judged}
 use Rattle.info.proofs.TextLaws.{text-body, text-field, zero-field}
 use Rattle.info.proofs.StructLaws.{Kind}
 
 -- ---- the head
 
-module _ (v : List ℕ) {flags name head : ℕ} (ef : flags ≡ u32At v 4) (en : name ≡ u32At v 8) (eh : head ≡ networkHead (ltb 0x14 name)) where
-  head-fits : (b : Bool) → leb head (length v) ≡ b → leb (networkHead (networkUnicode v)) (length v) ≡ b
-  head-fits b e = rw (← en, ← eh) e
+-- flags, NetNameOffset and the two fields that may be cut come first
+module _ (v : List ℕ) {flags name : ℕ} {x y : Bool} (ef : flags ≡ u32At v 4) (en : name ≡ u32At v 8) (ex : x ≡ uncut (ltb 0x14 name) 0x18 v) (ey : y ≡ uncut (ltb 0x14 name) 0x1C v) where
+  abbrev first : Bool
+  first = ((leb flags 3 && leb 0x14 name) && x) && y
 
-  pub network-short : length v < head → false ≡ all (networkFixed v)
-  unfolding networkFixed
-  network-short h = rw (head-fits false (lt-leb head (length v) h), and-no, and-no)
+  abbrev offsets : Bool
+  offsets = absentZero (hasDevice v) (u32At v 12) && (not (networkUnicode v) || absentZero (hasDevice v) (u32At v 24))
 
-  pub network-long : {device x y : Bool} {o₁ o₂ : ℕ} → head ≤ length v → device ≡ deviceThere flags → o₁ ≡ u32At v 12 → x ≡ absentZero device o₁
-      → o₂ ≡ fieldIf (ltb 0x14 name) v 24 → y ≡ absentZero device o₂ → (((leb flags 3 && leb 0x14 name) && x) && y) ≡ all (networkFixed v)
-  unfolding networkFixed
-  network-long h ed e₁ ex e₂ ey =
-      rw (head-fits true (le-leb head (length v) h), ex, ey, e₁, e₂, zero-field _ (ltb 0x14 name) v 24, ed, ef, en) (simp (and-assoc, and-yes))
+  head-split : (first && offsets) ≡ all (networkHeadTests v)
+  head-split = rw (ex, ey, ef, en) (simp (and-assoc, and-yes))
+
+  pub network-short : not first ≡ true → false ≡ all (networkHeadTests v)
+  network-short t = ap (λ (b : Bool). b && offsets) (sym (not-true first t)) ∙ head-split
+
+  pub network-fields : not first ≡ false → ltb 0x14 name ≡ true → 0x1C ≤ length v
+  network-fields t = uncut-room (ltb 0x14 name) 0x1C v (sym ey ∙ and-true ((leb flags 3 && leb 0x14 name) && x) y (not-false first t) .1)
+
+  pub network-long : {device a b : Bool} {o₁ o₂ : ℕ} → not first ≡ false → device ≡ deviceThere flags → o₁ ≡ u32At v 12 → a ≡ absentZero device o₁
+      → o₂ ≡ fieldIf (ltb 0x14 name) v 24 → b ≡ absentZero device o₂ → (a && b) ≡ all (networkHeadTests v)
+  network-long {device} {a} {b} t ed e₁ ea e₂ eb =
+      let k : (a && b) ≡ offsets = rw (ea, eb, e₁, e₂, zero-field _ (ltb 0x14 name) v 24, ed, ef, en) in
+      k ∙ ap (λ (z : Bool). z && offsets) (sym (not-false first t)) ∙ head-split
 
 -- a head that passes its tests lies inside
-pub network-room : (v : List ℕ) {fixed : Bool} {name : ℕ} → fixed ≡ all (networkFixed v) → not fixed ≡ false → name ≡ u32At v 8 → ltb 0x14 name ≡ true → 0x1C ≤ length v
-unfolding networkFixed
-network-room v {fixed} {name} e t en u =
-    let c = all-pass (networkFixed v) (sym e ∙ not-false fixed t) in
-    room 0x1C 0x14 (networkUnicode v) refl (leb-true _ (length v) (c .1 .1 .0)) (rw (← en) u)
+pub network-room : (v : List ℕ) {ok : Bool} {name : ℕ} → ok ≡ all (networkHeadTests v) → not ok ≡ false → name ≡ u32At v 8 → ltb 0x14 name ≡ true → 0x1C ≤ length v
+network-room v {ok} e t en u =
+    let c = network-head-holds v (all-pass (networkHeadTests v) (sym e ∙ not-false ok t)) in
+    uncut-room (networkUnicode v) 0x1C v (c .deviceUnicodeField) (rw (← en) u)
 
 -- ---- the network link's own bytes
 
-rules-split : (v : List ℕ) → all (networkRules v) ≡ (all (networkFixed v) && all (pieceTests (networkHead (networkUnicode v)) (networkPieces v)))
-unfolding networkFixed
-rules-split v = all-append (networkFixed v) (pieceTests (networkHead (networkUnicode v)) (networkPieces v))
+rules-split : (v : List ℕ) → all (networkRules v) ≡ (all (networkHeadTests v) && all (networkPieceTests v))
+rules-split v = all-append (networkHeadTests v) (networkPieceTests v)
 
 -- whether all pass, and the fields, as the code puts them together
 abbrev pub fourPass : Text → Text → Text → Text → Bool → Bool
@@ -89,12 +97,12 @@ four p v ef en ed eh ea e₁ eb e₂ ec e₃ ee =
       deviceUnicode = ee ∙ rw (e₃, eh, ed, ef, en) (text-field (u && hasDevice v) true v p h 24 u (λ z. rw z));
     }
 
-module _ (p : ℕ) (v : List ℕ) {fixed : Bool} (ex : fixed ≡ all (networkFixed v)) where
+module _ (p : ℕ) (v : List ℕ) {fixed : Bool} (ex : fixed ≡ all (networkHeadTests v)) where
   pub network-fails : not fixed ≡ true → Bad ≡ networkIn p v
   unfolding networkIn
   network-fails t = rw (rules-split v, ← ex, not-true fixed t)
 
-  module _ {a b c d : Text} {far : Bool} (t : not fixed ≡ false) (f : Four p v a b c d) (ef : far ≡ allApart (a .span ∷ b .span ∷ c .span ∷ d .span ∷ [])) where
+  module _ {a b c d : Text} {far : Bool} (t : not fixed ≡ false) (f : Four p v a b c d) (ef : far ≡ all (apartTests [] (a .span ∷ b .span ∷ c .span ∷ d .span ∷ []))) where
     judged : all (networkRules v) ≡ fourPass a b c d far
     unfolding textFound
     judged =
@@ -138,7 +146,7 @@ unfolding networkIn
 read-is p v = refl
 
 pub found-as : (b : Bool) (l : List ℕ) (start head o : ℕ)
-    → networkFound b l start head o ≡ found makeNetwork head (networkPiece b l o) (networkAt b start l o) noNetwork
+    → networkFound b l start head o ≡ pieceFound makeNetwork head (networkPiece b l o) (networkAt b start l o) noNetwork
 unfolding networkFound
 found-as b l start head o = refl
 

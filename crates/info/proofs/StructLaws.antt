@@ -1,6 +1,6 @@
 -- A structure that says its size, and what was read of it: VolumeID and the network link.
 use mathlib.Core.Path.{_≡_, refl, sym, ap, _∙_}
-use mathlib.Core.List.{List, [], _∷_}
+use mathlib.Core.List.{List, []}
 use mathlib.Core.Bool.{Bool, true, false, not, _&&_, cond}
 use Prim.Native.Nat.{ℕ, _+_, _-_, _≤_, _<_}
 use native.Mathlib.Omega.{arith}
@@ -13,19 +13,20 @@ use Rattle.octets.proofs.NumberLaws.{number-drop}
 use Rattle.octets.proofs.ChoiceLaws.{cond-first, cond-second}
 use Rattle.format.specs.declared.Place.{Place}
 use Rattle.format.specs.Tests.{Test, all, place, noPlace}
-use Rattle.format.specs.Pieces.{Piece, pieceOk, span}
-use Rattle.format.specs.Writing.{every}
-use Rattle.format.proofs.Bools.{every-out}
-use Rattle.format.proofs.PieceLaws.{pieceAt, structTests}
-use Rattle.info.specs.declared.Ends.{Ends}
-use Rattle.info.specs.declared.Ends.the-variants.{At, Outside}
-use Rattle.info.specs.Found.{Near, found, endAt}
+use Rattle.format.specs.Pieces.{Piece, structTests, span}
+use Rattle.format.proofs.Bools.{and-true}
+use Rattle.format.proofs.Chains.{all-pass}
+use Rattle.format.proofs.Holds.{struct-holds}
+use Rattle.format.proofs.PieceLaws.{pieceAt}
+use Rattle.info.specs.declared.StructEnd.{StructEnd}
+use Rattle.info.specs.declared.StructEnd.the-variants.{At, Outside}
+use Rattle.info.specs.Found.{EndSmall, pieceOk, pieceFound, endAt}
 use Rattle.info.proofs.TestLaws.{found-absent, found-not, found-is}
 
 -- ---- a structure of LinkInfo as a piece, and what it says
 
 abbrev pub structAt : {A : Type 0} → ℕ → (List ℕ → List Test) → (ℕ → List ℕ → A) → Bool → List ℕ → ℕ → Piece
-structAt least rules fields b l o = pieceAt (λ s. all (structTests least rules (fields 0) s)) (λ s. u32At s 0) (fields 0) b l o
+structAt least rules fields b l o = pieceAt (structTests least rules) (λ s. u32At s 0) (fields 0) b l o
 
 abbrev pub structSays : {A : Type 0} → (ℕ → List ℕ → A) → A → Bool → List ℕ → ℕ → ℕ → A
 structSays fields none b l start o = cond b (fields (start + o) (take (u32At (drop o l) 0) (drop o l))) none
@@ -63,7 +64,7 @@ module _ (l : List ℕ) (head least o : ℕ) where
 
 -- ---- from the answer to the facts
 
-pub at-not-outside : {x : Ends} {e : ℕ} → x ≡ At e → x ≡ Outside → ⊥
+pub at-not-outside : {x : StructEnd} {e : ℕ} → x ≡ At e → x ≡ Outside → ⊥
 at-not-outside p q = let z : _≡_ {A = ℕ} 0 1 = cc in omega arith
 
 -- a structure that ends at e
@@ -75,8 +76,8 @@ pub record Ended (l : List ℕ) (head least o e : ℕ) : Type 0 where
   pub ordered : o ≤ e
   pub inside : e ≤ length l
 
-module _ (l : List ℕ) (head least o : ℕ) {x : Ends} (ex : x ≡ endAt l head least o) where
-  outside-tests : x ≡ Outside → every (leb head o ∷ leb 4 (length (drop o l)) ∷ leb (u32At (drop o l) 0) (length (drop o l)) ∷ leb least (u32At (drop o l) 0) ∷ []) ≡ false
+module _ (l : List ℕ) (head least o : ℕ) {x : StructEnd} (ex : x ≡ endAt l head least o) where
+  outside-tests : x ≡ Outside → (leb head o && all (structTests least (λ v. []) (drop o l))) ≡ false
   unfolding endAt
   outside-tests q = cond-second _ ex (λ h. at-not-outside h q) .0
 
@@ -86,14 +87,12 @@ module _ (l : List ℕ) (head least o : ℕ) {x : Ends} (ex : x ≡ endAt l head
       let s : List ℕ = drop o l in
       let n : ℕ = u32At s 0 in
       let i = cond-first _ ex (at-not-outside h) in
-      let t = every-out (leb head o ∷ leb 4 (length s) ∷ leb n (length s) ∷ leb least n ∷ []) (i .0) in
+      let (a, b) = and-true (leb head o) (all (structTests least (λ v. []) s)) (i .0) in
+      let t = struct-holds least (λ v. []) s (all-pass (structTests least (λ v. []) s) b) in
       let q : e ≡ o + n = cc in
-      let a : head ≤ o = leb-true head o (t .0) in
-      let b : 4 ≤ length s = leb-true 4 (length s) (t .1 .0) in
-      let d : n ≤ length s = leb-true n (length s) (t .1 .1 .0) in
-      let f : least ≤ n = leb-true least n (t .1 .1 .1 .0) in
+      let h : head ≤ o = leb-true head o a in
       let g = length-drop o l in
-      record { after = a; field = b; sized = omega arith; enough = omega arith; ordered = omega arith; inside = omega arith }
+      record { after = h; field = t .field; sized = omega arith; enough = omega arith; ordered = omega arith; inside = omega arith }
 
   -- ---- the tests of the structure, as a piece
 
@@ -101,7 +100,7 @@ module _ (l : List ℕ) (head least o : ℕ) {x : Ends} (ex : x ≡ endAt l head
     struct-outside : x ≡ Outside → pieceOk head (structAt least rules fields true l o) ≡ false
     struct-outside q = go (leb head o) (leb 4 (length (drop o l))) (leb (u32At (drop o l) 0) (length (drop o l))) (leb least (u32At (drop o l) 0)) _ (outside-tests q)
       where
-        go : (a b c d e : Bool) → every (a ∷ b ∷ c ∷ d ∷ []) ≡ false → (a && (b && (c && (d && e)))) ≡ false
+        go : (a b c d e : Bool) → (a && (b && (c && (d && true)))) ≡ false → (a && (b && (c && (d && e)))) ≡ false
         go false b c d e h = refl
         go true false c d e h = refl
         go true true false d e h = refl
@@ -135,7 +134,7 @@ pub record Kind (A R Q : Type 0) : Type 0 where
   pub readAs : ℕ → List ℕ → Q
   pub read-is : (p : ℕ) (v : List ℕ) → readAs p v ≡ cond (all (rules v)) (good (fields p v)) bad
   pub foundAs : Bool → List ℕ → ℕ → ℕ → ℕ → R
-  pub found-as : (b : Bool) (l : List ℕ) (start head o : ℕ) → foundAs b l start head o ≡ found make head (structAt least rules fields b l o) (structSays fields none b l start o) none
+  pub found-as : (b : Bool) (l : List ℕ) (start head o : ℕ) → foundAs b l start head o ≡ pieceFound make head (structAt least rules fields b l o) (structSays fields none b l start o) none
 
 -- ---- the ways out
 
@@ -146,30 +145,30 @@ module _ {A R Q : Type 0} (K : Kind A R Q) (b : Bool) (l : List ℕ) (start head
   abbrev says : A
   says = structSays (K .fields) (K .none) b l start o
 
-  nowhere : (ok : Bool) {r : R} → r ≡ K .make ok noPlace (K .none) → Near (K .spanOf r)
+  nowhere : (ok : Bool) {r : R} → r ≡ K .make ok noPlace (K .none) → EndSmall (K .spanOf r)
   nowhere ok e = rw (ap (K .spanOf) e ∙ K .spans ok noPlace (K .none)) (omega arith)
 
-  pub struct-absent : {r : R} → not b ≡ true → r ≡ K .make true noPlace (K .none) → (r ≡ K .foundAs b l start head o) × Near (K .spanOf r)
+  pub struct-absent : {r : R} → not b ≡ true → r ≡ K .make true noPlace (K .none) → (r ≡ K .foundAs b l start head o) × EndSmall (K .spanOf r)
   struct-absent t e =
       let f : b ≡ false = not-true b t in
       (e ∙ found-absent (K .make) head piece says (K .none) f (rw f) ∙ sym (K .found-as b l start head o), nowhere true e)
 
-  not-found : {r : R} → pieceOk head piece ≡ false → r ≡ K .make false noPlace (K .none) → (r ≡ K .foundAs b l start head o) × Near (K .spanOf r)
+  not-found : {r : R} → pieceOk head piece ≡ false → r ≡ K .make false noPlace (K .none) → (r ≡ K .foundAs b l start head o) × EndSmall (K .spanOf r)
   not-found f e = (e ∙ found-not (K .make) head piece says (K .none) f ∙ sym (K .found-as b l start head o), nowhere false e)
 
-  module _ {x : Ends} (t : not b ≡ false) (ex : x ≡ endAt l head (K .least) o) where
-    pub struct-lost : {r : R} → x ≡ Outside → r ≡ K .make false noPlace (K .none) → (r ≡ K .foundAs b l start head o) × Near (K .spanOf r)
+  module _ {x : StructEnd} (t : not b ≡ false) (ex : x ≡ endAt l head (K .least) o) where
+    pub struct-lost : {r : R} → x ≡ Outside → r ≡ K .make false noPlace (K .none) → (r ≡ K .foundAs b l start head o) × EndSmall (K .spanOf r)
     struct-lost q = not-found (rw (not-false b t) (struct-outside l head (K .least) o ex (K .rules) (K .fields) q))
 
     module _ {e : ℕ} {y : Q} (q : x ≡ At e) (ey : y ≡ K .readAs (start + o) (take (e - o) (drop o l))) where
       judged : pieceOk head piece ≡ all (K .rules (take (e - o) (drop o l)))
       judged = rw (not-false b t) (struct-judged l head (K .least) o ex (K .rules) (K .fields) q)
 
-      pub struct-bad : {r : R} → y ≡ K .bad → r ≡ K .make false noPlace (K .none) → (r ≡ K .foundAs b l start head o) × Near (K .spanOf r)
+      pub struct-bad : {r : R} → y ≡ K .bad → r ≡ K .make false noPlace (K .none) → (r ≡ K .foundAs b l start head o) × EndSmall (K .spanOf r)
       struct-bad i = not-found (judged ∙ cond-second _ (ey ∙ K .read-is _ _) (λ g. K .differ _ (sym g ∙ i)) .0)
 
       pub struct-good : {a : A} → start + length l ≤ 65536 → y ≡ K .good a
-          → (K .make true (place o (e - o)) a ≡ K .foundAs b l start head o) × Near (K .spanOf (K .make true (place o (e - o)) a))
+          → (K .make true (place o (e - o)) a ≡ K .foundAs b l start head o) × EndSmall (K .spanOf (K .make true (place o (e - o)) a))
       struct-good {a} s i =
           let w = ended l head (K .least) o ex q in
           let j = cond-first _ (ey ∙ K .read-is _ _) (λ g. K .differ _ (sym i ∙ g)) in

@@ -13,9 +13,9 @@ use Rattle.octets.specs.declared.Zero.the-variants.{After, Nowhere}
 use Rattle.octets.proofs.CharacterLaws.{characters-fit, bytes-of-le, bytes-of-add}
 use Rattle.octets.proofs.ZeroLaws.{zero-after, zero-nowhere}
 use Rattle.format.specs.Tests.{place, noPlace}
-use Rattle.format.specs.Pieces.{textEnds, textLength, textPiece, textPlace, absentZero, pieceOk}
+use Rattle.format.specs.Pieces.{textEnds, textLength, textPiece, textPlace, absentZero}
 use Rattle.info.specs.declared.Text.{Text}
-use Rattle.info.specs.Found.{Near, fieldIf, makeText, textFound}
+use Rattle.info.specs.Found.{EndSmall, fieldIf, pieceOk, makeText, textFound}
 use Rattle.info.proofs.TestLaws.{found-absent, found-not, found-is}
 
 -- ---- a string inside its part
@@ -38,28 +38,28 @@ text-inside u l o {n = n} e h =
 -- ---- the ways out
 
 module _ (b u : Bool) (l : List ℕ) (start head o : ℕ) where
-  pub text-absent : {r : Text} → not b ≡ true → r ≡ makeText true noPlace noPlace → (r ≡ textFound b u l start head o) × Near (r .span)
+  pub text-absent : {r : Text} → not b ≡ true → r ≡ makeText true noPlace noPlace → (r ≡ textFound b u l start head o) × EndSmall (r .span)
   unfolding textFound
   text-absent t e =
       let f : b ≡ false = not-true b t in
       (e ∙ found-absent makeText head (textPiece b u l o) (textPlace b u start l o) noPlace f (rw f), rw e (omega arith))
 
-  not-found : {r : Text} → pieceOk head (textPiece b u l o) ≡ false → r ≡ makeText false noPlace noPlace → (r ≡ textFound b u l start head o) × Near (r .span)
+  not-found : {r : Text} → pieceOk head (textPiece b u l o) ≡ false → r ≡ makeText false noPlace noPlace → (r ≡ textFound b u l start head o) × EndSmall (r .span)
   unfolding textFound
   not-found f e = (e ∙ found-not makeText head (textPiece b u l o) (textPlace b u start l o) noPlace f, rw e (omega arith))
 
   module _ (t : not b ≡ false) where
-    pub text-low : {r : Text} → o < head → r ≡ makeText false noPlace noPlace → (r ≡ textFound b u l start head o) × Near (r .span)
+    pub text-low : {r : Text} → o < head → r ≡ makeText false noPlace noPlace → (r ≡ textFound b u l start head o) × EndSmall (r .span)
     text-low h = not-found (rw (not-false b t, lt-leb head o h))
 
     module _ {z : Zero} (h : head ≤ o) (ez : z ≡ zeroFrom u l o) where
-      pub text-open : {r : Text} → z ≡ Nowhere → r ≡ makeText false noPlace noPlace → (r ≡ textFound b u l start head o) × Near (r .span)
+      pub text-open : {r : Text} → z ≡ Nowhere → r ≡ makeText false noPlace noPlace → (r ≡ textFound b u l start head o) × EndSmall (r .span)
       text-open q =
           let w : textEnds u (drop o l) ≡ false = zero-nowhere u l o ez q in
           not-found (rw (not-false b t, le-leb head o h, w))
 
       pub text-ends : start + length l ≤ 65536 → {n k m : ℕ} → z ≡ After n → k ≡ bytesOf u n → m ≡ bytesOf u 1
-          → (makeText true (place o (k + m)) (place (start + o) k) ≡ textFound b u l start head o) × Near (place o (k + m))
+          → (makeText true (place o (k + m)) (place (start + o) k) ≡ textFound b u l start head o) × EndSmall (place o (k + m))
       unfolding textFound
       text-ends s {n} {k} {m} q ek em =
           let (w, i) = zero-after u l o ez q in

@@ -11,41 +11,40 @@ use Rattle.octets.specs.Numbers.{u32At}
 use Rattle.format.specs.declared.Label.{Label}
 use Rattle.format.specs.declared.Volume.{Volume}
 use Rattle.format.specs.Tests.{all}
-use Rattle.format.specs.Pieces.{pieceOk, textPiece}
+use Rattle.format.specs.Pieces.{uncut, textPiece}
 use Rattle.format.specs.Volume.{labelUnicode, labelLeast, labelOf, volumeRules, volumeFields, volumeAt, volumePiece, noVolume}
-use Rattle.format.proofs.Bools.{or-true, and-yes, and-no}
+use Rattle.format.proofs.Bools.{or-true, and-no}
 use Rattle.info.specs.declared.Text.{Text}
 use Rattle.info.specs.declared.VolumeFound.{VolumeFound}
 use Rattle.info.specs.declared.VolumeRead.{VolumeRead}
 use Rattle.info.specs.declared.VolumeRead.the-variants.{Good, Bad}
-use Rattle.info.specs.Found.{found, labelAt, textFound, makeVolume, volumeFound, volumeIn}
-use Rattle.info.proofs.TestLaws.{or-false, room}
+use Rattle.info.specs.Found.{pieceOk, pieceFound, labelAt, textFound, makeVolume, volumeFound, volumeIn}
+use Rattle.info.proofs.TestLaws.{or-false, uncut-room}
 use Rattle.info.proofs.TextLaws.{text-ok, text-body}
 use Rattle.info.proofs.StructLaws.{Kind}
 
 -- ---- VolumeID's own bytes
 
-pub label-room : (v : List ℕ) {least : ℕ} (u a : Bool) → least ≡ labelLeast u → (a || ltb (length v) least) ≡ false → u ≡ true → 0x14 ≤ length v
-label-room v {least} u a e h = room 0x14 0x10 u e (ltb-false (length v) least (or-false a (ltb (length v) least) h .1))
+pub label-room : (v : List ℕ) {x : Bool} (u a : Bool) → x ≡ uncut u 0x14 v → (a || not x) ≡ false → u ≡ true → 0x14 ≤ length v
+label-room v {x} u a e h = uncut-room u 0x14 v (sym e ∙ not-false x (or-false a (not x) h .1))
 
-module _ (p : ℕ) (v : List ℕ) {drive least : ℕ} {u : Bool} (ed : drive ≡ u32At v 4) (eu : u ≡ labelUnicode v) (el : least ≡ labelLeast u) where
-  rules-are : all (volumeRules v) ≡ (leb drive 6 && (leb least (length v) && pieceOk least (textPiece true u v (labelAt v u))))
-  rules-are = rw (and-yes, el, eu, ed)
+module _ (p : ℕ) (v : List ℕ) {drive : ℕ} {u x : Bool} (ed : drive ≡ u32At v 4) (eu : u ≡ labelUnicode v) (ex : x ≡ uncut u 0x14 v) where
+  rules-are : all (volumeRules v) ≡ (leb drive 6 && (x && pieceOk (labelLeast u) (textPiece true u v (labelAt v u))))
+  rules-are = rw (ex, eu, ed)
 
-  pub volume-fixed : (ltb 6 drive || ltb (length v) least) ≡ true → Bad ≡ volumeIn p v
+  pub volume-fixed : (ltb 6 drive || not x) ≡ true → Bad ≡ volumeIn p v
   unfolding volumeIn
   volume-fixed h =
-      or-true (ltb 6 drive) (ltb (length v) least) h
+      or-true (ltb 6 drive) (not x) h
       (λ i. rw (rules-are, lt-leb drive 6 (ltb-true 6 drive i)))
-      (λ i. rw (rules-are, lt-leb least (length v) (ltb-true (length v) least i), and-no))
+      (λ i. rw (rules-are, not-true x i, and-no))
 
-  module _ {o : ℕ} {t : Text} (h : (ltb 6 drive || ltb (length v) least) ≡ false) (eo : o ≡ labelAt v u) (et : t ≡ textFound true u v p least o) where
+  module _ {o least : ℕ} {t : Text} (h : (ltb 6 drive || not x) ≡ false) (el : least ≡ labelLeast u) (eo : o ≡ labelAt v u) (et : t ≡ textFound true u v p least o) where
     rules-text : all (volumeRules v) ≡ t .ok
     rules-text =
-        let i = or-false (ltb 6 drive) (ltb (length v) least) h in
+        let i = or-false (ltb 6 drive) (not x) h in
         let j : leb drive 6 ≡ true = le-leb drive 6 (ltb-false 6 drive (i .0)) in
-        let k : leb least (length v) ≡ true = le-leb least (length v) (ltb-false (length v) least (i .1)) in
-        rules-are ∙ rw (j, k, ← eo) (sym (text-ok true u v p least o et))
+        rules-are ∙ rw (j, not-false x (i .1), ← eo, ← el) (sym (text-ok true u v p least o et))
 
     pub volume-open : not (t .ok) ≡ true → Bad ≡ volumeIn p v
     unfolding volumeIn
@@ -71,7 +70,7 @@ unfolding volumeIn
 read-is p v = refl
 
 pub found-as : (b : Bool) (l : List ℕ) (start head o : ℕ)
-    → volumeFound b l start head o ≡ found makeVolume head (volumePiece b l o) (volumeAt b start l o) noVolume
+    → volumeFound b l start head o ≡ pieceFound makeVolume head (volumePiece b l o) (volumeAt b start l o) noVolume
 unfolding volumeFound
 found-as b l start head o = refl
 

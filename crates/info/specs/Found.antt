@@ -1,35 +1,33 @@
 -- What the functions of this crate find: format's definitions, with zeros where a test fails.
 use Prim.Native.Nat.{ℕ, _+_, _≤_}
-use mathlib.Core.List.{List, [], _∷_}
-use mathlib.Core.Bool.{Bool, true, false, not, _||_, cond}
-use lib.ListN.{length, drop}
+use mathlib.Core.List.{List, []}
+use mathlib.Core.Bool.{Bool, true, false, _&&_, cond}
+use lib.ListN.{drop}
 use lib.Dec.{leb}
 use Rattle.octets.specs.Numbers.{u32At}
 use Rattle.format.specs.declared.Place.{Place}
 use Rattle.format.specs.declared.Volume.{Volume}
 use Rattle.format.specs.declared.Network.{Network}
-use Rattle.format.specs.declared.Fault.the-variants.{Info as INFO, Piece as PIECE}
-use Rattle.format.specs.Tests.{Test, _else_, all, noPlace}
-use Rattle.format.specs.Presence.{providerThere}
-use Rattle.format.specs.Pieces.{Piece, textPiece, textPlace, absentZero, pieceOk, span, pieceTests}
+use Rattle.format.specs.Tests.{all, noPlace}
+use Rattle.format.specs.Pieces.{Piece, textPiece, textPlace, structTests, testsOf, span, pieceTests}
 use Rattle.format.specs.Volume.{volumePiece, volumeAt, volumeRules, volumeFields, noVolume}
-use Rattle.format.specs.Network.{networkFlags, hasDevice, networkUnicode, networkHead, networkRules, networkPiece, networkFields, networkAt, noNetwork}
-use Rattle.format.specs.Info.{infoHead, longHead, headOk, infoFlags, hasLocal, hasNetwork, infoPieces, hasLocalUnicode}
-use Rattle.format.specs.Writing.{every}
+use Rattle.format.specs.Network.{networkRules, networkPiece, networkFields, networkAt, noNetwork}
+use Rattle.format.specs.Info.{infoHead, longHead, infoFlags, hasLocal, hasNetwork, infoPieces, hasLocalUnicode}
+use Rattle.format.specs.Presence.{providerThere}
 use Rattle.info.specs.declared.Text.{Text}
 use Rattle.info.specs.declared.VolumeFound.{VolumeFound}
 use Rattle.info.specs.declared.NetworkFound.{NetworkFound}
 use Rattle.info.specs.declared.Pieces.{Pieces}
-use Rattle.info.specs.declared.Ends.{Ends}
-use Rattle.info.specs.declared.Ends.the-variants.{At, Outside}
+use Rattle.info.specs.declared.StructEnd.{StructEnd}
+use Rattle.info.specs.declared.StructEnd.the-variants.{At, Outside}
 use Rattle.info.specs.declared.VolumeRead.{VolumeRead}
 use Rattle.info.specs.declared.VolumeRead.the-variants.{Good as GoodVolume, Bad as BadVolume}
 use Rattle.info.specs.declared.NetworkRead.{NetworkRead}
 use Rattle.info.specs.declared.NetworkRead.the-variants.{Good as GoodNetwork, Bad as BadNetwork}
 
 -- a place that a file can hold, so that its end does not wrap
-abbrev pub Near : Place → Type 0
-Near x = x .at + x .len ≤ 65536
+abbrev pub EndSmall : Place → Type 0
+EndSmall x = x .at + x .len ≤ 65536
 
 -- a field that is there, or 0
 unfoldable pub fieldIf : Bool → List ℕ → ℕ → ℕ
@@ -37,13 +35,16 @@ fieldIf there l i = cond there (u32At l i) 0
 
 -- ---- a piece and what it says
 
+abbrev pub pieceOk : ℕ → Piece → Bool
+pieceOk head x = all (testsOf head x)
+
 -- the bytes of a piece that passes its tests
 abbrev pub foundSpan : ℕ → Piece → Place
 foundSpan head x = cond (pieceOk head x) (span x) noPlace
 
 -- whether it passes its tests, its bytes, and what it says, a, or d where it fails
-abbrev pub found : {A R : Type 0} → (Bool → Place → A → R) → ℕ → Piece → A → A → R
-found make head x a d = make (pieceOk head x) (foundSpan head x) (cond (pieceOk head x) a d)
+abbrev pub pieceFound : {A R : Type 0} → (Bool → Place → A → R) → ℕ → Piece → A → A → R
+pieceFound make head x a d = make (pieceOk head x) (foundSpan head x) (cond (pieceOk head x) a d)
 
 abbrev pub makeText : Bool → Place → Place → Text
 makeText ok x b = record { ok = ok; span = x; body = b }
@@ -55,21 +56,19 @@ abbrev pub makeNetwork : Bool → Place → Network → NetworkFound
 makeNetwork ok x n = record { ok = ok; span = x; network = n }
 
 unfoldable pub textFound : Bool → Bool → List ℕ → ℕ → ℕ → ℕ → Text
-textFound present unicode l start head o = found makeText head (textPiece present unicode l o) (textPlace present unicode start l o) noPlace
+textFound present unicode l start head o = pieceFound makeText head (textPiece present unicode l o) (textPlace present unicode start l o) noPlace
 
 unfoldable pub volumeFound : Bool → List ℕ → ℕ → ℕ → ℕ → VolumeFound
-volumeFound present l start head o = found makeVolume head (volumePiece present l o) (volumeAt present start l o) noVolume
+volumeFound present l start head o = pieceFound makeVolume head (volumePiece present l o) (volumeAt present start l o) noVolume
 
 unfoldable pub networkFound : Bool → List ℕ → ℕ → ℕ → ℕ → NetworkFound
-networkFound present l start head o = found makeNetwork head (networkPiece present l o) (networkAt present start l o) noNetwork
+networkFound present l start head o = pieceFound makeNetwork head (networkPiece present l o) (networkAt present start l o) noNetwork
 
 -- ---- structures
 
--- where the structure at the offset o ends, if its size field and its size lie inside l and it has the least bytes
-unfoldable pub endAt : List ℕ → ℕ → ℕ → ℕ → Ends
-endAt l head least o =
-    let s = drop o l in
-    cond (every (leb head o ∷ leb 4 (length s) ∷ leb (u32At s 0) (length s) ∷ leb least (u32At s 0) ∷ [])) (At (o + u32At s 0)) Outside
+-- where the structure at the offset o ends, if it starts after the head and its size is right
+unfoldable pub endAt : List ℕ → ℕ → ℕ → ℕ → StructEnd
+endAt l head least o = cond (leb head o && all (structTests least (λ v. []) (drop o l))) (At (o + u32At (drop o l) 0)) Outside
 
 abbrev pub labelAt : List ℕ → Bool → ℕ
 labelAt v unicode = cond unicode (u32At v 16) (u32At v 12)
@@ -86,28 +85,7 @@ networkIn p v = networkIf (all (networkRules v)) (networkFields p v)
 abbrev pub providerOf : ℕ → ℕ → ℕ
 providerOf flags kept = cond (providerThere flags) kept 0
 
--- the tests before those of the strings
-unfoldable pub networkFixed : List ℕ → List Test
-networkFixed v =
-    leb (networkFlags v) 3 else PIECE
-    ∷ leb 0x14 (u32At v 8) else PIECE
-    ∷ leb (networkHead (networkUnicode v)) (length v) else PIECE
-    ∷ absentZero (hasDevice v) (u32At v 12) else PIECE
-    ∷ (not (networkUnicode v) || absentZero (hasDevice v) (u32At v 24)) else PIECE
-    ∷ []
-
 -- ---- LinkInfo
-
--- the tests before those of the pieces
-unfoldable pub infoFixed : List ℕ → List Test
-infoFixed l =
-    headOk l else INFO
-    ∷ leb (infoFlags l) 3 else INFO
-    ∷ absentZero (hasLocal l) (u32At l 12) else INFO
-    ∷ absentZero (hasLocal l) (u32At l 16) else INFO
-    ∷ absentZero (hasNetwork l) (u32At l 20) else INFO
-    ∷ (not (longHead l) || absentZero (hasLocal l) (u32At l 28)) else INFO
-    ∷ []
 
 -- whether every piece passes, and what each says that passes
 unfoldable pub piecesFound : ℕ → List ℕ → Pieces

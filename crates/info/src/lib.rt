@@ -17,11 +17,12 @@ ghost use Prim.Native.Nat.{_+_, _≤_};
 ghost use lib.ListN.{length};
 ghost use Rattle.octets.specs.Characters.{bytesOf};
 ghost use Rattle.format.specs.Tests.{bit, all, noPlace};
-ghost use Rattle.format.specs.Pieces.{absentZero, apart, allApart};
+ghost use Rattle.format.specs.Pieces.{absentZero, uncut, apart, apartTests};
 ghost use Rattle.format.specs.Volume.{labelLeast, noVolume};
-ghost use Rattle.format.specs.Network.{networkHead, noNetwork};
-ghost use Rattle.info.specs.Found.{Near, fieldIf, makeText, textFound, endAt, labelAt, volumeIn, makeVolume, volumeFound};
-ghost use Rattle.info.specs.Found.{networkFixed, networkIf, networkIn, providerOf, makeNetwork, networkFound, infoFixed, piecesFound};
+ghost use Rattle.format.specs.Network.{networkHead, networkHeadTests, noNetwork};
+ghost use Rattle.format.specs.Info.{infoHeadTests};
+ghost use Rattle.info.specs.Found.{EndSmall, fieldIf, makeText, textFound, endAt, labelAt, volumeIn, makeVolume, volumeFound};
+ghost use Rattle.info.specs.Found.{networkIf, networkIn, providerOf, makeNetwork, networkFound, piecesFound};
 ghost use Rattle.info.specs.Taken.{infoAt};
 
 // LinkInfo and the cursor after it, or why it is refused and where.
@@ -56,7 +57,7 @@ pub struct Pieces {
 }
 
 // Where a structure ends, in the part that holds it; or it does not lie inside.
-pub enum Ends {
+pub enum StructEnd {
     At(usize),
     Outside,
 }
@@ -92,6 +93,13 @@ fn absent_zero(present: bool, o: usize) -> bool
     present | (o == 0)
 }
 
+// A field that ends here is not cut by the size, where it is there.
+fn uncut(there: bool, end: usize, l: &[u8]) -> bool
+    ensures { λ r. ⌜ r ≡ uncut there end (now (l .entry)) ⌝ }
+{
+    !there | (end <= l.len())
+}
+
 // ---- strings
 
 fn bytes_of(unicode: bool, n: usize) -> usize
@@ -115,7 +123,7 @@ fn no_text(ok: bool) -> Text
 // The string at the offset o of the part l, which starts at start in the file.
 fn text_at(present: bool, unicode: bool, l: &[u8], start: usize, head: usize, o: usize) -> Text
     requires { ⌜ start + length (now l) ≤ 65536 ⌝ }
-    ensures { λ r. ⌜ (r ≡ textFound present unicode (now (l .entry)) start head o) × Near (r .span) ⌝ }
+    ensures { λ r. ⌜ (r ≡ textFound present unicode (now (l .entry)) start head o) × EndSmall (r .span) ⌝ }
 {
     if !present {
         return no_text(true);
@@ -141,59 +149,62 @@ fn text_at(present: bool, unicode: bool, l: &[u8], start: usize, head: usize, o:
 // ---- no two pieces share a byte
 
 fn apart(x: Place, y: Place) -> bool
-    requires { ⌜ Near x × Near y ⌝ }
+    requires { ⌜ EndSmall x × EndSmall y ⌝ }
     ensures { λ r. ⌜ r ≡ apart x y ⌝ }
 {
     (x.at + x.len <= y.at) | (y.at + y.len <= x.at)
 }
 
+// Each of four with those before it.
 fn apart_four(a: Place, b: Place, c: Place, d: Place) -> bool
-    requires { ⌜ Near a × Near b × Near c × Near d ⌝ }
-    ensures { λ r. ⌜ r ≡ allApart (a ∷ b ∷ c ∷ d ∷ []) ⌝ }
+    requires { ⌜ EndSmall a × EndSmall b × EndSmall c × EndSmall d ⌝ }
+    ensures { λ r. ⌜ r ≡ all (apartTests [] (a ∷ b ∷ c ∷ d ∷ [])) ⌝ }
 {
-    apart(a, b) & apart(a, c) & apart(a, d) & apart(b, c) & apart(b, d) & apart(c, d)
+    apart(b, a) & apart(c, b) & apart(c, a) & apart(d, c) & apart(d, b) & apart(d, a)
 }
 
+// Each of six with those before it.
 fn apart_six(a: Place, b: Place, c: Place, d: Place, e: Place, f: Place) -> bool
-    requires { ⌜ Near a × Near b × Near c × Near d × Near e × Near f ⌝ }
-    ensures { λ r. ⌜ r ≡ allApart (a ∷ b ∷ c ∷ d ∷ e ∷ f ∷ []) ⌝ }
+    requires { ⌜ EndSmall a × EndSmall b × EndSmall c × EndSmall d × EndSmall e × EndSmall f ⌝ }
+    ensures { λ r. ⌜ r ≡ all (apartTests [] (a ∷ b ∷ c ∷ d ∷ e ∷ f ∷ [])) ⌝ }
 {
+    let four = apart_four(a, b, c, d);
     // The last two are absent with a short head: they end at 0, apart from every other.
     if (e.at + e.len == 0) & (f.at + f.len == 0) {
-        return apart_four(a, b, c, d);
+        return four;
     }
-    apart(a, b)
-        & apart(a, c)
-        & apart(a, d)
-        & apart(a, e)
-        & apart(a, f)
-        & apart(b, c)
-        & apart(b, d)
-        & apart(b, e)
-        & apart(b, f)
-        & apart_four(c, d, e, f)
+    four
+        & apart(e, d)
+        & apart(e, c)
+        & apart(e, b)
+        & apart(e, a)
+        & apart(f, e)
+        & apart(f, d)
+        & apart(f, c)
+        & apart(f, b)
+        & apart(f, a)
 }
 
 // ---- structures
 
 // A structure at the offset o says its size in its first four bytes.
-fn end_of(l: &[u8], head: usize, least: u32, o: usize) -> Ends
+fn end_of(l: &[u8], head: usize, least: u32, o: usize) -> StructEnd
     ensures { λ r. ⌜ r ≡ endAt (now (l .entry)) head least o ⌝ }
 {
     if o < head {
-        return Ends::Outside;
+        return StructEnd::Outside;
     }
     let c = Cursor { at: o };
     let Took::Number(size, _) = c.take_u32(l) else {
-        return Ends::Outside;
+        return StructEnd::Outside;
     };
     let Skipped::To(next) = c.skip(l, size as usize) else {
-        return Ends::Outside;
+        return StructEnd::Outside;
     };
     if size < least {
-        return Ends::Outside;
+        return StructEnd::Outside;
     }
-    Ends::At(next.at)
+    StructEnd::At(next.at)
 }
 
 // ---- VolumeID
@@ -224,11 +235,17 @@ fn volume_in(v: &[u8], at: usize) -> VolumeRead
 {
     let drive = octets::u32_at(v, 4);
     let unicode = octets::u32_at(v, 12) == 0x14;
-    let least = label_least(unicode);
-    if (6 < drive) | (v.len() < least) {
+    if (6 < drive) | !uncut(unicode, 0x14, v) {
         return VolumeRead::Bad;
     }
-    let t = text_at(true, unicode, v, at, least, label_offset(v, unicode));
+    let t = text_at(
+        true,
+        unicode,
+        v,
+        at,
+        label_least(unicode),
+        label_offset(v, unicode),
+    );
     if !t.ok {
         return VolumeRead::Bad;
     }
@@ -254,12 +271,12 @@ fn no_volume(ok: bool) -> VolumeFound
 // VolumeID at the offset o of LinkInfo l, which starts at start in the file.
 fn volume(present: bool, l: &[u8], start: usize, head: usize, o: usize) -> VolumeFound
     requires { ⌜ start + length (now l) ≤ 65536 ⌝ }
-    ensures { λ r. ⌜ (r ≡ volumeFound present (now (l .entry)) start head o) × Near (r .span) ⌝ }
+    ensures { λ r. ⌜ (r ≡ volumeFound present (now (l .entry)) start head o) × EndSmall (r .span) ⌝ }
 {
     if !present {
         return no_volume(true);
     }
-    let Ends::At(e) = end_of(l, head, 0x11, o) else {
+    let StructEnd::At(e) = end_of(l, head, 0x11, o) else {
         return no_volume(false);
     };
     let v = &l[o..e];
@@ -282,21 +299,18 @@ fn network_head(unicode: bool) -> usize
 }
 
 // The tests of its head, which come before those of its strings.
-fn network_fixed(v: &[u8]) -> bool
+fn network_head_ok(v: &[u8]) -> bool
     requires { ⌜ 0x14 ≤ length (now v) ⌝ }
-    ensures { λ r. ⌜ r ≡ all (networkFixed (now (v .entry))) ⌝ }
+    ensures { λ r. ⌜ r ≡ all (networkHeadTests (now (v .entry))) ⌝ }
 {
     let flags = octets::u32_at(v, 4);
     let name = octets::u32_at(v, 8);
     let unicode = 0x14 < name;
-    if v.len() < network_head(unicode) {
+    if !((flags <= 3) & (0x14 <= name) & uncut(unicode, 0x18, v) & uncut(unicode, 0x1C, v)) {
         return false;
     }
     let device = bit_0(flags);
-    (flags <= 3)
-        & (0x14 <= name)
-        & absent_zero(device, octets::u32_at(v, 12) as usize)
-        & absent_zero(device, field(unicode, v, 24))
+    absent_zero(device, octets::u32_at(v, 12) as usize) & absent_zero(device, field(unicode, v, 24))
 }
 
 // The provider type is kept by bit 1.
@@ -321,7 +335,7 @@ fn network_in(v: &[u8], at: usize) -> NetworkRead
     requires { ⌜ (0x14 ≤ length (now v)) × (at + length (now v) ≤ 65536) ⌝ }
     ensures { λ r. ⌜ r ≡ networkIn at (now (v .entry)) ⌝ }
 {
-    if !network_fixed(v) {
+    if !network_head_ok(v) {
         return NetworkRead::Bad;
     }
     let flags = octets::u32_at(v, 4);
@@ -367,12 +381,12 @@ fn no_network(ok: bool) -> NetworkFound
 // The network link at the offset o of LinkInfo l, which starts at start in the file.
 fn network(present: bool, l: &[u8], start: usize, head: usize, o: usize) -> NetworkFound
     requires { ⌜ start + length (now l) ≤ 65536 ⌝ }
-    ensures { λ r. ⌜ (r ≡ networkFound present (now (l .entry)) start head o) × Near (r .span) ⌝ }
+    ensures { λ r. ⌜ (r ≡ networkFound present (now (l .entry)) start head o) × EndSmall (r .span) ⌝ }
 {
     if !present {
         return no_network(true);
     }
-    let Ends::At(e) = end_of(l, head, 0x14, o) else {
+    let StructEnd::At(e) = end_of(l, head, 0x14, o) else {
         return no_network(false);
     };
     let v = &l[o..e];
@@ -389,9 +403,9 @@ fn network(present: bool, l: &[u8], start: usize, head: usize, o: usize) -> Netw
 // ---- LinkInfo
 
 // The tests of its fixed head, which come before those of its pieces.
-fn info_head(l: &[u8]) -> bool
+fn info_head_ok(l: &[u8]) -> bool
     requires { ⌜ 0x1C ≤ length (now l) ⌝ }
-    ensures { λ r. ⌜ r ≡ all (infoFixed (now (l .entry))) ⌝ }
+    ensures { λ r. ⌜ r ≡ all (infoHeadTests (now (l .entry))) ⌝ }
 {
     let head = octets::u32_at(l, 4) as usize;
     let long = 0x24 <= head;
@@ -409,7 +423,7 @@ fn info_head(l: &[u8]) -> bool
 
 // What the offsets of LinkInfo l lead to; l starts at start in the file.
 fn info_pieces(l: &[u8], start: usize) -> Pieces
-    requires { ⌜ (0x1C ≤ length (now l)) × (start + length (now l) ≤ 65536) × (all (infoFixed (now l)) ≡ true) ⌝ }
+    requires { ⌜ (0x1C ≤ length (now l)) × (start + length (now l) ≤ 65536) × (all (infoHeadTests (now l)) ≡ true) ⌝ }
     ensures { λ r. ⌜ r ≡ piecesFound start (now (l .entry)) ⌝ }
 {
     let head = octets::u32_at(l, 4) as usize;
@@ -462,7 +476,7 @@ pub fn info(s: &[u8], c: Cursor) -> InfoTaken
     let at = c.at;
     let end = next.at;
     let l = &s[at..end];
-    if !info_head(l) {
+    if !info_head_ok(l) {
         return InfoTaken::Refused(Fault::Info, at);
     }
     let f = info_pieces(l, at);

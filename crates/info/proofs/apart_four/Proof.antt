@@ -23,8 +23,10 @@ apart-requires-6 c κs = search needs
 
 returns : tie.Need-returns
 returns c =
-    let z = c .before .before .before .before .before .before .args in
-    four-apart (z .a) (z .b) (z .c) (z .d) (c .before .before .before .before .before .apart .ensures) (c .before .before .before .before .apart2 .ensures) (c .before .before .before .apart3 .ensures) (c .before .before .apart4 .ensures) (c .before .apart5 .ensures) (c .apart6 .ensures)
+    let third = c .before .before .before in
+    let z = third .before .before .before .args in
+    four-apart (z .a) (z .b) (z .c) (z .d) (third .before .before .apart .ensures) (third .before .apart2 .ensures) (third .apart3 .ensures)
+    (c .before .before .apart4 .ensures) (c .before .apart5 .ensures) (c .apart6 .ensures)
 
 pub apart-four-spec : {M : Type 1} → statement M
 apart-four-spec =

@@ -3,19 +3,20 @@ use borrow.Author.Needs.{needs}
 use Rattle.info.proofs.apart_six.Statement.{statement}
 use Rattle.info.proofs.apart_six.Tie as tie
 
+apart-four-requires : tie.Need-apart-four-requires
+apart-four-requires c κs = search needs
+
 add-if1 : tie.Need-add-if1
 add-if1 c = search needs
 
 add-if1-2 : tie.Need-add-if1-2
 add-if1-2 c = search needs
 
-apart-four-requires : tie.Need-apart-four-requires
-apart-four-requires c κs = search needs
-
 returns : tie.Need-returns
 returns c =
-    let z = c .before .before .before .before .args in
-    six-as-four (z .a) (z .b) (z .c) (z .d) (z .e) (z .f) (c .before .if1 .taken) (c .apart-four .ensures)
+    let four = c .before .before .before in
+    let z = four .before .args in
+    six-as-four (z .a) (z .b) (z .c) (z .d) (z .e) (z .f) (four .apart-four .ensures) (c .if1 .taken)
 
 apart-requires : tie.Need-apart-requires
 apart-requires c κs = search needs
@@ -44,22 +45,23 @@ apart-requires-8 c κs = search needs
 apart-requires-9 : tie.Need-apart-requires-9
 apart-requires-9 c κs = search needs
 
-apart-four-requires-2 : tie.Need-apart-four-requires-2
-apart-four-requires-2 c κs = search needs
-
 returns-2 : tie.Need-returns-2
 returns-2 c =
-    let z = c .before .before .before .before .before .before .before .before .before .before .before .before .before .args in
-    six-apart (z .a) (z .b) (z .c) (z .d) (z .e) (z .f) (c .before .before .before .before .before .before .before .before .before .apart .ensures) (c .before .before .before .before .before .before .before .before .apart2 .ensures) (c .before .before .before .before .before .before .before .apart3 .ensures) (c .before .before .before .before .before .before .apart4 .ensures) (c .before .before .before .before .before .apart5 .ensures)
-    (c .before .before .before .before .apart6 .ensures) (c .before .before .before .apart7 .ensures) (c .before .before .apart8 .ensures) (c .before .apart9 .ensures) (c .apart-four2 .ensures)
+    let fifth = c .before .before .before .before in
+    let first = fifth .before .before .before .before in
+    let four = first .before .before .before .before in
+    let z = four .before .args in
+    six-apart (z .a) (z .b) (z .c) (z .d) (z .e) (z .f) (four .apart-four .ensures) (first .apart .ensures) (fifth .before .before .before .apart2 .ensures)
+    (fifth .before .before .apart3 .ensures) (fifth .before .apart4 .ensures) (fifth .apart5 .ensures) (c .before .before .before .apart6 .ensures)
+    (c .before .before .apart7 .ensures) (c .before .apart8 .ensures) (c .apart9 .ensures)
 
 pub apart-six-spec : {M : Type 1} → statement M
 apart-six-spec =
     tie.close
     (tie.spec
+    apart-four-requires
     add-if1
     add-if1-2
-    apart-four-requires
     returns
     apart-requires
     apart-requires-2
@@ -70,5 +72,4 @@ apart-six-spec =
     apart-requires-7
     apart-requires-8
     apart-requires-9
-    apart-four-requires-2
     returns-2)

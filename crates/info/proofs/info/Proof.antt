@@ -51,8 +51,8 @@ part-l-start c = omega (arith, skip-got _ _ _ (c .before .before .before .skip .
 part-l-end : tie.Need-part-l-end
 part-l-end c = omega (arith, skip-got _ _ _ (c .before .before .before .skip .ensures) (c .before .next .given .1))
 
-info-head-requires : tie.Need-info-head-requires
-info-head-requires c κs =
+info-head-ok-requires : tie.Need-info-head-ok-requires
+info-head-ok-requires c κs =
     let u = skip-got _ _ _ (c .before .before .before .before .skip .ensures) (c .before .before .next .given .1) in
     simp (length-take, length-drop) (omega arith)
 
@@ -60,24 +60,24 @@ returns-4 : tie.Need-returns-4
 returns-4 c =
     let t = take-got _ _ _ (c .before .before .before .before .before .before .before .before .before .before .before .take-u32 .ensures) (c .before .before .before .before .before .before .before .before .before .size .given .1) in
     let u = skip-got _ _ _ (c .before .before .before .before .before .before .skip .ensures) (c .before .before .before .before .next .given .1) in
-    info-head _ _ (t .0) (t .1) (omega arith) (u .0) (u .1) (c .before .info-head .ensures) (c .if2 .taken)
+    info-head _ _ (t .0) (t .1) (omega arith) (u .0) (u .1) (c .before .info-head-ok .ensures) (c .if2 .taken)
 
 info-pieces-requires : tie.Need-info-pieces-requires
 info-pieces-requires c κs =
     let u = skip-got _ _ _ (c .before .before .before .before .before .before .skip .ensures) (c .before .before .before .before .next .given .1) in
-    (simp (length-take, length-drop) (omega arith), simp (length-take, length-drop) (omega arith), sym (c .before .info-head .ensures) ∙ not-false _ (c .if2 .left))
+    (simp (length-take, length-drop) (omega arith), simp (length-take, length-drop) (omega arith), sym (c .before .info-head-ok .ensures) ∙ not-false _ (c .if2 .left))
 
 returns-5 : tie.Need-returns-5
 returns-5 c =
     let t = take-got _ _ _ (c .before .before .before .before .before .before .before .before .before .before .before .before .before .before .take-u32 .ensures) (c .before .before .before .before .before .before .before .before .before .before .before .before .size .given .1) in
     let u = skip-got _ _ _ (c .before .before .before .before .before .before .before .before .before .skip .ensures) (c .before .before .before .before .before .before .before .next .given .1) in
-    info-piece _ _ (t .0) (t .1) (omega arith) (u .0) (u .1) (c .before .before .before .before .info-head .ensures) (c .before .before .before .if2 .left) (c .before .before .info-pieces .ensures) (c .if3 .taken)
+    info-piece _ _ (t .0) (t .1) (omega arith) (u .0) (u .1) (c .before .before .before .before .info-head-ok .ensures) (c .before .before .before .if2 .left) (c .before .before .info-pieces .ensures) (c .if3 .taken)
 
 returns-6 : tie.Need-returns-6
 returns-6 c =
     let t = take-got _ _ _ (c .before .before .before .before .before .before .before .before .before .before .before .before .before .before .before .take-u32 .ensures) (c .before .before .before .before .before .before .before .before .before .before .before .before .before .size .given .1) in
     let u = skip-got _ _ _ (c .before .before .before .before .before .before .before .before .before .before .skip .ensures) (c .before .before .before .before .before .before .before .before .next .given .1) in
-    info-got _ _ (t .0) (t .1) (omega arith) (u .0) (u .1) (c .before .before .before .before .before .info-head .ensures) (c .before .before .before .before .if2 .left) (c .before .before .before .info-pieces .ensures) (c .before .if3 .left)
+    info-got _ _ (t .0) (t .1) (omega arith) (u .0) (u .1) (c .before .before .before .before .before .info-head-ok .ensures) (c .before .before .before .before .if2 .left) (c .before .before .before .info-pieces .ensures) (c .before .if3 .left)
 
 pub info-spec : {M : Type 1} → statement M
 info-spec =
@@ -96,7 +96,7 @@ info-spec =
     sub-l
     part-l-start
     part-l-end
-    info-head-requires
+    info-head-ok-requires
     returns-4
     info-pieces-requires
     returns-5

@@ -4,11 +4,11 @@ use borrow.Author.Needs.{needs}
 use Rattle.info.proofs.network_in.Statement.{statement}
 use Rattle.info.proofs.network_in.Tie as tie
 
-network-fixed-requires : tie.Need-network-fixed-requires
-network-fixed-requires c κs = search needs
+network-head-ok-requires : tie.Need-network-head-ok-requires
+network-head-ok-requires c κs = search needs
 
 returns : tie.Need-returns
-returns c = network-fails _ _ (c .before .network-fixed .ensures) (c .if1 .taken)
+returns c = network-fails _ _ (c .before .network-head-ok .ensures) (c .if1 .taken)
 
 u32-at-requires : tie.Need-u32-at-requires
 u32-at-requires c κs = search needs
@@ -39,14 +39,14 @@ text-at-requires-2 c κs = search needs
 
 field-requires : tie.Need-field-requires
 field-requires c κs =
-    λ e. omega (arith, network-room _ (c .before .before .before .before .before .before .before .before .network-fixed .ensures) (c .before .before .before .before .before .before .before .if1 .left) (c .before .before .before .before .before .u32-at2 .ensures) e)
+    λ e. omega (arith, network-room _ (c .before .before .before .before .before .before .before .before .network-head-ok .ensures) (c .before .before .before .before .before .before .before .if1 .left) (c .before .before .before .before .before .u32-at2 .ensures) e)
 
 text-at-requires-3 : tie.Need-text-at-requires-3
 text-at-requires-3 c κs = c .before .before .before .before .before .before .before .before .before .before .before .pre .1
 
 field-requires-2 : tie.Need-field-requires-2
 field-requires-2 c κs =
-    network-room _ (c .before .before .before .before .before .before .before .before .before .before .network-fixed .ensures) (c .before .before .before .before .before .before .before .before .before .if1 .left) (c .before .before .before .before .before .before .before .u32-at2 .ensures)
+    network-room _ (c .before .before .before .before .before .before .before .before .before .before .network-head-ok .ensures) (c .before .before .before .before .before .before .before .before .before .if1 .left) (c .before .before .before .before .before .before .before .u32-at2 .ensures)
 
 text-at-requires-4 : tie.Need-text-at-requires-4
 text-at-requires-4 c κs = c .before .before .before .before .before .before .before .before .before .before .before .before .before .pre .1
@@ -71,14 +71,14 @@ returns-2 c =
     let y = z .before .before .before .before .before .before .before in
     let f = four _ _ (y .before .before .before .u32-at .ensures) (y .before .before .u32-at2 .ensures) (y .before .bit-0 .ensures) (y .network-head .ensures) (z .before .before .before .before .before .before .text-at .ensures .0) (z .before .before .before .before .before .u32-at3 .ensures) (z .before .before .before .before .text-at2 .ensures .0)
     (z .before .before .before .field .ensures) (z .before .before .text-at3 .ensures .0) (z .before .field2 .ensures) (z .text-at4 .ensures .0) in
-    network-read _ _ (y .before .before .before .before .before .network-fixed .ensures) (y .before .before .before .before .if1 .left) f (c .before .before .before .before .before .before .before .apart-four .ensures) (y .before .before .before .u32-at .ensures) (y .before .before .u32-at2 .ensures) (c .before .before .before .before .before .before .u32-at4 .ensures) (c .before .before .before .before .before .provider .ensures)
+    network-read _ _ (y .before .before .before .before .before .network-head-ok .ensures) (y .before .before .before .before .if1 .left) f (c .before .before .before .before .before .before .before .apart-four .ensures) (y .before .before .before .u32-at .ensures) (y .before .before .u32-at2 .ensures) (c .before .before .before .before .before .before .u32-at4 .ensures) (c .before .before .before .before .before .provider .ensures)
     (c .network-if .ensures)
 
 pub network-in-spec : {M : Type 1} → statement M
 network-in-spec =
     tie.close
     (tie.spec
-    network-fixed-requires
+    network-head-ok-requires
     returns
     u32-at-requires
     u32-at-requires-2

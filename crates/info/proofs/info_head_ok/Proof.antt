@@ -1,8 +1,8 @@
 use Rattle.info.proofs.InfoLaws.{head-fails, head-room, head-passes}
 use native.Mathlib.Omega.{arith}
 use borrow.Author.Needs.{needs}
-use Rattle.info.proofs.info_head.Statement.{statement}
-use Rattle.info.proofs.info_head.Tie as tie
+use Rattle.info.proofs.info_head_ok.Statement.{statement}
+use Rattle.info.proofs.info_head_ok.Tie as tie
 
 u32-at-requires : tie.Need-u32-at-requires
 u32-at-requires c κs = search needs
@@ -51,18 +51,24 @@ absent-zero-requires-3 c κs = search needs
 
 field-requires : tie.Need-field-requires
 field-requires c κs =
-    λ e. omega (arith, head-room _ (c .before .before .before .before .before .before .before .before .before .before .u32-at .ensures) (c .before .before .before .before .before .before .before .before .before .if1 .left) e)
+    let local = c .before .before .before .before in
+    let head = local .before .before .before .before .before in
+    λ e. omega (arith, head-room _ (head .before .u32-at .ensures) (head .if1 .left) e)
 
 absent-zero-requires-4 : tie.Need-absent-zero-requires-4
 absent-zero-requires-4 c κs = search needs
 
 returns-2 : tie.Need-returns-2
 returns-2 c =
-    head-passes _ (c .before .before .before .before .before .before .before .before .before .before .before .before .u32-at .ensures) (c .before .before .before .before .before .before .before .before .before .before .before .if1 .left) (c .before .before .before .before .before .before .before .before .before .before .u32-at2 .ensures) (c .before .before .before .before .before .before .before .before .before .bit-0 .ensures) (c .before .before .before .before .before .before .before .before .u32-at3 .ensures) (c .before .before .before .before .before .before .before .absent-zero .ensures) (c .before .before .before .before .before .before .u32-at4 .ensures)
-    (c .before .before .before .before .before .absent-zero2 .ensures) (c .before .before .before .before .bit-1 .ensures) (c .before .before .before .u32-at5 .ensures) (c .before .before .absent-zero3 .ensures) (c .before .field .ensures) (c .absent-zero4 .ensures)
+    let network = c .before .before .before .before in
+    let local = network .before .before .before .before in
+    let head = local .before .before .before in
+    head-passes _ (head .before .u32-at .ensures) (head .if1 .left) (local .before .before .u32-at2 .ensures) (local .before .bit-0 .ensures)
+    (local .u32-at3 .ensures) (network .before .before .before .absent-zero .ensures) (network .before .before .u32-at4 .ensures) (network .before .absent-zero2 .ensures)
+    (network .bit-1 .ensures) (c .before .before .before .u32-at5 .ensures) (c .before .before .absent-zero3 .ensures) (c .before .field .ensures) (c .absent-zero4 .ensures)
 
-pub info-head-spec : {M : Type 1} → statement M
-info-head-spec =
+pub info-head-ok-spec : {M : Type 1} → statement M
+info-head-ok-spec =
     tie.close
     (tie.spec
     u32-at-requires
