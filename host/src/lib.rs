@@ -13,16 +13,27 @@
 #[allow(unsafe_code)]
 pub mod boundary;
 pub mod fields;
+pub mod json;
 pub mod record;
 mod refusal;
 mod section;
 pub mod show;
+pub mod text;
+mod unwritable;
 
 pub use record::Record;
 pub use refusal::{Fault, Refusal};
 pub use section::{listing, section, sections, Section, SectionName};
+pub use text::{StringName, Text};
+pub use unwritable::Cause;
 
 use refusal::answer;
+
+/// The requests of document 02 whose rules this package and its archive follow.
+pub const REQUESTS: [&str; 3] = ["01", "02", "03"];
+
+/// The SHA-256 of the archive that is linked, in hex.
+pub const ARCHIVE_DIGEST: &str = env!("HERRINGNET_DIGEST");
 
 /// The most bytes that a shortcut may have.
 pub const LONGEST: usize = 65_536;

@@ -5,7 +5,7 @@ use common::SAMPLE;
 use herringnet::boundary;
 use herringnet::fields::FIELDS;
 use herringnet::record::{Header, Info, InfoUnicode, Label, Local, Network, NetworkUnicode, Record, Window};
-use herringnet::{check, section, sections, target, Fault, SectionName, LONGEST};
+use herringnet::{check, section, sections, target, Fault, SectionName, Text, LONGEST};
 
 /// What can be there or not, a bit each.
 const CHOICES: u32 = 15;
@@ -13,11 +13,11 @@ const CHOICES: u32 = 15;
 /// A record in which bit `n` of `choice` says whether the n-th part is there; all texts differ.
 fn record(choice: u32) -> Record<'static> {
     let there = |bit: u32| choice >> bit & 1 == 1;
-    let string = |bit: u32, text: &'static [u8]| there(bit).then_some(text);
+    let string = |bit: u32, text: &'static [u8]| there(bit).then(|| Text::of(there(0), text));
     let flags = if there(0) { 0x0400_0080 } else { 0x0400_0000 };
     Record {
         header: Header { flags, attributes: 0x20, creation: 1, access: 2, write: u64::MAX, ..header() },
-        items: string(1, b"\x04\0ab\x02\0"),
+        items: there(1).then_some(b"\x04\0ab\x02\0"),
         info: there(2).then(|| info(choice)),
         name: string(3, b"na"),
         relative: string(4, b""),
@@ -43,14 +43,13 @@ fn info(choice: u32) -> Info<'static> {
         unicode: there(14)
             .then_some(NetworkUnicode { net: b"n\0\x01\x02", device: if there(13) { b"Z\0" } else { b"" } }),
     };
-    Info {
-        local: there(9).then_some(local),
-        network: there(11).then_some(network),
-        suffix: b"suffix",
-        // The long head has no bit of its own: it comes with every second combination of the others.
-        unicode: (choice.count_ones() % 2 == 0)
-            .then_some(InfoUnicode { local: if there(9) { b"l\0" } else { b"" }, suffix: b"s\x02" }),
-    }
+    let mut info = Info::default().with_suffix(b"suffix");
+    info.local = there(9).then_some(local);
+    info.network = there(11).then_some(network);
+    // The long head has no bit of its own: it comes with every second combination of the others.
+    info.unicode = (choice.count_ones() % 2 == 0)
+        .then_some(InfoUnicode { local: if there(9) { b"l\0" } else { b"" }, suffix: b"s\x02" });
+    info
 }
 
 /// What the proved reader and writer make of a shortcut without the record of this package.
@@ -114,8 +113,8 @@ fn numbers(row: &[u32]) -> Vec<u8> {
 #[test]
 fn every_field_stands_where_the_format_has_it() {
     let full = record((1 << CHOICES) - 1);
-    let unicode = Some(InfoUnicode { local: b"l\0", suffix: b"s\x02" });
-    let full = Record { info: full.info.map(|info| Info { unicode, ..info }), ..full };
+    let unicode = InfoUnicode { local: b"l\0", suffix: b"s\x02" };
+    let full = Record { info: full.info.map(|info| info.with_unicode(unicode)), ..full };
     assert_eq!(full.to_vec().unwrap(), full_bytes());
     assert_eq!(Record::read(&full_bytes()).unwrap().info, full.info);
 }
@@ -169,7 +168,7 @@ fn presence_follows_from_what_is_there() {
     assert_eq!(Record::default().to_vec().unwrap().len(), 80);
     // Texts beside an absent local path or device are not looked at.
     let (local, device) = (b"odd".as_slice(), b"\0\0".as_slice());
-    let mut info = Info { unicode: Some(InfoUnicode { local, suffix: b"" }), ..Info::default() };
+    let mut info = Info::default().with_unicode(InfoUnicode { local, suffix: b"" });
     info.network = Some(Network { unicode: Some(NetworkUnicode { net: b"", device }), ..Network::default() });
     let shortcut = Record { info: Some(info), ..Record::default() }.to_vec().unwrap();
     let read = Record::read(&shortcut).unwrap().info.unwrap();
@@ -182,9 +181,14 @@ fn wrong_records_are_unwritable() {
     let refused = |record: Record| record.to_vec().unwrap_err();
     let unwritable = refused(Record { header: Header { attributes: 8, ..Header::default() }, ..Record::default() });
     assert_eq!((unwritable.fault, unwritable.position), (Fault::Unwritable, 0));
-    assert_eq!(unwritable.to_string(), "refused 11 UNWRITABLE at 0: no shortcut reads as this record");
+    let words = "refused 11 UNWRITABLE at 0: no shortcut reads as this record; \
+                 file attributes: bit 3, bit 6 or one above 14 is set";
+    assert_eq!(unwritable.to_string(), words);
     let unicode = Header { flags: 0x80, ..Header::default() };
-    assert_eq!(refused(Record { header: unicode, name: Some(b"odd"), ..Record::default() }).number(), 11);
+    assert_eq!(
+        refused(Record { header: unicode, name: Some(Text::of(true, b"odd")), ..Record::default() }).number(),
+        11
+    );
     assert_eq!(refused(Record { items: Some(b"\x05\0a"), ..Record::default() }).number(), 11);
     assert_eq!(refused(Record { blocks: b"\x04\0\0\0", ..Record::default() }).number(), 11);
 }
@@ -192,7 +196,8 @@ fn wrong_records_are_unwritable() {
 #[test]
 fn the_longest_records() {
     let text = vec![b'a'; 70_000];
-    let with = |name, icon| Record { name: Some(name), icon: Some(icon), ..Record::default() }.to_vec();
+    let of = |text| Some(Text::of(false, text));
+    let with = |name, icon| Record { name: of(name), icon: of(icon), ..Record::default() }.to_vec();
     let frame = 76 + 2 + 2 + 4;
     let longest = with(&text[..40_000], &text[..LONGEST - frame - 40_000]).unwrap();
     assert_eq!(check(&longest), Ok(LONGEST));
@@ -206,7 +211,8 @@ fn the_bodies_are_parts_of_the_shortcut() {
     let inside = |part: &[u8]| SAMPLE.as_ptr_range().contains(&part.as_ptr());
     let info = record.info.unwrap();
     assert!(inside(record.items.unwrap()) && inside(info.local.unwrap().path) && inside(info.suffix));
-    assert!(inside(record.relative.unwrap()) && inside(record.workdir.unwrap()) && inside(record.blocks));
+    let texts = [record.relative.unwrap(), record.workdir.unwrap()];
+    assert!(texts.iter().all(|text| inside(text.bytes())) && inside(record.blocks));
     assert!(sections(SAMPLE).unwrap().iter().all(|section| inside(section.bytes)));
 }
 
