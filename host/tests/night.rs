@@ -1,15 +1,14 @@
 //! What goes wrong at night: pipes that close, devices that are full, names that look alike, files of other owners.
 mod common;
 
-use common::shortcuts::{loose, z, Said, Shortcuts};
+use common::shortcuts::{as_nobody, copied, is_superuser, loose, z, Said, Shortcuts};
 use common::{text, SAMPLE};
 use herringnet::Record;
-use std::fs::{self, File, OpenOptions};
+use std::fs::{self, OpenOptions};
 use std::io::Write;
 use std::os::unix::fs::{symlink, MetadataExt, PermissionsExt};
 use std::os::unix::io::OwnedFd;
 use std::os::unix::net::UnixStream;
-use std::os::unix::process::CommandExt;
 use std::path::{Path, PathBuf};
 use std::process::{Command, Stdio};
 
@@ -140,27 +139,19 @@ fn owner_and_group_stay() {
     }
 }
 
-/// A folder that every user may write to, with the program in it.
-fn for_everyone(name: &str) -> PathBuf {
-    let folder = std::env::temp_dir().join(format!("herringnet-{}-{}", name, std::process::id()));
-    fs::create_dir(&folder).unwrap();
-    fs::set_permissions(&folder, fs::Permissions::from_mode(0o777)).unwrap();
-    fs::copy(env!("CARGO_BIN_EXE_herringnet"), folder.join("herringnet")).unwrap();
-    folder
-}
-
 #[test]
 fn a_file_whose_owner_cannot_be_kept_is_left_as_it_was() {
-    let s = Shortcuts { folder: for_everyone("owner") };
+    let s = Shortcuts::for_everyone("owner");
     s.put("loose.lnk", &loose());
     let path = s.path("loose.lnk");
     if given(&path, 1234, 4321, 0o4755) {
         let (before, number) = (s.names(), s.number("loose.lnk"));
-        let mut command = common::program(s.path("herringnet"));
-        command.args(["rewrite", "--in-place", "loose.lnk"]).current_dir(&s.folder).uid(65_534).gid(65_534);
         let why = "its owner and group cannot be kept: Operation not permitted";
-        let said = Said::of(command.output().unwrap());
-        said.is(3, "", &format!("herringnet: loose.lnk: cannot be written: {}\n", why));
+        s.run_as_nobody(&["rewrite", "--in-place", "loose.lnk"]).is(
+            3,
+            "",
+            &format!("herringnet: loose.lnk: cannot be written: {}\n", why),
+        );
         assert_eq!((s.get("loose.lnk"), s.number("loose.lnk"), s.names()), (loose(), number, before));
         assert_eq!(owner(&path), (1234, 4321, 0o4755));
     }
@@ -346,28 +337,25 @@ fn a_vendors_fault_is_told_from_a_retry() {
 
 /// A tree like the repository's with the program built in it, and a `tools/host` that must not be asked.
 fn built(name: &str) -> PathBuf {
-    let root = for_everyone(name);
+    let root = Shortcuts::for_everyone(name).folder;
     let triple = if std::env::var_os("HERRINGNET_EMULATED").is_some() { "x86_64-unknown-linux-gnu/" } else { "" };
     let release = root.join(format!("host/target/{}release", triple));
     fs::create_dir_all(&release).unwrap();
     fs::create_dir_all(root.join("tools")).unwrap();
     fs::create_dir_all(root.join("other")).unwrap();
     fs::rename(root.join("herringnet"), release.join("herringnet")).unwrap();
-    fs::copy(concat!(env!("CARGO_MANIFEST_DIR"), "/../herringnet"), root.join("herringnet")).unwrap();
-    let mut host = File::create(root.join("tools/host")).unwrap();
-    host.write_all(b"#!/bin/sh\necho tools/host was asked: \"$@\"\nexit 101\n").unwrap();
-    fs::set_permissions(root.join("tools/host"), fs::Permissions::from_mode(0o755)).unwrap();
+    copied(concat!(env!("CARGO_MANIFEST_DIR"), "/../herringnet"), root.join("herringnet"));
+    fs::write(root.join("asked"), b"#!/bin/sh\necho tools/host was asked: \"$@\"\nexit 101\n").unwrap();
+    fs::set_permissions(root.join("asked"), fs::Permissions::from_mode(0o755)).unwrap();
+    copied(root.join("asked"), root.join("tools/host"));
     fs::write(root.join("a.lnk"), SAMPLE).unwrap();
     root
 }
 
-fn said_by(program: &Path, folder: &Path, user: Option<u32>) -> Said {
+fn checked_by(program: &Path, folder: &Path) -> Command {
     let mut command = Command::new(program);
     command.args(["check", "../a.lnk"]).current_dir(folder);
-    if let Some(user) = user {
-        command.uid(user).gid(user);
-    }
-    Said::of(command.output().unwrap())
+    command
 }
 
 #[test]
@@ -376,11 +364,10 @@ fn the_built_program_is_run_for_everyone_and_through_links() {
     let other = root.join("other");
     symlink("../herringnet", other.join("one")).unwrap();
     symlink(other.join("one"), other.join("two")).unwrap();
-    let is_root = fs::metadata("/proc/self").unwrap().uid() == 0;
-    for user in [None, Some(65_534).filter(|_| is_root)] {
-        for program in [root.join("herringnet"), other.join("one"), other.join("two")] {
-            said_by(&program, &other, user).is(0, "../a.lnk: ok 459\n", "");
-        }
+    for program in [root.join("herringnet"), other.join("one"), other.join("two")] {
+        let mut command = checked_by(&program, &other);
+        Said::of(command.output().unwrap()).is(0, "../a.lnk: ok 459\n", "");
+        Said::of(as_nobody(&mut command).output().unwrap()).is(0, "../a.lnk: ok 459\n", "");
     }
     fs::remove_dir_all(&root).unwrap();
 }
@@ -390,11 +377,11 @@ fn a_program_older_than_its_sources_is_built_again_or_said_to_be() {
     let root = built("stale");
     fs::create_dir_all(root.join("host/src")).unwrap();
     fs::write(root.join("host/src/main.rs"), b"").unwrap();
-    let said = said_by(&root.join("herringnet"), &root.join("other"), None);
+    let mut command = checked_by(&root.join("herringnet"), &root.join("other"));
+    let said = Said::of(command.output().unwrap());
     assert_eq!((said.status, text(&said.out).starts_with("tools/host was asked: build")), (101, true));
-    let is_root = fs::metadata("/proc/self").unwrap().uid() == 0;
-    if is_root {
-        let said = said_by(&root.join("herringnet"), &root.join("other"), Some(65_534));
+    if is_superuser() {
+        let said = Said::of(as_nobody(&mut command).output().unwrap());
         let older = "herringnet: this program is older than its sources, and you may not build it again\n";
         said.is(0, "../a.lnk: ok 459\n", older);
     }

@@ -4,7 +4,8 @@ use herringnet::Record;
 use std::ffi::OsStr;
 use std::fs;
 use std::os::unix::ffi::OsStrExt;
-use std::os::unix::fs::MetadataExt;
+use std::os::unix::fs::{MetadataExt, PermissionsExt};
+use std::os::unix::process::CommandExt;
 use std::path::PathBuf;
 use std::process::{Command, Output, Stdio};
 
@@ -28,6 +29,22 @@ impl Shortcuts {
     /// A folder with nothing in it.
     pub fn none(name: &str) -> Shortcuts {
         Shortcuts { folder: folder(name) }
+    }
+
+    /// A folder that every user may write to, with the program in it; the test removes it.
+    pub fn for_everyone(name: &str) -> Shortcuts {
+        let folder = std::env::temp_dir().join(format!("herringnet-{}-{}", name, std::process::id()));
+        fs::create_dir(&folder).unwrap();
+        fs::set_permissions(&folder, fs::Permissions::from_mode(0o777)).unwrap();
+        copied(env!("CARGO_BIN_EXE_herringnet"), folder.join("herringnet"));
+        Shortcuts { folder }
+    }
+
+    /// The program of such a folder, run by a user who owns nothing, if this is the superuser.
+    pub fn run_as_nobody(&self, words: &[&str]) -> Said {
+        let mut command = program(self.path("herringnet"));
+        command.args(words).current_dir(&self.folder).stdin(Stdio::null());
+        Said::of(as_nobody(&mut command).output().unwrap())
     }
 
     pub fn path(&self, name: &str) -> PathBuf {
@@ -99,6 +116,23 @@ impl Said {
     #[track_caller]
     pub fn is(&self, status: i32, out: &str, err: &str) {
         assert_eq!((self.status, text(&self.out), self.err.as_str()), (status, out, err));
+    }
+}
+
+/// Copies a program. Another process does it: one that this process wrote could still be open in a child of another test.
+pub fn copied(from: impl AsRef<OsStr>, to: PathBuf) {
+    assert!(Command::new("cp").arg(from).arg(to).status().unwrap().success());
+}
+
+pub fn is_superuser() -> bool {
+    fs::metadata("/proc/self").unwrap().uid() == 0
+}
+
+/// A command of a user who owns nothing, if this is the superuser.
+pub fn as_nobody(command: &mut Command) -> &mut Command {
+    match is_superuser() {
+        true => command.uid(65_534).gid(65_534),
+        false => command,
     }
 }
 
