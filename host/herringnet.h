@@ -1,6 +1,8 @@
-/* Reads, checks and writes Windows shortcuts (.LNK files): the proved functions of the archive libscheduler.a.
+/* Reads, checks and writes Windows shortcuts (.LNK files): the proved functions of Herringnet's archive.
  *
- * Link with the archive (x86-64 Linux):   cc program.c target/staticlib/libscheduler.a
+ * Link with libherringnet.a and nothing else than the C library (x86-64 Linux). Where it was installed:
+ *     cc program.c $(pkg-config --cflags --libs herringnet)
+ * In the repository the same archive is target/staticlib/libscheduler.a.
  *
  * Every function takes slices, each as a pointer and a length, and has no other condition than these:
  *   - a pointer with its length names memory that the caller may read, and for out and fields write; a null pointer
@@ -22,6 +24,10 @@
 #ifdef __cplusplus
 extern "C" {
 #endif
+
+/* The version of this header, and the same as a number: 10,000 x the first part + 100 x the second + the third. */
+#define HERRINGNET_VERSION "0.1.0"
+#define HERRINGNET_VERSION_NUMBER 100
 
 /* The two parts of an answer. */
 #define HERRINGNET_NUMBER(answer) ((unsigned)((answer) % 256))
@@ -54,6 +60,30 @@ enum herringnet_number {
     HERRINGNET_FIELDS = 201,    /* the slice of fields has not 49 numbers; tested before all else */
     HERRINGNET_VALUES = 202     /* a number of fields does not fit its field; tested next */
 };
+
+/* The name of an answer's number, as "CUT"; "OTHER" for a number that this header does not know. */
+static inline const char *herringnet_name(unsigned number)
+{
+    switch (number) {
+    case HERRINGNET_OK: return "OK";
+    case HERRINGNET_LONG: return "LONG";
+    case HERRINGNET_CUT: return "CUT";
+    case HERRINGNET_MAGIC: return "MAGIC";
+    case HERRINGNET_HEAD: return "HEAD";
+    case HERRINGNET_ITEMS: return "ITEMS";
+    case HERRINGNET_INFO: return "INFO";
+    case HERRINGNET_PIECE: return "PIECE";
+    case HERRINGNET_BLOCK: return "BLOCK";
+    case HERRINGNET_TRAIL: return "TRAIL";
+    case HERRINGNET_PLACE: return "PLACE";
+    case HERRINGNET_UNWRITABLE: return "UNWRITABLE";
+    case HERRINGNET_ROOM: return "ROOM";
+    case HERRINGNET_NOTARGET: return "NOTARGET";
+    case HERRINGNET_FIELDS: return "FIELDS";
+    case HERRINGNET_VALUES: return "VALUES";
+    default: return "OTHER";
+    }
+}
 
 /* The names of sections, in the order of the listing. */
 enum herringnet_section_name {

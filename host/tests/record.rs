@@ -5,7 +5,7 @@ use common::SAMPLE;
 use herringnet::boundary;
 use herringnet::fields::FIELDS;
 use herringnet::record::{Header, Info, InfoUnicode, Label, Local, Network, NetworkUnicode, Record, Window};
-use herringnet::{check, section, sections, target, Fault, SectionName, Text, LONGEST};
+use herringnet::{check, section, sections, target, Fault, SectionName, StringName, Text, LONGEST};
 
 /// What can be there or not, a bit each.
 const CHOICES: u32 = 15;
@@ -191,6 +191,93 @@ fn wrong_records_are_unwritable() {
     );
     assert_eq!(refused(Record { items: Some(b"\x05\0a"), ..Record::default() }).number(), 11);
     assert_eq!(refused(Record { blocks: b"\x04\0\0\0", ..Record::default() }).number(), 11);
+}
+
+/// Wrong records, each with the field that is to be named and a part of the reason.
+fn wrong_records<'a>(long: &'a [u8]) -> Vec<(Record<'a>, &'static str, &'static str)> {
+    let none = Record::default;
+    let header = |header| Record { header, ..none() };
+    let local = Local { drive: 3, serial: 1, label: Label::Byte(b"l"), path: b"p" };
+    let with_local = |local| Record { info: Some(Info::default().with_local(local)), ..none() };
+    let network = Network { net: b"n", device: Some(b"d"), ..Network::default() };
+    let with_network = |network| Record { info: Some(Info::default().with_network(network)), ..none() };
+    let names = |net, device| Some(NetworkUnicode { net, device });
+    let unicode = |local, suffix| Some(InfoUnicode { local, suffix });
+    let mut long_info = Info::default().with_local(local.clone());
+    long_info.unicode = unicode(b"odd", b"");
+    let mut long_suffix = Info::default();
+    long_suffix.unicode = unicode(b"", b"a\0\0\0");
+    let flags = Header { flags: 0x80, ..Header::default() };
+    vec![
+        (header(Header { flags: 1 << 27, ..Header::default() }), "link flags", "above 26"),
+        (header(Header { attributes: 1 << 15, ..Header::default() }), "file attributes", "above 14"),
+        (header(Header { hotkey: 0x0600, ..Header::default() }), "hot key", "tables"),
+        (Record { items: Some(b"\x05\0a"), ..none() }, "items", "end to end"),
+        (with_local(Local { drive: 7, ..local.clone() }), "drive type", "above 6"),
+        (with_local(Local { label: Label::Byte(b"\0"), ..local.clone() }), "volume label", "zero"),
+        (with_local(Local { label: Label::Unicode(b"a"), ..local.clone() }), "Unicode label", "odd"),
+        (with_local(Local { path: b"a\0b", ..local.clone() }), "local path", "zero"),
+        (with_local(Local { path: long, ..local }), "local path", "too long"),
+        (with_network(Network { net: b"\0", ..network.clone() }), "net name", "zero"),
+        (with_network(Network { device: Some(b"\0"), ..network.clone() }), "device name", "zero"),
+        (with_network(Network { unicode: names(b"a", b""), ..network.clone() }), "Unicode net name", "odd"),
+        (with_network(Network { unicode: names(b"", b"\0\0"), ..network }), "Unicode device name", "zero"),
+        (Record { info: Some(Info::default().with_suffix(b"\0")), ..none() }, "suffix", "zero"),
+        (Record { info: Some(long_info), ..none() }, "Unicode local path", "odd"),
+        (Record { info: Some(long_suffix), ..none() }, "Unicode suffix", "zero"),
+        (Record { header: flags, name: Some(Text::of(true, b"odd")), ..none() }, "name", "odd"),
+        (Record { icon: Some(Text::of(false, long)), ..none() }, "icon location", "characters"),
+        (
+            Record { header: flags, workdir: Some(Text::of(false, b"wd")), ..none() },
+            "working directory",
+            "says Unicode",
+        ),
+        (Record { relative: Some(Text::of(true, b"r\0")), ..none() }, "relative path", "says bytes"),
+        (Record { blocks: b"\x04\0\0\0", ..none() }, "blocks", "end to end"),
+        (
+            Record {
+                name: Some(Text::of(false, &long[..40_000])),
+                arguments: Some(Text::of(false, &long[..40_000])),
+                ..none()
+            },
+            "length",
+            "65,536",
+        ),
+    ]
+}
+
+#[test]
+fn an_unwritable_record_names_its_field() {
+    let long = vec![b'a'; 70_000];
+    for (record, field, why) in wrong_records(&long) {
+        let mut out = [0xEE; 100];
+        for refusal in [record.to_vec().unwrap_err(), record.write(&mut out).unwrap_err()] {
+            let cause = refusal.cause.unwrap();
+            assert_eq!((refusal.fault, cause.field), (Fault::Unwritable, field));
+            assert!(cause.why.contains(why), "{}", refusal);
+            assert!(refusal.to_string().ends_with(&format!("; {}: {}", field, cause.why)));
+        }
+        assert_eq!(out, [0xEE; 100]);
+    }
+    assert_eq!(Record::default().write(&mut []).unwrap_err().cause, None);
+}
+
+#[test]
+fn a_text_is_set_in_the_kind_of_the_record() {
+    for (flags, bytes) in [(0, &b"-D\x80"[..]), (0x80, b"-\0D\0\xAC\x20")] {
+        for name in StringName::ALL {
+            let mut record = Record { header: Header { flags, ..Header::default() }, ..Record::default() };
+            record.set(name, "-D€").unwrap();
+            let shortcut = record.to_vec().unwrap();
+            let read = Record::read(&shortcut).unwrap();
+            let text = read.string(name).unwrap();
+            assert_eq!((text.bytes(), text.decode().as_deref()), (bytes, Some("-D€")));
+            assert_eq!(StringName::ALL.iter().filter(|other| read.string(**other).is_some()).count(), 1);
+        }
+    }
+    let mut record = Record::default();
+    let misfit = record.set(StringName::Arguments, "-mΩ").unwrap_err();
+    assert_eq!((misfit.character, misfit.place, record), ('Ω', 2, Record::default()));
 }
 
 #[test]

@@ -112,7 +112,7 @@ fn shortcuts_that_differ_in_what_is_shown_are_shown_differently() {
     let left_out = left_out(&shortcut);
     let (mut tried, mut alike) = (0, 0);
     for place in 0..shortcut.len() {
-        for change in [1, 0x20, 0x80, 0xFF] {
+        for change in [1, 0x80] {
             let mut other = shortcut.clone();
             other[place] ^= change;
             // A change of an offset or a size can be a change of nothing, so records are compared there.
@@ -129,7 +129,7 @@ fn shortcuts_that_differ_in_what_is_shown_are_shown_differently() {
             alike += usize::from(other_text == text);
         }
     }
-    assert!(tried - alike > 1000 && alike > 1000, "{} tried, {} alike", tried, alike);
+    assert!(tried - alike > 500 && alike > 500, "{} tried, {} alike", tried, alike);
 }
 
 #[test]
