@@ -45,7 +45,7 @@ extern "C" {
 enum herringnet_number {
     HERRINGNET_OK = 0,
     HERRINGNET_LONG = 1,        /* over 65,536 bytes */
-    HERRINGNET_CUT = 2,         /* the bytes end before a field or declared size does */
+    HERRINGNET_CUT = 2,         /* it is cut off inside a field or a part */
     HERRINGNET_MAGIC = 3,       /* header size or class identifier */
     HERRINGNET_HEAD = 4,        /* another header rule */
     HERRINGNET_ITEMS = 5,       /* item list */
@@ -53,7 +53,7 @@ enum herringnet_number {
     HERRINGNET_PIECE = 7,       /* anything that LinkInfo's offsets lead to */
     HERRINGNET_BLOCK = 8,       /* an extra block */
     HERRINGNET_TRAIL = 9,       /* bytes after the terminal block */
-    HERRINGNET_PLACE = 10,      /* a body's place plus its length exceeds the body buffer's length */
+    HERRINGNET_PLACE = 10,      /* a body lies outside the body buffer */
     HERRINGNET_UNWRITABLE = 11, /* no shortcut reads as the record */
     HERRINGNET_ROOM = 12,       /* the room is too short */
     HERRINGNET_NOTARGET = 13,   /* no target text */
@@ -166,7 +166,7 @@ uint64_t herringnet_check(const uint8_t *shortcut, size_t shortcut_len);
 uint64_t herringnet_target(const uint8_t *shortcut, size_t shortcut_len, uint8_t *out, size_t out_len);
 
 /* Puts the cache key into out: a byte 0 or 1 for bit 7 of LINK_FLAGS, then target text, arguments, working directory
- * and environment, the byte text of the first block A0000001 up to its zero. Each of the four is a byte 0 or 1 for its
+ * and environment, the byte text of the first block A0000001 up to its zero. Each of these four is a byte 0 or 1 for its
  * presence, its length in bytes as four bytes, little-endian, and its bytes; one that is absent has length 0. Two
  * accepted shortcuts have equal keys exactly if all this is equal. Success: the key's length, which is never more than
  * shortcut_len. Refusals: as herringnet_check, then ROOM. */

@@ -81,7 +81,7 @@ pub fn target_into(shortcut: &[u8], out: &mut [u8]) -> Result<usize, Refusal> {
 /// The cache key of a shortcut: equal for two accepted shortcuts exactly if all that it is made of is equal.
 ///
 /// That is a byte 0 or 1 for LinkFlags bit 7, and then target text, arguments, working directory and environment, the
-/// byte text of the first block A0000001 up to its zero. Each of the four is a byte 0 or 1 for its presence, its
+/// byte text of the first block A0000001 up to its zero. Each of these four is a byte 0 or 1 for its presence, its
 /// length in bytes as four bytes, little-endian, and its bytes; one that is absent has length 0. A missing target is
 /// absent, and no refusal.
 ///

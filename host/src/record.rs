@@ -150,7 +150,7 @@ pub struct Local<'a> {
     pub path: &'a [u8],
 }
 
-/// A volume label is one of two kinds.
+/// A volume label, of bytes or of units.
 #[derive(Clone, Copy, Debug, PartialEq, Eq)]
 pub enum Label<'a> {
     /// A text of bytes.

@@ -9,7 +9,7 @@ use std::fmt;
 pub enum Fault {
     /// 1: over 65,536 bytes.
     Long,
-    /// 2: the bytes end before a field or declared size does.
+    /// 2: it is cut off inside a field or a part.
     Cut,
     /// 3: header size or class identifier.
     Magic,
@@ -44,7 +44,7 @@ pub enum Fault {
 /// Number, name and reason of every fault that has a name.
 const TABLE: [(Fault, u8, &str, &str); 15] = [
     (Fault::Long, 1, "LONG", "it has more than 65,536 bytes"),
-    (Fault::Cut, 2, "CUT", "the bytes end before a field or declared size does"),
+    (Fault::Cut, 2, "CUT", "it is cut off inside a field or a part"),
     (Fault::Magic, 3, "MAGIC", "header size or class identifier is not that of a shortcut"),
     (Fault::Head, 4, "HEAD", "the header breaks another rule of its fields"),
     (Fault::Items, 5, "ITEMS", "the item list is wrong"),
@@ -166,6 +166,6 @@ mod tests {
         assert_eq!(answer(256 * 80), Ok(80));
         let refusal = answer(2 + 256 * 76).unwrap_err();
         assert_eq!(refusal, Refusal::new(Fault::Cut, 76));
-        assert_eq!(refusal.to_string(), "refused 2 CUT at 76: the bytes end before a field or declared size does");
+        assert_eq!(refusal.to_string(), "refused 2 CUT at 76: it is cut off inside a field or a part");
     }
 }

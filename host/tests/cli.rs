@@ -29,7 +29,7 @@ fn check_says_a_line_for_each_file() {
     let s = Shortcuts::new("check");
     s.run(&["check", "a.lnk"]).is(0, "a.lnk: ok 459\n", "");
     s.run(&["check", "a.lnk", "z.lnk"]).is(0, "a.lnk: ok 459\nz.lnk: ok 80\n", "");
-    let cut = "cut.lnk: refused 2 CUT at 76: the bytes end before a field or declared size does\n";
+    let cut = "cut.lnk: refused 2 CUT at 76: it is cut off inside a field or a part\n";
     let long = "long.lnk: refused 1 LONG at 65536: it has more than 65,536 bytes\n";
     s.run(&["check", "cut.lnk"]).is(1, cut, "");
     s.run(&["check", "cut.lnk", "z.lnk", "long.lnk"]).is(1, &format!("{}z.lnk: ok 80\n{}", cut, long), "");
@@ -65,7 +65,7 @@ fn target_prints_the_text() {
 #[test]
 fn key_prints_hex_and_the_name() {
     let s = Shortcuts::new("key");
-    let cut = "herringnet: cut.lnk: refused 2 CUT at 76: the bytes end before a field or declared size does\n";
+    let cut = "herringnet: cut.lnk: refused 2 CUT at 76: it is cut off inside a field or a part\n";
     let long = "herringnet: long.lnk: refused 1 LONG at 65536: it has more than 65,536 bytes\n";
     s.run(&["key", "a.lnk"]).is(0, &format!("{} a.lnk\n", SAMPLE_KEY), "");
     let several = format!("{} a.lnk\n{} z.lnk\n", SAMPLE_KEY, Z_KEY);
@@ -83,7 +83,7 @@ fn show_prints_every_field() {
     s.run(&["show", "a.lnk"]).is(0, include_str!("shown/a.txt"), "");
     s.put("network.lnk", &network());
     s.run(&["show", "network.lnk"]).is(0, include_str!("shown/network.txt"), "");
-    let cut = "herringnet: cut.lnk: refused 2 CUT at 76: the bytes end before a field or declared size does\n";
+    let cut = "herringnet: cut.lnk: refused 2 CUT at 76: it is cut off inside a field or a part\n";
     let both = format!("a.lnk:\n{}\na.lnk:\n{0}", include_str!("shown/a.txt"));
     s.run(&["show", "a.lnk", "a.lnk"]).is(0, &both, "");
     s.run(&["show", "cut.lnk"]).is(1, "", cut);
@@ -120,7 +120,7 @@ fn rewrite_writes_the_canonical_form() {
     let said = s.run(&["rewrite", "loose.lnk"]);
     assert_eq!((said.status, said.out, said.err.as_str()), (0, z(), ""));
     assert_eq!(s.run(&["rewrite", "a.lnk"]).out, SAMPLE);
-    let refused = "herringnet: cut.lnk: refused 2 CUT at 76: the bytes end before a field or declared size does\n";
+    let refused = "herringnet: cut.lnk: refused 2 CUT at 76: it is cut off inside a field or a part\n";
     s.run(&["rewrite", "cut.lnk"]).is(1, "", refused);
     assert_eq!(s.run(&["rewrite", "a.lnk", "z.lnk"]).status, 2);
 }
@@ -154,7 +154,7 @@ fn rewrite_in_place() {
     symlink("loose.lnk", s.folder.join("link.lnk")).unwrap();
     let (before, untouched) = (s.names(), s.number("a.lnk"));
     let said = s.run(&["rewrite", "--in-place", "cut.lnk", "link.lnk", "a.lnk"]);
-    let refused = "herringnet: cut.lnk: refused 2 CUT at 76: the bytes end before a field or declared size does\n";
+    let refused = "herringnet: cut.lnk: refused 2 CUT at 76: it is cut off inside a field or a part\n";
     said.is(1, "link.lnk: 80 bytes, from 80\na.lnk: 459 bytes, canonical already\n", refused);
     assert_eq!((s.get("cut.lnk"), s.get("loose.lnk"), s.get("a.lnk")), (z()[..79].to_vec(), z(), SAMPLE.to_vec()));
     assert_eq!(fs::metadata(&loose).unwrap().permissions().mode() & 0o777, 0o640);
@@ -234,7 +234,8 @@ fn a_closed_pipe_ends_the_run_quietly() {
 fn help_and_version() {
     let s = Shortcuts::new("help");
     let (version, digest) = (env!("CARGO_PKG_VERSION"), herringnet::ARCHIVE_DIGEST);
-    let version = format!("herringnet {}\narchive sha256 {}\nrequests 01, 02, 03\n", version, digest);
+    let requests = herringnet::REQUESTS.join(", ");
+    let version = format!("herringnet {}\narchive sha256 {}\nrequests {}\n", version, digest, requests);
     s.run(&["--version"]).is(0, &version, "");
     let all = s.run(&["--help"]);
     assert!(all.status == 0 && all.err.is_empty());

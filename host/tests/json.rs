@@ -67,7 +67,7 @@ fn the_lines_of_the_sample() {
 fn refusals_and_failures_are_objects() {
     let s = Shortcuts::new("json_refused");
     let refusal = "{\"number\":2,\"name\":\"CUT\",\"position\":76,\
-                   \"reason\":\"the bytes end before a field or declared size does\"}";
+                   \"reason\":\"it is cut off inside a field or a part\"}";
     let cut = format!("{{\"file\":\"cut.lnk\",\"status\":\"refused\",\"refusal\":{}}}\n", refusal);
     let none = "{\"file\":\"none.lnk\",\"status\":\"failed\",\"error\":\"No such file or directory\"}\n";
     for command in COMMANDS {

@@ -36,9 +36,9 @@ the name, the position and the reason.
         line: "list the sections of a shortcut: name, start, length",
         usage: &["[FILE].."],
         text: "\
-Prints ok and the length, then a line per section: name, start, length. For a refused shortcut
-it prints one line: refused, number, position. With several files a line with the file's name
-and a colon stands before each listing.
+Prints ok and the length, and for each section a line with its name, its start and its length.
+For a refused shortcut it prints one line: refused, number, position. With several files a line
+with the file's name and a colon stands before each listing.
 ",
     },
     Page {
@@ -60,9 +60,9 @@ stands as <3A>. A shortcut without a target is told of on standard error.
 Prints a line for each accepted shortcut: its cache key in lower-case hex, one space, the file's
 name. Where standard input is the only input, the key stands alone. A refused shortcut has no key,
 and is told of on standard error. Two accepted shortcuts have equal keys exactly if these are
-equal: LinkFlags bit 7, target text, arguments, working directory, and the byte text of the first
-environment block (A0000001) up to its zero. What is absent differs from what is empty. A shortcut
-without a target has a key too.
+equal: LinkFlags bit 7, the target text, the arguments, the working directory, and the text of
+bytes in the first environment block (A0000001) up to its zero. What is absent differs from what
+is empty. A shortcut without a target has a key too.
 ",
     },
     Page {

@@ -13,7 +13,7 @@ One file's fault does not keep the others from being done.
 /// How names and refusals are printed.
 pub const PRINTED: &str = "\
 A refusal has a number, a name, the position in the file and a reason:
-  refused 2 CUT at 76: the bytes end before a field or declared size does
+  refused 2 CUT at 76: it is cut off inside a field or a part
 
 A plain name is printed as it is. A byte that is no UTF-8 stands as <E9>, a character without
 a shape as <U+202E>, < as <3C>, a space at either end as <20>, a colon at the end or before a
