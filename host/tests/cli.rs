@@ -250,6 +250,24 @@ fn help_and_version() {
 }
 
 #[test]
+fn the_readme_shows_what_is_printed() {
+    let root = Path::new(env!("CARGO_MANIFEST_DIR")).join("..");
+    let readme = fs::read_to_string(root.join("README.md")).unwrap();
+    let s = Shortcuts { folder: root };
+    for command in ["check", "key"] {
+        let words = [command, "host/samples/a.lnk"];
+        let shown = format!("    $ ./herringnet {}\n    {}", words.join(" "), text(&s.run(&words).out));
+        assert!(readme.contains(&shown), "{}", shown);
+    }
+    let help = s.run(&["--help"]);
+    for command in ["check", "list", "target", "key", "show", "rewrite"] {
+        assert!(
+            readme.contains(&format!("| `{}` |", command)) && text(&help.out).contains(&format!("\n  {} ", command))
+        );
+    }
+}
+
+#[test]
 fn words_that_make_no_sense() {
     let s = Shortcuts::new("usage");
     let see = "herringnet: see herringnet --help\n";
