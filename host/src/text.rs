@@ -67,7 +67,7 @@ impl<'a> Text<'a> {
         }
     }
 
-    /// The characters, or `None` where a byte or unit stands for none: no character is made up.
+    /// The characters, bytes by windows-1252; `None` where a byte or unit stands for none: no character is made up.
     pub fn decode(&self) -> Option<String> {
         match self {
             Text::Byte(bytes) => bytes.iter().map(|&byte| from_windows_1252(byte)).collect(),

@@ -109,12 +109,12 @@ fn folders_are_rewritten_and_nothing_outside_them() {
 #[test]
 fn a_folder_that_cannot_be_read_does_not_keep_the_others_from_being_done() {
     let s = Shortcuts::for_everyone("unreadable");
-    for (folder, mode) in [("a", 0o755), ("b", 0), ("c", 0o755)] {
+    for (folder, mode) in [("a", 0o755), ("b", 0o000), ("c", 0o755)] {
         fs::create_dir(s.path(folder)).unwrap();
         s.put(&format!("{}/x.lnk", folder), &z());
         fs::set_permissions(s.path(folder), fs::Permissions::from_mode(mode)).unwrap();
     }
-    fs::set_permissions(s.path("a/x.lnk"), fs::Permissions::from_mode(0)).unwrap();
+    fs::set_permissions(s.path("a/x.lnk"), fs::Permissions::from_mode(0o000)).unwrap();
     s.run_as_nobody(&["check", "-r", ".", "nowhere"]).is(
         3,
         "./c/x.lnk: ok 80\n",

@@ -193,38 +193,44 @@ fn wrong_records_are_unwritable() {
     assert_eq!(refused(Record { blocks: b"\x04\0\0\0", ..Record::default() }).number(), 11);
 }
 
-/// Wrong records, each with the field that is to be named and a part of the reason.
-fn wrong_records<'a>(long: &'a [u8]) -> Vec<(Record<'a>, &'static str, &'static str)> {
-    let none = Record::default;
-    let header = |header| Record { header, ..none() };
+/// A wrong record, the field that is to be named and a part of the reason.
+type Wrong<'a> = (Record<'a>, &'static str, &'static str);
+
+fn wrong_infos(long: &[u8]) -> Vec<Wrong<'_>> {
     let local = Local { drive: 3, serial: 1, label: Label::Byte(b"l"), path: b"p" };
-    let with_local = |local| Record { info: Some(Info::default().with_local(local)), ..none() };
+    let with = |info| Record { info: Some(info), ..Record::default() };
+    let with_local = |local| with(Info::default().with_local(local));
     let network = Network { net: b"n", device: Some(b"d"), ..Network::default() };
-    let with_network = |network| Record { info: Some(Info::default().with_network(network)), ..none() };
+    let with_network = |network| with(Info::default().with_network(network));
     let names = |net, device| Some(NetworkUnicode { net, device });
-    let unicode = |local, suffix| Some(InfoUnicode { local, suffix });
-    let mut long_info = Info::default().with_local(local.clone());
-    long_info.unicode = unicode(b"odd", b"");
-    let mut long_suffix = Info::default();
-    long_suffix.unicode = unicode(b"", b"a\0\0\0");
+    let path = InfoUnicode { local: b"odd", suffix: b"" };
+    let suffix = InfoUnicode { local: b"", suffix: b"a\0\0\0" };
+    vec![
+        (with_local(Local { drive: 7, ..local.clone() }), "drive type", "above 6"),
+        (with_local(Local { label: Label::Byte(b"\0"), ..local.clone() }), "volume label", "zero"),
+        (with_local(Local { label: Label::Unicode(b"a"), ..local.clone() }), "Unicode label", "odd"),
+        (with_local(Local { path: b"a\0b", ..local.clone() }), "local path", "zero"),
+        (with_local(Local { path: long, ..local.clone() }), "local path", "too long"),
+        (with_network(Network { net: b"\0", ..network.clone() }), "net name", "zero"),
+        (with_network(Network { device: Some(b"\0"), ..network.clone() }), "device name", "zero"),
+        (with_network(Network { unicode: names(b"a", b""), ..network.clone() }), "Unicode net name", "odd"),
+        (with_network(Network { unicode: names(b"", b"\0\0"), ..network }), "Unicode device name", "zero"),
+        (with(Info::default().with_suffix(b"\0")), "suffix", "zero"),
+        (with(Info::default().with_local(local).with_unicode(path)), "Unicode local path", "odd"),
+        (with(Info::default().with_unicode(suffix)), "Unicode suffix", "zero"),
+    ]
+}
+
+fn wrong_others(long: &[u8]) -> Vec<Wrong<'_>> {
+    let none = Record::default;
+    let header = |header| Record { header, ..Record::default() };
     let flags = Header { flags: 0x80, ..Header::default() };
+    let half = Some(Text::of(false, &long[..40_000]));
     vec![
         (header(Header { flags: 1 << 27, ..Header::default() }), "link flags", "above 26"),
         (header(Header { attributes: 1 << 15, ..Header::default() }), "file attributes", "above 14"),
         (header(Header { hotkey: 0x0600, ..Header::default() }), "hot key", "tables"),
         (Record { items: Some(b"\x05\0a"), ..none() }, "items", "end to end"),
-        (with_local(Local { drive: 7, ..local.clone() }), "drive type", "above 6"),
-        (with_local(Local { label: Label::Byte(b"\0"), ..local.clone() }), "volume label", "zero"),
-        (with_local(Local { label: Label::Unicode(b"a"), ..local.clone() }), "Unicode label", "odd"),
-        (with_local(Local { path: b"a\0b", ..local.clone() }), "local path", "zero"),
-        (with_local(Local { path: long, ..local }), "local path", "too long"),
-        (with_network(Network { net: b"\0", ..network.clone() }), "net name", "zero"),
-        (with_network(Network { device: Some(b"\0"), ..network.clone() }), "device name", "zero"),
-        (with_network(Network { unicode: names(b"a", b""), ..network.clone() }), "Unicode net name", "odd"),
-        (with_network(Network { unicode: names(b"", b"\0\0"), ..network }), "Unicode device name", "zero"),
-        (Record { info: Some(Info::default().with_suffix(b"\0")), ..none() }, "suffix", "zero"),
-        (Record { info: Some(long_info), ..none() }, "Unicode local path", "odd"),
-        (Record { info: Some(long_suffix), ..none() }, "Unicode suffix", "zero"),
         (Record { header: flags, name: Some(Text::of(true, b"odd")), ..none() }, "name", "odd"),
         (Record { icon: Some(Text::of(false, long)), ..none() }, "icon location", "characters"),
         (
@@ -234,22 +240,14 @@ fn wrong_records<'a>(long: &'a [u8]) -> Vec<(Record<'a>, &'static str, &'static 
         ),
         (Record { relative: Some(Text::of(true, b"r\0")), ..none() }, "relative path", "says bytes"),
         (Record { blocks: b"\x04\0\0\0", ..none() }, "blocks", "end to end"),
-        (
-            Record {
-                name: Some(Text::of(false, &long[..40_000])),
-                arguments: Some(Text::of(false, &long[..40_000])),
-                ..none()
-            },
-            "length",
-            "65,536",
-        ),
+        (Record { name: half.clone(), arguments: half, ..none() }, "length", "65,536"),
     ]
 }
 
 #[test]
 fn an_unwritable_record_names_its_field() {
     let long = vec![b'a'; 70_000];
-    for (record, field, why) in wrong_records(&long) {
+    for (record, field, why) in wrong_infos(&long).into_iter().chain(wrong_others(&long)) {
         let mut out = [0xEE; 100];
         for refusal in [record.to_vec().unwrap_err(), record.write(&mut out).unwrap_err()] {
             let cause = refusal.cause.unwrap();

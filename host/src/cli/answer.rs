@@ -5,7 +5,7 @@ use herringnet::json::Json;
 use herringnet::show::field::{members, text_json, Field};
 use herringnet::show::text::{Bytes, Hex};
 use herringnet::show::{lines, shown};
-use herringnet::{check, key, sections, target, Record, Refusal, Section, Text};
+use herringnet::{check, key, sections, target, Refusal, Section, Text};
 
 /// The answer to a command.
 pub enum Answer<'a> {
@@ -16,20 +16,18 @@ pub enum Answer<'a> {
     Target(Vec<u8>),
     Key(Vec<u8>),
     Fields(Vec<Field>),
-    /// The bytes of the canonical form.
-    Canonical(Vec<u8>),
 }
 
 impl<'a> Answer<'a> {
-    /// Asks the library.
-    pub fn to(command: Command, shortcut: &'a [u8]) -> Result<Answer<'a>, Refusal> {
-        Ok(match command {
-            Command::Check => Answer::Accepted(check(shortcut)?),
-            Command::List => Answer::Listing(shortcut.len(), sections(shortcut)?),
-            Command::Target => Answer::Target(target(shortcut)?),
-            Command::Key => Answer::Key(key(shortcut)?),
-            Command::Show => Answer::Fields(shown(shortcut)?),
-            Command::Rewrite => Answer::Canonical(Record::read(shortcut)?.to_vec()?),
+    /// Asks the library; `None` for a command that prints no answer.
+    pub fn to(command: Command, shortcut: &'a [u8]) -> Option<Result<Answer<'a>, Refusal>> {
+        Some(match command {
+            Command::Check => check(shortcut).map(Answer::Accepted),
+            Command::List => sections(shortcut).map(|sections| Answer::Listing(shortcut.len(), sections)),
+            Command::Target => target(shortcut).map(Answer::Target),
+            Command::Key => key(shortcut).map(Answer::Key),
+            Command::Show => shown(shortcut).map(Answer::Fields),
+            Command::Rewrite => return None,
         })
     }
 
@@ -42,7 +40,7 @@ impl<'a> Answer<'a> {
                 format!("ok {}{}", length, sections)
             }
             Answer::Target(text) => Bytes(text).to_string(),
-            Answer::Key(bytes) | Answer::Canonical(bytes) => Hex(bytes).to_string(),
+            Answer::Key(bytes) => Hex(bytes).to_string(),
             Answer::Fields(fields) => lines(fields).trim_end_matches('\n').to_string(),
         }
     }
@@ -59,7 +57,6 @@ impl<'a> Answer<'a> {
             Answer::Target(text) => one("target", text_json(&Text::of(false, text))),
             Answer::Key(bytes) => one("key", Json::string(Hex(bytes))),
             Answer::Fields(fields) => members(fields).collect(),
-            Answer::Canonical(bytes) => one("canonical", Json::string(Hex(bytes))),
         }
     }
 }

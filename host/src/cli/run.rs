@@ -5,7 +5,7 @@ use super::console::{Console, Outcome};
 use super::files::{replace, with_suffix, write_new};
 use super::input::{reason, Input};
 use super::walk::Walk;
-use herringnet::Refusal;
+use herringnet::{Record, Refusal};
 use std::ffi::OsString;
 use std::io;
 use std::path::PathBuf;
@@ -75,7 +75,7 @@ impl Run {
     fn each(&self, inputs: Vec<Input>, console: &mut Console) {
         let mut walk = Walk::new(inputs, self.recursive, self.all_files);
         let mut done = 0;
-        while let Some(found) = walk.next() {
+        for found in &mut walk {
             match found {
                 Ok(input) => self.one(&input, console),
                 Err((input, error)) => self.unread(&input, &error, console),
@@ -96,15 +96,19 @@ impl Run {
             Ok(bytes) => bytes,
             Err(error) => return self.unread(input, &error, console),
         };
-        let read = Read { input, bytes: &bytes };
-        let answer = Answer::to(self.command, &bytes);
+        match Answer::to(self.command, &bytes) {
+            Some(answer) => self.answer(input, answer, console),
+            None => self.rewrite(&Read { input, bytes: &bytes }, console),
+        }
+    }
+
+    fn answer(&self, input: &Input, answer: Result<Answer, Refusal>, console: &mut Console) {
         if answer.is_err() {
             console.note(Outcome::Refused);
         }
         match answer {
             answer if self.json => console.record(object(input, &answer).to_string().into_bytes()),
             Ok(Answer::Target(text)) if self.raw => console.write(&text),
-            Ok(Answer::Canonical(bytes)) => self.rewrite(&read, &bytes, console),
             Ok(answer) => self.print(input, &answer.text(), console),
             Err(refusal) if self.command.answers_refusals() => {
                 self.print(input, &self.refused(&refusal), console);
@@ -148,19 +152,23 @@ impl Run {
         });
     }
 
-    fn rewrite(&self, read: &Read, bytes: &[u8], console: &mut Console) {
+    fn rewrite(&self, read: &Read, console: &mut Console) {
+        let bytes = match Record::read(read.bytes).and_then(|record| record.to_vec()) {
+            Ok(bytes) => bytes,
+            Err(refusal) => return console.complain(Outcome::Refused, format!("{}: {}", read.input, refusal)),
+        };
         let (path, written) = match (&self.output, read.input) {
-            (Output::To(path), _) => (path.clone(), replace(path, bytes)),
+            (Output::To(path), _) => (path.clone(), replace(path, &bytes)),
             (Output::InPlace, Input::File(_)) if read.bytes == bytes => {
                 return self.print(read.input, &format!("{} bytes, canonical already", bytes.len()), console);
             }
-            (Output::InPlace, Input::File(path)) => (path.clone(), replace(path, bytes)),
+            (Output::InPlace, Input::File(path)) => (path.clone(), replace(path, &bytes)),
             (Output::Suffix(suffix), Input::File(path)) => {
                 let path = with_suffix(path, suffix);
-                let written = write_new(&path, bytes);
+                let written = write_new(&path, &bytes);
                 (path, written)
             }
-            _ => return console.write(bytes),
+            _ => return console.write(&bytes),
         };
         let output = Input::File(path);
         match written {
