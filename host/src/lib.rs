@@ -23,7 +23,7 @@ mod unwritable;
 
 pub use record::Record;
 pub use refusal::{Fault, Refusal};
-pub use section::{listing, section, sections, Section, SectionName};
+pub use section::{listed, listing, section, sections, Section, SectionName};
 pub use text::{StringName, Text};
 pub use unwritable::Cause;
 

@@ -131,9 +131,12 @@ fn blocks(shortcut: &[u8], from: usize, to: usize) -> impl Iterator<Item = Secti
 ///
 /// The verdict of [`check`], where that is a refusal.
 pub fn listing(shortcut: &[u8]) -> Result<String, Refusal> {
-    let mut text = format!("ok {}\n", check(shortcut)?);
-    for section in sections(shortcut)? {
-        text += &format!("{}\n", section);
-    }
-    Ok(text)
+    Ok(listed(&sections(shortcut)?))
+}
+
+/// The listing of all sections of a shortcut.
+pub fn listed(sections: &[Section]) -> String {
+    let length: usize = sections.iter().map(Section::length).sum();
+    let lines: String = sections.iter().map(|section| format!("{}\n", section)).collect();
+    format!("ok {}\n{}", length, lines)
 }

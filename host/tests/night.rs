@@ -81,12 +81,16 @@ fn lines_that_are_lost_are_told_of() {
     }
 }
 
+/// The program with these words, as a line for a shell.
+fn quoted(s: &Shortcuts, words: &str) -> String {
+    let program = s.command(&[]);
+    let parts = std::iter::once(program.get_program()).chain(program.get_args()).map(|word| word.to_str().unwrap());
+    format!("'{}' {}", parts.collect::<Vec<&str>>().join("' '"), words)
+}
+
 /// Runs the program from a shell, with a redirection after its words.
 fn shell(s: &Shortcuts, words: &str, redirection: &str) -> Said {
-    let program = s.command(&[]);
-    let mut parts: Vec<String> = vec![program.get_program().to_str().unwrap().to_string()];
-    parts.extend(program.get_args().map(|word| word.to_str().unwrap().to_string()));
-    let line = format!("'{}' {} {}", parts.join("' '"), words, redirection);
+    let line = format!("{} {}", quoted(s, words), redirection);
     Said::of(Command::new("sh").arg("-c").arg(line).current_dir(&s.folder).output().unwrap())
 }
 
@@ -247,6 +251,23 @@ fn the_longest_names_can_be_replaced() {
     s.put(&name, &loose());
     s.run(&["rewrite", "--in-place", &name]).is(0, &format!("{}: 80 bytes, from 80\n", name), "");
     assert_eq!((s.get(&name), s.names()), (z(), vec![name]));
+}
+
+#[test]
+fn a_file_that_cannot_be_written_whole_is_left_as_it_was() {
+    let s = Shortcuts::new("night_whole");
+    let before = s.names();
+    // No file may grow past its first byte, as on a disk that is full.
+    let limited = |words: &str| {
+        let line = format!("trap '' XFSZ; ulimit -f 0; {}", quoted(&s, words));
+        Said::of(Command::new("sh").arg("-c").arg(line).current_dir(&s.folder).output().unwrap())
+    };
+    let why = |name: &str| format!("herringnet: {}: cannot be written: File too large\n", name);
+    limited("rewrite --in-place loose.lnk z.lnk").is(3, "z.lnk: 80 bytes, canonical already\n", &why("loose.lnk"));
+    limited("rewrite -o z.lnk a.lnk").is(3, "", &why("z.lnk"));
+    limited("rewrite -o new.lnk a.lnk").is(3, "", &why("new.lnk"));
+    limited("rewrite --suffix .new a.lnk").is(3, "", &why("a.lnk.new"));
+    assert_eq!((s.get("loose.lnk"), s.get("z.lnk"), s.names()), (loose(), z(), before));
 }
 
 #[test]

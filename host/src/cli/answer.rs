@@ -5,14 +5,14 @@ use herringnet::json::Json;
 use herringnet::show::field::{members, text_json, Field};
 use herringnet::show::text::{Bytes, Hex};
 use herringnet::show::{lines, shown};
-use herringnet::{check, key, sections, target, Refusal, Section, Text};
+use herringnet::{check, key, listed, sections, target, Refusal, Section, Text};
 
 /// The answer to a command.
 pub enum Answer<'a> {
     /// The length.
     Accepted(usize),
-    /// The length and the sections.
-    Listing(usize, Vec<Section<'a>>),
+    /// All sections.
+    Listing(Vec<Section<'a>>),
     Target(Vec<u8>),
     Key(Vec<u8>),
     Fields(Vec<Field>),
@@ -23,7 +23,7 @@ impl<'a> Answer<'a> {
     pub fn to(command: Command, shortcut: &'a [u8]) -> Option<Result<Answer<'a>, Refusal>> {
         Some(match command {
             Command::Check => check(shortcut).map(Answer::Accepted),
-            Command::List => sections(shortcut).map(|sections| Answer::Listing(shortcut.len(), sections)),
+            Command::List => sections(shortcut).map(Answer::Listing),
             Command::Target => target(shortcut).map(Answer::Target),
             Command::Key => key(shortcut).map(Answer::Key),
             Command::Show => shown(shortcut).map(Answer::Fields),
@@ -35,13 +35,10 @@ impl<'a> Answer<'a> {
     pub fn text(&self) -> String {
         match self {
             Answer::Accepted(length) => format!("ok {}", length),
-            Answer::Listing(length, sections) => {
-                let sections: String = sections.iter().map(|section| format!("\n{}", section)).collect();
-                format!("ok {}{}", length, sections)
-            }
+            Answer::Listing(sections) => listed(sections).trim_end().to_string(),
             Answer::Target(text) => Bytes(text).to_string(),
             Answer::Key(bytes) => Hex(bytes).to_string(),
-            Answer::Fields(fields) => lines(fields).trim_end_matches('\n').to_string(),
+            Answer::Fields(fields) => lines(fields).trim_end().to_string(),
         }
     }
 
@@ -50,9 +47,10 @@ impl<'a> Answer<'a> {
         let one = |name: &str, value| vec![(name.to_string(), value)];
         match self {
             Answer::Accepted(length) => one("length", Json::number(*length as u64)),
-            Answer::Listing(length, sections) => {
+            Answer::Listing(sections) => {
+                let length: usize = sections.iter().map(Section::length).sum();
                 let sections = Json::Array(sections.iter().map(section_json).collect());
-                [one("length", Json::number(*length as u64)), one("sections", sections)].concat()
+                [one("length", Json::number(length as u64)), one("sections", sections)].concat()
             }
             Answer::Target(text) => one("target", text_json(&Text::of(false, text))),
             Answer::Key(bytes) => one("key", Json::string(Hex(bytes))),
