@@ -255,6 +255,11 @@ impl<'a> Record<'a> {
         Ok(out)
     }
 
+    /// Whether its bodies and all that stands around them could be longer than a shortcut.
+    pub(crate) fn may_be_long(&self) -> bool {
+        Put::of(self).body.len().saturating_add(FRAME) > LONGEST
+    }
+
     /// Refuses strings of another kind than bit 7 says: at the boundary their bytes would be taken for other texts.
     fn one_kind(&self) -> Result<(), Refusal> {
         match other_kind(self) {
@@ -266,7 +271,7 @@ impl<'a> Record<'a> {
     /// The refusal with the field at fault, where there is one.
     fn explained(&self, refusal: Refusal) -> Refusal {
         match refusal.fault {
-            Fault::Unwritable => Refusal { cause: Some(cause(self)), ..refusal },
+            Fault::Unwritable => Refusal { cause: cause(self), ..refusal },
             _ => refusal,
         }
     }

@@ -108,7 +108,7 @@ pub struct Refusal {
     pub fault: Fault,
     /// The start of the section at fault; 65,536 for LONG; 0 where the fault has no position.
     pub position: usize,
-    /// The field that makes a record unwritable; `None` for every other fault.
+    /// The field that makes a record unwritable, where it was found; `None` for every other fault.
     pub cause: Option<Cause>,
 }
 

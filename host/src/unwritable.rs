@@ -33,13 +33,13 @@ pub fn other_kind(record: &Record) -> Option<Cause> {
     StringName::ALL.iter().find(|name| other(name)).map(|name| Cause { field: name.words(), why })
 }
 
-/// The cause, for a record that the writer refuses. If every part passes alone, all of them are too long together.
-pub fn cause(record: &Record) -> Cause {
+/// The cause, for a record that the writer refuses. If every part passes alone, they can be too long together.
+pub fn cause(record: &Record) -> Option<Cause> {
     let alone = header(record).into_iter().chain(info(record)).chain(strings(record)).chain(blocks(record));
     let mut refused = alone.filter(|(_, _, part)| part.written().is_err());
-    let long = ("length", "the shortcut would have more than 65,536 bytes", Record::default());
-    let (field, why, _) = refused.next().unwrap_or(long);
-    Cause { field, why }
+    let first = refused.next().map(|(field, why, _)| Cause { field, why });
+    let long = Cause { field: "length", why: "the shortcut would have more than 65,536 bytes" };
+    first.or_else(|| record.may_be_long().then_some(long))
 }
 
 /// A field, what must be wrong with it if it is refused alone, and the record that has it alone.

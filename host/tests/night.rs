@@ -36,7 +36,7 @@ fn rewritten(name: &str, out: Stdio, why: &str) {
     let mut command = s.command(&["rewrite", "--in-place"]);
     let said = Said::of(command.args(&names).stdout(out).output().unwrap());
     assert!(names.iter().all(|name| s.get(name) == z()), "files are left");
-    said.is(3, "", &format!("herringnet: standard output: {}; lost: 50 lines, all else is done\n", why));
+    said.is(3, "", &format!("herringnet: standard output: {}; lost: 50 answers, all else is done\n", why));
     assert_eq!(s.names(), names);
 }
 
@@ -71,11 +71,11 @@ fn a_reader_that_has_gone_ends_what_only_prints() {
 #[test]
 fn lines_that_are_lost_are_told_of() {
     let s = Shortcuts::new("night_lost");
-    let lost = "herringnet: standard output: No space left on device; lost: 2 lines, all else is done\n";
+    let lost = "herringnet: standard output: No space left on device; lost: 2 answers, all else is done\n";
     for command in ["check", "list", "key", "show"] {
         Said::of(s.command(&[command, "a.lnk", "z.lnk"]).stdout(full_device()).output().unwrap()).is(3, "", lost);
     }
-    let one = lost.replace("2 lines", "1 line");
+    let one = lost.replace("2 answers", "1 answer");
     for words in [&["--help"][..], &["--version"], &["rewrite", "a.lnk"], &["target", "--raw", "a.lnk"]] {
         Said::of(s.command(words).stdout(full_device()).output().unwrap()).is(3, "", &one);
     }
@@ -97,7 +97,7 @@ fn shell(s: &Shortcuts, words: &str, redirection: &str) -> Said {
 #[test]
 fn a_closed_standard_output_is_no_success() {
     let s = Shortcuts::new("night_closed");
-    let closed = "herringnet: standard output: it is closed; lost: 1 line, all else is done\n";
+    let closed = "herringnet: standard output: it is closed; lost: 1 answer, all else is done\n";
     for words in ["check a.lnk", "key a.lnk", "--help", "rewrite a.lnk", "rewrite --in-place loose.lnk"] {
         shell(&s, words, ">&-").is(3, "", closed);
     }

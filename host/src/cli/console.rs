@@ -93,7 +93,7 @@ impl Console {
         self.progress.show(inputs);
     }
 
-    /// Tells of lost lines and gives the outcome. A reader that has gone has seen enough, unless `always` is asked for.
+    /// Tells of lost answers and gives the outcome. A reader that has gone has seen enough, unless `always` is asked for.
     pub fn finish(mut self, always: bool) -> Outcome {
         self.progress.erase();
         if self.lost > 0 {
@@ -102,7 +102,7 @@ impl Console {
         let told = always || !self.is_unread();
         match &self.out {
             Err(error) if self.lost > 0 && told => {
-                let lost = counted(self.lost, "line");
+                let lost = counted(self.lost, "answer");
                 let what = format!("standard output: {}; lost: {}, all else is done", reason(error), lost);
                 self.say(what);
             }
