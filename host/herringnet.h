@@ -1,6 +1,8 @@
-/* Reads, checks and writes Windows shortcuts (.LNK files): the proved functions of the archive libscheduler.a.
+/* Reads, checks and writes Windows shortcuts (.LNK files): the proved functions of Herringnet's archive.
  *
- * Link with the archive (x86-64 Linux):   cc program.c target/staticlib/libscheduler.a
+ * Link with libherringnet.a and nothing else than the C library (x86-64 Linux). Where it was installed:
+ *     cc program.c $(pkg-config --cflags --libs herringnet)
+ * In the repository the same archive is target/staticlib/libscheduler.a.
  *
  * Every function takes slices, each as a pointer and a length, and has no other condition than these:
  *   - a pointer with its length names memory that the caller may read, and for out and fields write; a null pointer
@@ -23,6 +25,10 @@
 extern "C" {
 #endif
 
+/* The version of this header, and the same as a number: 10,000 x the first part + 100 x the second + the third. */
+#define HERRINGNET_VERSION "0.1.0"
+#define HERRINGNET_VERSION_NUMBER 100
+
 /* The two parts of an answer. */
 #define HERRINGNET_NUMBER(answer) ((unsigned)((answer) % 256))
 #define HERRINGNET_VALUE(answer) ((size_t)((answer) / 256))
@@ -39,7 +45,7 @@ extern "C" {
 enum herringnet_number {
     HERRINGNET_OK = 0,
     HERRINGNET_LONG = 1,        /* over 65,536 bytes */
-    HERRINGNET_CUT = 2,         /* the bytes end before a field or declared size does */
+    HERRINGNET_CUT = 2,         /* it is cut off inside a field or a part */
     HERRINGNET_MAGIC = 3,       /* header size or class identifier */
     HERRINGNET_HEAD = 4,        /* another header rule */
     HERRINGNET_ITEMS = 5,       /* item list */
@@ -47,13 +53,37 @@ enum herringnet_number {
     HERRINGNET_PIECE = 7,       /* anything that LinkInfo's offsets lead to */
     HERRINGNET_BLOCK = 8,       /* an extra block */
     HERRINGNET_TRAIL = 9,       /* bytes after the terminal block */
-    HERRINGNET_PLACE = 10,      /* a body's place plus its length exceeds the body buffer's length */
+    HERRINGNET_PLACE = 10,      /* a body lies outside the body buffer */
     HERRINGNET_UNWRITABLE = 11, /* no shortcut reads as the record */
     HERRINGNET_ROOM = 12,       /* the room is too short */
     HERRINGNET_NOTARGET = 13,   /* no target text */
     HERRINGNET_FIELDS = 201,    /* the slice of fields has not 49 numbers; tested before all else */
     HERRINGNET_VALUES = 202     /* a number of fields does not fit its field; tested next */
 };
+
+/* The name of an answer's number, as "CUT"; "OTHER" for a number that this header does not know. */
+static inline const char *herringnet_name(unsigned number)
+{
+    switch (number) {
+    case HERRINGNET_OK: return "OK";
+    case HERRINGNET_LONG: return "LONG";
+    case HERRINGNET_CUT: return "CUT";
+    case HERRINGNET_MAGIC: return "MAGIC";
+    case HERRINGNET_HEAD: return "HEAD";
+    case HERRINGNET_ITEMS: return "ITEMS";
+    case HERRINGNET_INFO: return "INFO";
+    case HERRINGNET_PIECE: return "PIECE";
+    case HERRINGNET_BLOCK: return "BLOCK";
+    case HERRINGNET_TRAIL: return "TRAIL";
+    case HERRINGNET_PLACE: return "PLACE";
+    case HERRINGNET_UNWRITABLE: return "UNWRITABLE";
+    case HERRINGNET_ROOM: return "ROOM";
+    case HERRINGNET_NOTARGET: return "NOTARGET";
+    case HERRINGNET_FIELDS: return "FIELDS";
+    case HERRINGNET_VALUES: return "VALUES";
+    default: return "OTHER";
+    }
+}
 
 /* The names of sections, in the order of the listing. */
 enum herringnet_section_name {
@@ -136,7 +166,7 @@ uint64_t herringnet_check(const uint8_t *shortcut, size_t shortcut_len);
 uint64_t herringnet_target(const uint8_t *shortcut, size_t shortcut_len, uint8_t *out, size_t out_len);
 
 /* Puts the cache key into out: a byte 0 or 1 for bit 7 of LINK_FLAGS, then target text, arguments, working directory
- * and environment, the byte text of the first block A0000001 up to its zero. Each of the four is a byte 0 or 1 for its
+ * and environment, the byte text of the first block A0000001 up to its zero. Each of these four is a byte 0 or 1 for its
  * presence, its length in bytes as four bytes, little-endian, and its bytes; one that is absent has length 0. Two
  * accepted shortcuts have equal keys exactly if all this is equal. Success: the key's length, which is never more than
  * shortcut_len. Refusals: as herringnet_check, then ROOM. */

@@ -5,6 +5,6 @@ fn main() {
     assert_eq!(check(shortcut), Ok(459));
 
     let refusal = check(&shortcut[..458]).unwrap_err();
-    assert_eq!(refusal, Refusal { fault: Fault::Cut, position: 455 });
-    assert_eq!(refusal.to_string(), "refused 2 CUT at 455: the bytes end before a field or declared size does");
+    assert_eq!(refusal, Refusal::new(Fault::Cut, 455));
+    assert_eq!(refusal.to_string(), "refused 2 CUT at 455: it is cut off inside a field or a part");
 }

@@ -1,4 +1,4 @@
-use herringnet::{key, key_into, Fault, Record};
+use herringnet::{key, key_into, Fault, Record, StringName};
 
 fn main() {
     let shortcut = include_bytes!(concat!(env!("CARGO_MANIFEST_DIR"), "/samples/a.lnk"));
@@ -7,10 +7,10 @@ fn main() {
 
     // Another name and icon: the same key. Other arguments: another key, even if they are empty.
     let mut record = Record::read(shortcut).unwrap();
-    record.name = Some(b"n\0");
+    record.set(StringName::Name, "n").unwrap();
     record.header.icon_index = 7;
     assert_eq!(key(&record.to_vec().unwrap()).unwrap(), first);
-    record.arguments = Some(b"");
+    record.set(StringName::Arguments, "").unwrap();
     assert_ne!(key(&record.to_vec().unwrap()).unwrap(), first);
 
     // Into a buffer of the caller's; a refusal leaves it as it was.

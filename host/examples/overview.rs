@@ -1,15 +1,16 @@
-use herringnet::{check, target, Record};
+use herringnet::{check, target, Record, StringName};
 
 fn main() {
     let shortcut = include_bytes!(concat!(env!("CARGO_MANIFEST_DIR"), "/samples/a.lnk"));
     assert_eq!(check(shortcut), Ok(459));
     assert_eq!(target(shortcut).unwrap(), br"C:\test\a.txt");
 
-    // A copy with other arguments; its strings have two-byte characters, as LinkFlags bit 7 says.
+    // A copy with other arguments; LinkFlags bit 7 is set, so that each character takes two bytes.
     let mut record = Record::read(shortcut).unwrap();
-    let arguments = [b'-', 0, b'g', 0, b'1', 0];
-    record.arguments = Some(&arguments);
+    record.set(StringName::Arguments, "-g1").unwrap();
     let patched = record.to_vec().unwrap();
-    assert_eq!(Record::read(&patched).unwrap().arguments, Some(&arguments[..]));
+    let arguments = Record::read(&patched).unwrap().arguments.unwrap();
+    assert_eq!(arguments.bytes(), b"-\0g\x001\0");
+    assert_eq!(arguments.decode().as_deref(), Some("-g1"));
     assert_eq!(patched.len(), 459 + 2 + 6);
 }

@@ -1,8 +1,9 @@
 //! The six proved functions, as they stand in the archive.
 //!
-//! This is the only file with `unsafe` in it. Every answer is one number: a number of document 01's table (0 for
-//! success) + 256 × a value, which is the length of a success or the position of a refusal. A refusal changes no
-//! byte of `out` and no number of `fields`. The other modules take these answers apart.
+//! Every answer is one number: a number of document 01's table (0 for success) + 256 × a value, which is the length
+//! of a success or the position of a refusal. A refusal changes no byte of `out` and no number of `fields`. The other
+//! modules take these answers apart. This is the only file with `unsafe` in it, so two calls of the system that the
+//! command line needs stand at its end.
 
 // A slice of the Rattle source is a pointer and a length here. The comments are the lines of that source
 // (crates/scheduler/src/lib.rt); a test compares them.
@@ -59,4 +60,31 @@ pub fn read(shortcut: &[u8], fields: &mut [u64]) -> u64 {
 /// Writes the record in `fields`, its bodies in `body`, to the front of `out`; the value of a success is the length.
 pub fn write(fields: &[u64], body: &[u8], out: &mut [u8]) -> u64 {
     unsafe { herringnet_write(fields.as_ptr(), fields.len(), body.as_ptr(), body.len(), out.as_mut_ptr(), out.len()) }
+}
+
+/// Two calls of the system for the command line, which Rust 1.63's library has no safe form of.
+#[doc(hidden)]
+pub mod system {
+    use std::fs::File;
+    use std::io;
+    use std::os::unix::io::AsRawFd;
+
+    // Both take numbers alone, and answer a number: no memory is lent.
+    extern "C" {
+        fn fchown(file: i32, owner: u32, group: u32) -> i32;
+        fn isatty(file: i32) -> i32;
+    }
+
+    /// Gives a file to an owner and a group.
+    pub fn give(file: &File, owner: u32, group: u32) -> io::Result<()> {
+        match unsafe { fchown(file.as_raw_fd(), owner, group) } {
+            0 => Ok(()),
+            _ => Err(io::Error::last_os_error()),
+        }
+    }
+
+    /// Whether a person sees what is written there.
+    pub fn is_terminal(stream: &impl AsRawFd) -> bool {
+        unsafe { isatty(stream.as_raw_fd()) == 1 }
+    }
 }

@@ -13,16 +13,27 @@
 #[allow(unsafe_code)]
 pub mod boundary;
 pub mod fields;
+pub mod json;
 pub mod record;
 mod refusal;
 mod section;
 pub mod show;
+pub mod text;
+mod unwritable;
 
 pub use record::Record;
 pub use refusal::{Fault, Refusal};
-pub use section::{listing, section, sections, Section, SectionName};
+pub use section::{listed, listing, section, sections, Section, SectionName};
+pub use text::{StringName, Text};
+pub use unwritable::Cause;
 
 use refusal::answer;
+
+/// The requests of document 02 whose rules this package and its archive follow.
+pub const REQUESTS: [&str; 3] = ["01", "02", "03"];
+
+/// The SHA-256 of the archive that is linked, in hex.
+pub const ARCHIVE_DIGEST: &str = env!("HERRINGNET_DIGEST");
 
 /// The most bytes that a shortcut may have.
 pub const LONGEST: usize = 65_536;
@@ -70,7 +81,7 @@ pub fn target_into(shortcut: &[u8], out: &mut [u8]) -> Result<usize, Refusal> {
 /// The cache key of a shortcut: equal for two accepted shortcuts exactly if all that it is made of is equal.
 ///
 /// That is a byte 0 or 1 for LinkFlags bit 7, and then target text, arguments, working directory and environment, the
-/// byte text of the first block A0000001 up to its zero. Each of the four is a byte 0 or 1 for its presence, its
+/// byte text of the first block A0000001 up to its zero. Each of these four is a byte 0 or 1 for its presence, its
 /// length in bytes as four bytes, little-endian, and its bytes; one that is absent has length 0. A missing target is
 /// absent, and no refusal.
 ///

@@ -4,7 +4,9 @@
 //! bits of the format that tell of presence follow from it.
 use crate::boundary;
 use crate::fields::{self, FIELDS};
-use crate::refusal::{answer, Refusal};
+use crate::refusal::{answer, Fault, Refusal};
+use crate::text::{Misfit, StringName, Text};
+use crate::unwritable::{cause, other_kind};
 use crate::LONGEST;
 
 /// The record of a shortcut. Its bodies are slices: after reading, parts of the shortcut.
@@ -24,16 +26,17 @@ pub struct Record<'a> {
     pub items: Option<&'a [u8]>,
     /// LinkInfo.
     pub info: Option<Info<'a>>,
-    /// The name. It and the next four are of two-byte characters where [`Header::is_unicode`], else of bytes.
-    pub name: Option<&'a [u8]>,
+    /// The name. It and the next four are Unicode texts where [`Header::is_unicode`], else texts of bytes;
+    /// [`Record::set`] sees to that.
+    pub name: Option<Text<'a>>,
     /// The relative path.
-    pub relative: Option<&'a [u8]>,
+    pub relative: Option<Text<'a>>,
     /// The working directory.
-    pub workdir: Option<&'a [u8]>,
+    pub workdir: Option<Text<'a>>,
     /// The arguments.
-    pub arguments: Option<&'a [u8]>,
+    pub arguments: Option<Text<'a>>,
     /// The icon's location.
-    pub icon: Option<&'a [u8]>,
+    pub icon: Option<Text<'a>>,
     /// All blocks before the terminal, end to end.
     pub blocks: &'a [u8],
 }
@@ -89,8 +92,9 @@ impl Header {
     }
 }
 
-/// LinkInfo. Its flags and the length of its head follow from what is there.
+/// LinkInfo. Its flags and the length of its head follow from what is there. `Info::default()` has an empty suffix alone.
 #[derive(Clone, Debug, Default, PartialEq, Eq)]
+#[non_exhaustive]
 pub struct Info<'a> {
     /// Volume and local path.
     pub local: Option<Local<'a>>,
@@ -100,6 +104,28 @@ pub struct Info<'a> {
     pub suffix: &'a [u8],
     /// The Unicode texts, which a long head has and a short one lacks.
     pub unicode: Option<InfoUnicode<'a>>,
+}
+
+impl<'a> Info<'a> {
+    /// The same with this volume and local path.
+    pub fn with_local(self, local: Local<'a>) -> Info<'a> {
+        Info { local: Some(local), ..self }
+    }
+
+    /// The same with this network link.
+    pub fn with_network(self, network: Network<'a>) -> Info<'a> {
+        Info { network: Some(network), ..self }
+    }
+
+    /// The same with this suffix.
+    pub fn with_suffix(self, suffix: &'a [u8]) -> Info<'a> {
+        Info { suffix, ..self }
+    }
+
+    /// The same with a long head and these Unicode texts.
+    pub fn with_unicode(self, unicode: InfoUnicode<'a>) -> Info<'a> {
+        Info { unicode: Some(unicode), ..self }
+    }
 }
 
 /// The Unicode texts of a LinkInfo with a long head.
@@ -124,7 +150,7 @@ pub struct Local<'a> {
     pub path: &'a [u8],
 }
 
-/// A volume label is one of two kinds.
+/// A volume label, of bytes or of units.
 #[derive(Clone, Copy, Debug, PartialEq, Eq)]
 pub enum Label<'a> {
     /// A text of bytes.
@@ -170,28 +196,84 @@ impl<'a> Record<'a> {
         Ok(Taken { shortcut, numbers }.record())
     }
 
+    /// A string's text, if it is there.
+    pub fn string(&self, name: StringName) -> Option<&Text<'a>> {
+        let texts = [&self.name, &self.relative, &self.workdir, &self.arguments, &self.icon];
+        texts[name as usize].as_ref()
+    }
+
+    /// Where a string's text stands, to change it or to take it away.
+    pub fn string_mut(&mut self, name: StringName) -> &mut Option<Text<'a>> {
+        match name {
+            StringName::Name => &mut self.name,
+            StringName::Relative => &mut self.relative,
+            StringName::Workdir => &mut self.workdir,
+            StringName::Arguments => &mut self.arguments,
+            StringName::Icon => &mut self.icon,
+        }
+    }
+
+    /// Gives a string this text, in two-byte characters where LinkFlags bit 7 is set, else in windows-1252.
+    ///
+    /// # Errors
+    ///
+    /// The first character that windows-1252 lacks, for a record without bit 7; nothing is changed then.
+    pub fn set(&mut self, name: StringName, text: &str) -> Result<(), Misfit> {
+        let text = Text::encode(self.header.is_unicode(), text)?;
+        *self.string_mut(name) = Some(text);
+        Ok(())
+    }
+
     /// Writes the shortest shortcut that reads as this record to the front of `out`, and gives its length.
     ///
     /// # Errors
     ///
-    /// [`Fault::Unwritable`](crate::Fault::Unwritable) if no shortcut reads as it, then
-    /// [`Fault::Room`](crate::Fault::Room). A refusal changes no byte of `out`.
+    /// [`Fault::Unwritable`] if no shortcut reads as it, with the field at fault, then [`Fault::Room`]. A refusal
+    /// changes no byte of `out`.
     pub fn write(&self, out: &mut [u8]) -> Result<usize, Refusal> {
+        self.one_kind()?;
         let put = Put::of(self);
-        answer(boundary::write(&put.numbers, &put.body, out))
+        answer(boundary::write(&put.numbers, &put.body, out)).map_err(|refusal| self.explained(refusal))
     }
 
     /// The shortest shortcut that reads as this record.
     ///
     /// # Errors
     ///
-    /// [`Fault::Unwritable`](crate::Fault::Unwritable).
+    /// [`Fault::Unwritable`], with the field at fault.
     pub fn to_vec(&self) -> Result<Vec<u8>, Refusal> {
+        self.one_kind()?;
+        self.written().map_err(|refusal| self.explained(refusal))
+    }
+
+    /// The writer's own answer.
+    pub(crate) fn written(&self) -> Result<Vec<u8>, Refusal> {
         let put = Put::of(self);
         let mut out = vec![0; LONGEST.min(put.body.len().saturating_add(FRAME))];
         let length = answer(boundary::write(&put.numbers, &put.body, &mut out))?;
         out.truncate(length);
         Ok(out)
+    }
+
+    /// Whether its bodies and all that stands around them could be longer than a shortcut.
+    pub(crate) fn may_be_long(&self) -> bool {
+        Put::of(self).body.len().saturating_add(FRAME) > LONGEST
+    }
+
+    /// Refuses strings of another kind than bit 7 says: at the boundary their bytes would be taken for other texts.
+    fn one_kind(&self) -> Result<(), Refusal> {
+        match other_kind(self) {
+            Some(cause) => Err(Refusal { cause: Some(cause), ..Refusal::new(Fault::Unwritable, 0) }),
+            None => Ok(()),
+        }
+    }
+
+    /// The refusal with the field at fault, where there is one.
+    fn explained(&self, refusal: Refusal) -> Refusal {
+        match refusal.fault {
+            Fault::Unwritable => Refusal { cause: cause(self), ..refusal },
+            _ => refusal,
+        }
     }
 
     /// LinkFlags as they are written: bits 0 to 6 from what is there, the others from the header.
@@ -226,15 +308,20 @@ impl<'a> Taken<'a> {
         &self.shortcut[start..start + length]
     }
 
-    /// A string, which is there by its bit of LinkFlags.
-    fn string(&self, bit: u32, field: usize) -> Option<&'a [u8]> {
+    /// A body that is there by its bit of LinkFlags.
+    fn body_if(&self, bit: u32, field: usize) -> Option<&'a [u8]> {
         (self.number(fields::LINK_FLAGS) >> bit & 1 == 1).then(|| self.body(field))
+    }
+
+    fn string(&self, bit: u32, field: usize) -> Option<Text<'a>> {
+        let unicode = self.header().is_unicode();
+        self.body_if(bit, field).map(|bytes| Text::of(unicode, bytes))
     }
 
     fn record(&self) -> Record<'a> {
         Record {
             header: self.header(),
-            items: self.string(0, fields::ITEMS_AT),
+            items: self.body_if(0, fields::ITEMS_AT),
             info: (self.number(fields::LINK_FLAGS) & 2 != 0).then(|| self.info()),
             name: self.string(2, fields::NAME_AT),
             relative: self.string(3, fields::RELATIVE_AT),
@@ -313,11 +400,9 @@ impl Put {
         if let Some(info) = &record.info {
             put.info(info);
         }
-        put.body(fields::NAME_AT, record.name);
-        put.body(fields::RELATIVE_AT, record.relative);
-        put.body(fields::WORKDIR_AT, record.workdir);
-        put.body(fields::ARGUMENTS_AT, record.arguments);
-        put.body(fields::ICON_AT, record.icon);
+        for (name, field) in StringName::ALL.iter().zip((fields::NAME_AT..).step_by(2)) {
+            put.body(field, record.string(*name).map(Text::bytes));
+        }
         put.body(fields::BLOCKS_AT, Some(record.blocks));
         put
     }

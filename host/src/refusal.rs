@@ -1,4 +1,5 @@
 //! Why a call refuses, and where.
+use crate::unwritable::Cause;
 use std::error::Error;
 use std::fmt;
 
@@ -8,7 +9,7 @@ use std::fmt;
 pub enum Fault {
     /// 1: over 65,536 bytes.
     Long,
-    /// 2: the bytes end before a field or declared size does.
+    /// 2: it is cut off inside a field or a part.
     Cut,
     /// 3: header size or class identifier.
     Magic,
@@ -43,7 +44,7 @@ pub enum Fault {
 /// Number, name and reason of every fault that has a name.
 const TABLE: [(Fault, u8, &str, &str); 15] = [
     (Fault::Long, 1, "LONG", "it has more than 65,536 bytes"),
-    (Fault::Cut, 2, "CUT", "the bytes end before a field or declared size does"),
+    (Fault::Cut, 2, "CUT", "it is cut off inside a field or a part"),
     (Fault::Magic, 3, "MAGIC", "header size or class identifier is not that of a shortcut"),
     (Fault::Head, 4, "HEAD", "the header breaks another rule of its fields"),
     (Fault::Items, 5, "ITEMS", "the item list is wrong"),
@@ -92,16 +93,31 @@ impl Fault {
     }
 }
 
+/// Number and name, as `2 CUT`.
+impl fmt::Display for Fault {
+    fn fmt(&self, f: &mut fmt::Formatter<'_>) -> fmt::Result {
+        write!(f, "{} {}", self.number(), self.name())
+    }
+}
+
 /// A refusal: why, and the position that document 01 gives for it.
 #[derive(Clone, Copy, Debug, PartialEq, Eq, Hash)]
+#[non_exhaustive]
 pub struct Refusal {
     /// Why.
     pub fault: Fault,
     /// The start of the section at fault; 65,536 for LONG; 0 where the fault has no position.
     pub position: usize,
+    /// The field that makes a record unwritable, where it was found; `None` for every other fault.
+    pub cause: Option<Cause>,
 }
 
 impl Refusal {
+    /// A refusal without a cause.
+    pub fn new(fault: Fault, position: usize) -> Refusal {
+        Refusal { fault, position, cause: None }
+    }
+
     /// The number in document 01's table.
     pub fn number(&self) -> u8 {
         self.fault.number()
@@ -115,8 +131,8 @@ impl Refusal {
 
 impl fmt::Display for Refusal {
     fn fmt(&self, f: &mut fmt::Formatter<'_>) -> fmt::Result {
-        let Refusal { fault, position } = self;
-        write!(f, "refused {} {} at {}: {}", fault.number(), fault.name(), position, fault.reason())
+        write!(f, "refused {} at {}: {}", self.fault, self.position, self.fault.reason())?;
+        self.cause.map_or(Ok(()), |cause| write!(f, "; {}", cause))
     }
 }
 
@@ -127,7 +143,7 @@ pub(crate) fn answer(code: u64) -> Result<usize, Refusal> {
     let value = (code / 256) as usize;
     match (code % 256) as u8 {
         0 => Ok(value),
-        number => Err(Refusal { fault: Fault::of(number), position: value }),
+        number => Err(Refusal::new(Fault::of(number), value)),
     }
 }
 
@@ -142,13 +158,14 @@ mod tests {
         }
         assert_eq!((1..=13).map(|n| Fault::of(n).name()).filter(|name| *name == "OTHER").count(), 0);
         assert_eq!(Fault::of(14), Fault::Other(14));
+        assert_eq!((Fault::Cut.to_string(), Fault::of(14).to_string()), ("2 CUT".to_string(), "14 OTHER".to_string()));
     }
 
     #[test]
     fn answers_are_taken_apart() {
         assert_eq!(answer(256 * 80), Ok(80));
         let refusal = answer(2 + 256 * 76).unwrap_err();
-        assert_eq!(refusal, Refusal { fault: Fault::Cut, position: 76 });
-        assert_eq!(refusal.to_string(), "refused 2 CUT at 76: the bytes end before a field or declared size does");
+        assert_eq!(refusal, Refusal::new(Fault::Cut, 76));
+        assert_eq!(refusal.to_string(), "refused 2 CUT at 76: it is cut off inside a field or a part");
     }
 }

@@ -79,7 +79,7 @@ impl fmt::Display for Section<'_> {
     }
 }
 
-/// A section asked for by its name, and a block also by its number, from 0; `None` if it is not there.
+/// A section asked for by its name, and a block by its number too, which counts from 0; `None` if it is not there.
 ///
 /// In a refused shortcut nothing is there.
 ///
@@ -125,15 +125,18 @@ fn blocks(shortcut: &[u8], from: usize, to: usize) -> impl Iterator<Item = Secti
     })
 }
 
-/// The listing of document 01: a line of `ok` and the length, then a line per section of name, start and length.
+/// The listing of document 01: a line of `ok` and the length, and for each section its name, start and length.
 ///
 /// # Errors
 ///
 /// The verdict of [`check`], where that is a refusal.
 pub fn listing(shortcut: &[u8]) -> Result<String, Refusal> {
-    let mut text = format!("ok {}\n", check(shortcut)?);
-    for section in sections(shortcut)? {
-        text += &format!("{}\n", section);
-    }
-    Ok(text)
+    Ok(listed(&sections(shortcut)?))
+}
+
+/// The listing of all sections of a shortcut.
+pub fn listed(sections: &[Section]) -> String {
+    let length: usize = sections.iter().map(Section::length).sum();
+    let lines: String = sections.iter().map(|section| format!("{}\n", section)).collect();
+    format!("ok {}\n{}", length, lines)
 }

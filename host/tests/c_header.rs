@@ -30,7 +30,31 @@ fn a_c_program_gets_the_same_answers() {
     fs::write(&sample, SAMPLE).unwrap();
     let done = run_on(&mut program(compiled(&folder)), &sample);
     assert!(done.status.success());
-    assert_eq!(text(&done.stdout), include_str!("c/expected.txt"));
+    let (answers, names) = text(&done.stdout).split_at(text(&done.stdout).find("name 0").unwrap());
+    assert_eq!(answers, include_str!("c/expected.txt"));
+    let name = |number| if number == 0 { "OK" } else { Fault::of(number).name() };
+    let mut expected: String = (0..=255).map(|number| format!("name {} {}\n", number, name(number))).collect();
+    let parts = env!("CARGO_PKG_VERSION").split('.').map(|part| part.parse::<u32>().unwrap());
+    let number = parts.fold(0, |number, part| number * 100 + part);
+    expected += &format!("version {} {}\n", env!("CARGO_PKG_VERSION"), number);
+    assert_eq!(names, expected);
+}
+
+#[test]
+fn the_header_is_one_for_cplusplus_too() {
+    let folder = folder("cplusplus");
+    let program = folder.join("use.cc");
+    fs::write(&program, b"#include \"herringnet.h\"\nint main() { return herringnet_name(2)[0] != 'C'; }\n").unwrap();
+    let cc = env::var_os("HERRINGNET_CC").unwrap_or_else(|| "cc".into());
+    let cplusplus = cc.to_str().unwrap().replace("gcc", "g++");
+    let mut command = Command::new(if cplusplus == "cc" { "c++" } else { &cplusplus });
+    command
+        .args(["-Wall", "-Wextra", "-Wpedantic", "-Werror", "-fsyntax-only", "-I", env!("CARGO_MANIFEST_DIR")])
+        .arg(program);
+    match command.output() {
+        Ok(done) => assert!(done.status.success(), "{}", text(&done.stderr)),
+        Err(_) => eprintln!("not tried: there is no compiler for C++"),
+    }
 }
 
 /// The enumerators that begin with a prefix, with their numbers.

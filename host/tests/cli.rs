@@ -1,15 +1,15 @@
 //! The command line: every command, one file and several, refusals, files that cannot be read, standard input.
 mod common;
 
-use common::{folder, program, run_on, text, SAMPLE};
+use common::shortcuts::{z, Said, Shortcuts};
+use common::{run_on, text, SAMPLE};
 use herringnet::record::{Header, Info, InfoUnicode, Label, Local, Network, NetworkUnicode, Record};
-use std::ffi::OsStr;
+use herringnet::Text;
 use std::fs;
 use std::io::Write;
-use std::os::unix::ffi::OsStrExt;
-use std::os::unix::fs::{symlink, MetadataExt, PermissionsExt};
-use std::path::{Path, PathBuf};
-use std::process::{Command, Output, Stdio};
+use std::os::unix::fs::{symlink, PermissionsExt};
+use std::path::Path;
+use std::process::Stdio;
 
 const SAMPLE_LISTING: &str = "ok 459\nheader 0 76\nitems 76 191\ninfo 267 60\nrelative 327 16\nworkdir 343 16\n\
                               block 359 96\nend 455 4\n";
@@ -24,92 +24,12 @@ const SAMPLE_KEY: &str = "01\
 /// Nothing is there.
 const Z_KEY: &str = "000000000000000000000000000000000000000000";
 
-/// A folder with shortcuts in it.
-struct Shortcuts {
-    folder: PathBuf,
-}
-
-impl Shortcuts {
-    /// The sample, the shortest shortcut, one that is cut, one that is too long, and one that is not canonical.
-    fn new(name: &str) -> Shortcuts {
-        let shortcuts = Shortcuts { folder: folder(name) };
-        let mut loose = z();
-        loose[76] = 3;
-        shortcuts.put("a.lnk", SAMPLE);
-        shortcuts.put("z.lnk", &z());
-        shortcuts.put("cut.lnk", &z()[..79]);
-        shortcuts.put("long.lnk", &vec![0; 1 << 20]);
-        shortcuts.put("loose.lnk", &loose);
-        shortcuts
-    }
-
-    fn put(&self, name: &str, bytes: &[u8]) {
-        fs::write(self.folder.join(name), bytes).unwrap();
-    }
-
-    fn get(&self, name: &str) -> Vec<u8> {
-        fs::read(self.folder.join(name)).unwrap()
-    }
-
-    /// The system's own number of a file: another one after it was replaced.
-    fn number(&self, name: &str) -> u64 {
-        fs::metadata(self.folder.join(name)).unwrap().ino()
-    }
-
-    fn names(&self) -> Vec<String> {
-        let entries = fs::read_dir(&self.folder).unwrap();
-        let mut names: Vec<String> = entries.map(|entry| entry.unwrap().file_name().into_string().unwrap()).collect();
-        names.sort();
-        names
-    }
-
-    fn command(&self, words: &[&str]) -> Command {
-        let mut command = program(env!("CARGO_BIN_EXE_herringnet"));
-        command.args(words).current_dir(&self.folder);
-        command
-    }
-
-    /// Runs the program with nothing on standard input.
-    fn run(&self, words: &[&str]) -> Said {
-        Said::of(self.command(words).stdin(Stdio::null()).output().unwrap())
-    }
-
-    /// Runs the program with a file on standard input.
-    fn run_on(&self, words: &[&str], input: &str) -> Said {
-        Said::of(run_on(&mut self.command(words), &self.folder.join(input)))
-    }
-}
-
-/// What a run wrote, and its exit status.
-struct Said {
-    status: i32,
-    out: Vec<u8>,
-    err: String,
-}
-
-impl Said {
-    fn of(output: Output) -> Said {
-        let err = text(&output.stderr).to_string();
-        Said { status: output.status.code().unwrap(), out: output.stdout, err }
-    }
-
-    #[track_caller]
-    fn is(&self, status: i32, out: &str, err: &str) {
-        assert_eq!((self.status, text(&self.out), self.err.as_str()), (status, out, err));
-    }
-}
-
-/// The 80-byte shortcut of document 01.
-fn z() -> Vec<u8> {
-    Record::default().to_vec().unwrap()
-}
-
 #[test]
 fn check_says_a_line_for_each_file() {
     let s = Shortcuts::new("check");
     s.run(&["check", "a.lnk"]).is(0, "a.lnk: ok 459\n", "");
     s.run(&["check", "a.lnk", "z.lnk"]).is(0, "a.lnk: ok 459\nz.lnk: ok 80\n", "");
-    let cut = "cut.lnk: refused 2 CUT at 76: the bytes end before a field or declared size does\n";
+    let cut = "cut.lnk: refused 2 CUT at 76: it is cut off inside a field or a part\n";
     let long = "long.lnk: refused 1 LONG at 65536: it has more than 65,536 bytes\n";
     s.run(&["check", "cut.lnk"]).is(1, cut, "");
     s.run(&["check", "cut.lnk", "z.lnk", "long.lnk"]).is(1, &format!("{}z.lnk: ok 80\n{}", cut, long), "");
@@ -130,8 +50,8 @@ fn list_prints_the_listing() {
 fn target_prints_the_text() {
     let s = Shortcuts::new("target");
     let local = Local { drive: 3, serial: 0, label: Label::Byte(b""), path: b"C:\\caf\xE9 <1>" };
-    let info = Info { local: Some(local), ..Info::default() };
-    s.put("e.lnk", &Record { info: Some(info), ..Record::default() }.to_vec().unwrap());
+    let info = Some(Info::default().with_local(local));
+    s.put("e.lnk", &Record { info, ..Record::default() }.to_vec().unwrap());
     s.run(&["target", "a.lnk"]).is(0, "C:\\test\\a.txt\n", "");
     s.run(&["target", "e.lnk"]).is(0, "C:\\caf<E9> <3C>1>\n", "");
     assert_eq!(s.run(&["target", "--raw", "e.lnk"]).out, b"C:\\caf\xE9 <1>");
@@ -145,7 +65,7 @@ fn target_prints_the_text() {
 #[test]
 fn key_prints_hex_and_the_name() {
     let s = Shortcuts::new("key");
-    let cut = "herringnet: cut.lnk: refused 2 CUT at 76: the bytes end before a field or declared size does\n";
+    let cut = "herringnet: cut.lnk: refused 2 CUT at 76: it is cut off inside a field or a part\n";
     let long = "herringnet: long.lnk: refused 1 LONG at 65536: it has more than 65,536 bytes\n";
     s.run(&["key", "a.lnk"]).is(0, &format!("{} a.lnk\n", SAMPLE_KEY), "");
     let several = format!("{} a.lnk\n{} z.lnk\n", SAMPLE_KEY, Z_KEY);
@@ -153,7 +73,7 @@ fn key_prints_hex_and_the_name() {
     s.run(&["key", "cut.lnk", "a.lnk", "long.lnk", "z.lnk"]).is(1, &several, &format!("{}{}", cut, long));
     s.run(&["key", "cut.lnk"]).is(1, "", cut);
     s.put("two\nlines", &z());
-    s.run(&["key", "two\nlines"]).is(0, &format!("{} two\\nlines\n", Z_KEY), "");
+    s.run(&["key", "two\nlines"]).is(0, &format!("{} two<U+000A>lines\n", Z_KEY), "");
     s.run(&["key", "loose.lnk"]).is(0, &format!("{} loose.lnk\n", Z_KEY), "");
 }
 
@@ -163,7 +83,7 @@ fn show_prints_every_field() {
     s.run(&["show", "a.lnk"]).is(0, include_str!("shown/a.txt"), "");
     s.put("network.lnk", &network());
     s.run(&["show", "network.lnk"]).is(0, include_str!("shown/network.txt"), "");
-    let cut = "herringnet: cut.lnk: refused 2 CUT at 76: the bytes end before a field or declared size does\n";
+    let cut = "herringnet: cut.lnk: refused 2 CUT at 76: it is cut off inside a field or a part\n";
     let both = format!("a.lnk:\n{}\na.lnk:\n{0}", include_str!("shown/a.txt"));
     s.run(&["show", "a.lnk", "a.lnk"]).is(0, &both, "");
     s.run(&["show", "cut.lnk"]).is(1, "", cut);
@@ -179,14 +99,14 @@ fn network() -> Vec<u8> {
         device: Some(b"Z:"),
         unicode: Some(NetworkUnicode { net: b"\\\0\xE9\0", device: b"Z\0" }),
     };
-    let unicode = Some(InfoUnicode { local: b"Z\0\x00\xD8", suffix: b"\x3D\xD8\x00\xDE" });
+    let unicode = InfoUnicode { local: b"Z\0\x00\xD8", suffix: b"\x3D\xD8\x00\xDE" };
     let header = Header { creation: u64::MAX, icon_index: -7, command: 7, hotkey: 0x0646, ..Header::default() };
     Record {
         header,
-        info: Some(Info { local: Some(local), network: Some(network), suffix: b"cc", unicode }),
-        name: Some(b"one\0two"),
-        relative: Some(b""),
-        icon: Some(b"\xE9.ico"),
+        info: Some(Info::default().with_local(local).with_network(network).with_suffix(b"cc").with_unicode(unicode)),
+        name: Some(Text::of(false, b"one\0two")),
+        relative: Some(Text::of(false, b"")),
+        icon: Some(Text::of(false, b"\xE9.ico")),
         blocks: b"\x08\0\0\0\x01\0\0\0\x0C\0\0\0\x04\0\0\xA0\x07\0\0\0",
         ..Record::default()
     }
@@ -200,7 +120,7 @@ fn rewrite_writes_the_canonical_form() {
     let said = s.run(&["rewrite", "loose.lnk"]);
     assert_eq!((said.status, said.out, said.err.as_str()), (0, z(), ""));
     assert_eq!(s.run(&["rewrite", "a.lnk"]).out, SAMPLE);
-    let refused = "herringnet: cut.lnk: refused 2 CUT at 76: the bytes end before a field or declared size does\n";
+    let refused = "herringnet: cut.lnk: refused 2 CUT at 76: it is cut off inside a field or a part\n";
     s.run(&["rewrite", "cut.lnk"]).is(1, "", refused);
     assert_eq!(s.run(&["rewrite", "a.lnk", "z.lnk"]).status, 2);
 }
@@ -218,11 +138,11 @@ fn rewrite_to_a_named_file() {
     fs::remove_file(s.folder.join("new.lnk")).unwrap();
     assert_eq!(s.run(&["rewrite", "-o", "new.lnk", "cut.lnk"]).status, 1);
     let folder = "herringnet: .: cannot be written: it is not an ordinary file\n";
-    s.run(&["rewrite", "-o", ".", "a.lnk"]).is(1, "", folder);
+    s.run(&["rewrite", "-o", ".", "a.lnk"]).is(3, "", folder);
     let nowhere = "herringnet: no/where: cannot be written: No such file or directory\n";
-    s.run(&["rewrite", "-o", "no/where", "a.lnk"]).is(1, "", nowhere);
+    s.run(&["rewrite", "-o", "no/where", "a.lnk"]).is(3, "", nowhere);
     let device = "herringnet: /dev/null: cannot be written: it is not an ordinary file\n";
-    s.run(&["rewrite", "-o", "/dev/null", "a.lnk"]).is(1, "", device);
+    s.run(&["rewrite", "-o", "/dev/null", "a.lnk"]).is(3, "", device);
     assert_eq!(s.names(), before);
 }
 
@@ -234,8 +154,8 @@ fn rewrite_in_place() {
     symlink("loose.lnk", s.folder.join("link.lnk")).unwrap();
     let (before, untouched) = (s.names(), s.number("a.lnk"));
     let said = s.run(&["rewrite", "--in-place", "cut.lnk", "link.lnk", "a.lnk"]);
-    let refused = "herringnet: cut.lnk: refused 2 CUT at 76: the bytes end before a field or declared size does\n";
-    said.is(1, "link.lnk: 80 bytes, from 80\na.lnk: 459 bytes, from 459\n", refused);
+    let refused = "herringnet: cut.lnk: refused 2 CUT at 76: it is cut off inside a field or a part\n";
+    said.is(1, "link.lnk: 80 bytes, from 80\na.lnk: 459 bytes, canonical already\n", refused);
     assert_eq!((s.get("cut.lnk"), s.get("loose.lnk"), s.get("a.lnk")), (z()[..79].to_vec(), z(), SAMPLE.to_vec()));
     assert_eq!(fs::metadata(&loose).unwrap().permissions().mode() & 0o777, 0o640);
     assert!(fs::symlink_metadata(s.folder.join("link.lnk")).unwrap().is_symlink());
@@ -254,7 +174,7 @@ fn rewrite_beside() {
     assert_eq!((s.get("loose.lnk.new"), s.get("a.lnk.new"), s.get("loose.lnk")[76]), (z(), SAMPLE.to_vec(), 3));
     assert!(!s.folder.join("cut.lnk.new").exists());
     let there = "herringnet: a.lnk.new: cannot be written: File exists\n";
-    s.run(&["rewrite", "--suffix", ".new", "a.lnk"]).is(1, "", there);
+    s.run(&["rewrite", "--suffix", ".new", "a.lnk"]).is(3, "", there);
     assert_eq!(s.get("a.lnk.new"), SAMPLE);
 }
 
@@ -262,43 +182,33 @@ fn rewrite_beside() {
 fn files_that_cannot_be_read_are_passed_over() {
     let s = Shortcuts::new("unreadable");
     let missing = "herringnet: none.lnk: cannot be read: No such file or directory\n";
-    let folder = "herringnet: .: cannot be read: Is a directory\n";
+    let folder = "herringnet: .: cannot be read: it is a folder; -r goes through folders\n";
     for command in ["check", "list", "target", "key", "show", "rewrite"] {
-        s.run(&[command, "none.lnk"]).is(1, "", missing);
+        s.run(&[command, "none.lnk"]).is(3, "", missing);
     }
     let said = s.run(&["check", "none.lnk", ".", "z.lnk"]);
-    said.is(1, "z.lnk: ok 80\n", &format!("{}{}", missing, folder));
+    said.is(3, "z.lnk: ok 80\n", &format!("{}{}", missing, folder));
     let said = s.run(&["rewrite", "--in-place", "none.lnk", "loose.lnk"]);
-    said.is(1, "loose.lnk: 80 bytes, from 80\n", missing);
-    s.run(&["check", "two\nlines"]).is(1, "", "herringnet: two\\nlines: cannot be read: No such file or directory\n");
+    said.is(3, "loose.lnk: 80 bytes, from 80\n", missing);
 }
 
 #[test]
 fn standard_input_is_a_file_like_others() {
     let s = Shortcuts::new("standard");
-    s.run_on(&["check"], "a.lnk").is(0, "standard input: ok 459\n", "");
-    s.run_on(&["check", "z.lnk", "-"], "a.lnk").is(0, "z.lnk: ok 80\nstandard input: ok 459\n", "");
+    s.run_on(&["check"], "a.lnk").is(0, "<standard input>: ok 459\n", "");
+    s.run_on(&["check", "z.lnk", "-"], "a.lnk").is(0, "z.lnk: ok 80\n<standard input>: ok 459\n", "");
     s.run_on(&["list", "-"], "a.lnk").is(0, SAMPLE_LISTING, "");
     s.run_on(&["list"], "long.lnk").is(1, "refused 1 65536\n", "");
     s.run_on(&["target"], "a.lnk").is(0, "C:\\test\\a.txt\n", "");
     s.run_on(&["key"], "a.lnk").is(0, &format!("{}\n", SAMPLE_KEY), "");
     s.run_on(&["key", "-"], "a.lnk").is(0, &format!("{}\n", SAMPLE_KEY), "");
-    let both = format!("{} z.lnk\n{} standard input\n", Z_KEY, SAMPLE_KEY);
+    let both = format!("{} z.lnk\n{} <standard input>\n", Z_KEY, SAMPLE_KEY);
     s.run_on(&["key", "z.lnk", "-"], "a.lnk").is(0, &both, "");
     s.run_on(&["show"], "a.lnk").is(0, include_str!("shown/a.txt"), "");
     assert_eq!(s.run_on(&["rewrite"], "loose.lnk").out, z());
     assert_eq!(s.run_on(&["rewrite", "--in-place"], "loose.lnk").status, 2);
     assert_eq!(s.run_on(&["check", "-", "-"], "a.lnk").status, 2);
     s.run(&["list"]).is(1, "refused 2 0\n", "");
-}
-
-#[test]
-fn names_need_not_be_text() {
-    let s = Shortcuts::new("names");
-    let name = OsStr::from_bytes(b"caf\xE9.lnk");
-    fs::write(s.folder.join(name), z()).unwrap();
-    let said = Said::of(s.command(&["check"]).arg(name).output().unwrap());
-    said.is(0, "caf\u{FFFD}.lnk: ok 80\n", "");
 }
 
 #[test]
@@ -317,13 +227,15 @@ fn a_closed_pipe_ends_the_run_quietly() {
     let mut child = command.stdin(Stdio::piped()).stdout(Stdio::piped()).stderr(Stdio::piped()).spawn().unwrap();
     drop(child.stdout.take());
     child.stdin.take().unwrap().write_all(SAMPLE).unwrap();
-    Said::of(child.wait_with_output().unwrap()).is(1, "", "");
+    Said::of(child.wait_with_output().unwrap()).is(3, "", "");
 }
 
 #[test]
 fn help_and_version() {
     let s = Shortcuts::new("help");
-    let version = format!("herringnet {}\n", env!("CARGO_PKG_VERSION"));
+    let (version, digest) = (env!("CARGO_PKG_VERSION"), herringnet::ARCHIVE_DIGEST);
+    let requests = herringnet::REQUESTS.join(", ");
+    let version = format!("herringnet {}\narchive sha256 {}\nrequests {}\n", version, digest, requests);
     s.run(&["--version"]).is(0, &version, "");
     let all = s.run(&["--help"]);
     assert!(all.status == 0 && all.err.is_empty());
@@ -332,28 +244,60 @@ fn help_and_version() {
         let said = s.run(&[command, "--help"]);
         assert!(said.status == 0 && text(&said.out).starts_with(&format!("usage: herringnet {}", command)));
     }
+    for status in ["  0  every", "  1  a shortcut was refused", "  2  the command", "  3  a file could not"] {
+        assert!(text(&all.out).contains(&format!("\n{}", status)));
+    }
+}
+
+#[test]
+fn the_readme_shows_what_is_printed() {
+    let root = Path::new(env!("CARGO_MANIFEST_DIR")).join("..");
+    let readme = fs::read_to_string(root.join("README.md")).unwrap();
+    let s = Shortcuts { folder: root };
+    for command in ["check", "key"] {
+        let words = [command, "host/samples/a.lnk"];
+        let shown = format!("    $ ./herringnet {}\n    {}", words.join(" "), text(&s.run(&words).out));
+        assert!(readme.contains(&shown), "{}", shown);
+    }
+    let help = s.run(&["--help"]);
+    for command in ["check", "list", "target", "key", "show", "rewrite"] {
+        assert!(
+            readme.contains(&format!("| `{}` |", command)) && text(&help.out).contains(&format!("\n  {} ", command))
+        );
+    }
 }
 
 #[test]
 fn words_that_make_no_sense() {
     let s = Shortcuts::new("usage");
     let see = "herringnet: see herringnet --help\n";
-    let wrong: [(&[&str], &str); 12] = [
+    let one_of = "-o, --in-place and --suffix exclude each other, and each may stand once";
+    let wrong: [(&[&str], &str); 25] = [
         (&[], "a command is missing"),
         (&["frobnicate"], "there is no command frobnicate"),
+        (&["two\nlines"], "there is no command two<U+000A>lines"),
+        (&["help", "frobnicate"], "there is no help for frobnicate"),
+        (&["help", "key", "list"], "the word list is one too many"),
+        (&["--version", "a.lnk"], "the word a.lnk is one too many"),
         (&["check", "--raw"], "check has no option --raw"),
         (&["key", "--raw", "a.lnk"], "key has no option --raw"),
+        (&["rewrite", "--json", "a.lnk"], "rewrite has no option --json"),
         (&["list", "-x", "a.lnk"], "list has no option -x"),
         (&["rewrite", "-o"], "-o needs a value"),
-        (&["rewrite", "--suffix", "", "a.lnk"], "a suffix is not empty and has no slash"),
-        (&["rewrite", "--suffix", "/x", "a.lnk"], "a suffix is not empty and has no slash"),
+        (&["rewrite", "--output=", "a.lnk"], "--output needs a value"),
+        (&["rewrite", "--in-place=x", "a.lnk"], "--in-place takes no value"),
+        (&["check", "-r0", "a.lnk"], "-r takes no value"),
+        (&["rewrite", "--suffix", "", "a.lnk"], "--suffix needs a value"),
+        (&["rewrite", "--suffix", "/x", "a.lnk"], "a suffix has no slash"),
         (&["rewrite", "-o", "x", "a.lnk", "z.lnk"], "-o takes one input"),
         (&["rewrite", "a.lnk", "z.lnk"], "without --in-place or --suffix there can be one input"),
         (&["rewrite", "--suffix", ".x"], "--in-place and --suffix need files"),
-        (
-            &["rewrite", "--in-place", "-o", "x", "a.lnk"],
-            "-o, --in-place and --suffix exclude each other, and each may stand once",
-        ),
+        (&["rewrite", "--in-place", "-o", "x", "a.lnk"], one_of),
+        (&["check", "-r"], "-r needs a FILE to go through"),
+        (&["check", "--all-files", "."], "--all-files goes with -r"),
+        (&["target", "--raw", "-r", "."], "--raw takes one input"),
+        (&["target", "--raw", "--json", "a.lnk"], "--raw excludes --json and -0"),
+        (&["check", "--files-from", "-", "-"], "standard input can be read only once"),
     ];
     for (words, why) in wrong {
         s.run(words).is(2, "", &format!("herringnet: {}\n{}", why, see));

@@ -3,14 +3,14 @@ mod common;
 
 use common::{rows, SAMPLE};
 use herringnet::record::{Header, Info, InfoUnicode, Label, Local, Network, NetworkUnicode, Record};
-use herringnet::{boundary, check, key, sections, target, Fault, Refusal, SectionName};
+use herringnet::{boundary, check, key, sections, target, Fault, Refusal, SectionName, Text};
 use std::collections::HashSet;
 
 /// A part of a key that is not there.
 const ABSENT: &[u8] = &[0; 5];
 
 fn local(path: &'static [u8]) -> Info<'static> {
-    Info { local: Some(Local { drive: 3, serial: 1, label: Label::Byte(b""), path }), ..Info::default() }
+    Info::default().with_local(Local { drive: 3, serial: 1, label: Label::Byte(b""), path })
 }
 
 /// A block with a byte text and an empty Unicode text; what follows their zeros is not zero.
@@ -28,15 +28,19 @@ fn environment(text: &[u8]) -> Vec<u8> {
     block(0xA000_0001, text)
 }
 
+fn unicode(bytes: &[u8]) -> Option<Text<'_>> {
+    Some(Text::of(true, bytes))
+}
+
 /// A record in which every part of the key is there.
 fn full(blocks: &[u8]) -> Record<'_> {
     let header = Header { flags: 0x80, ..Header::default() };
-    let info = Info { suffix: b"cc", ..local(br"C:\bin") };
+    let info = local(br"C:\bin").with_suffix(b"cc");
     Record {
         header,
         info: Some(info),
-        workdir: Some(b"w\0d\0"),
-        arguments: Some(b"-\0g\x001\0"),
+        workdir: unicode(b"w\0d\0"),
+        arguments: unicode(b"-\0g\x001\0"),
         blocks,
         ..Record::default()
     }
@@ -60,7 +64,7 @@ fn every_part_in_its_order() {
 #[test]
 fn a_target_on_the_network() {
     let network = Network { net: br"\\farm\cc", ..Network::default() };
-    let info = Info { network: Some(network), suffix: b"rv64", ..Info::default() };
+    let info = Info::default().with_network(network).with_suffix(b"rv64");
     let target = b"\x01\x0E\0\0\0\\\\farm\\cc\\rv64";
     let found = key_of(&Record { info: Some(info), ..Record::default() });
     assert_eq!(found, [&[0], &target[..], ABSENT, ABSENT, ABSENT].concat());
@@ -77,8 +81,9 @@ fn nothing_is_there() {
 fn what_is_empty_is_not_absent() {
     let with = |arguments, workdir| key_of(&Record { arguments, workdir, ..Record::default() });
     let empty: &[u8] = &[1, 0, 0, 0, 0];
-    assert_eq!(with(Some(&[]), None), [&[0], ABSENT, empty, ABSENT, ABSENT].concat());
-    assert_eq!(with(None, Some(&[])), [&[0], ABSENT, ABSENT, empty, ABSENT].concat());
+    let nothing = Some(Text::of(false, b""));
+    assert_eq!(with(nothing.clone(), None), [&[0], ABSENT, empty, ABSENT, ABSENT].concat());
+    assert_eq!(with(None, nothing), [&[0], ABSENT, ABSENT, empty, ABSENT].concat());
     let target = Record { info: Some(local(b"")), ..Record::default() };
     assert_eq!(key_of(&target), [&[0], empty, ABSENT, ABSENT, ABSENT].concat());
     let blocks = environment(b"");
@@ -88,8 +93,8 @@ fn what_is_empty_is_not_absent() {
 
 #[test]
 fn a_missing_target_is_absent() {
-    let hidden = Record { header: Header { flags: 0x100, ..Header::default() }, ..full(b"") };
-    let neither = Record { info: Some(Info { suffix: b"cc", ..Info::default() }), ..full(b"") };
+    let hidden = Record { header: Header { flags: 0x180, ..Header::default() }, ..full(b"") };
+    let neither = Record { info: Some(Info::default().with_suffix(b"cc")), ..full(b"") };
     let no_info = Record { info: None, ..full(b"") };
     for record in [hidden, neither, no_info] {
         let shortcut = record.to_vec().unwrap();
@@ -127,8 +132,8 @@ fn same_key(blocks: &[u8]) -> Vec<Record<'_>> {
     let plain = full(blocks);
     let mut network = plain.clone();
     let info = network.info.as_mut().unwrap();
-    let unicode = Some(NetworkUnicode { net: b"n\0", device: b"d\0" });
-    info.network = Some(Network { provider: Some(7), net: br"\\other", device: Some(b"Z:"), unicode });
+    let names = Some(NetworkUnicode { net: b"n\0", device: b"d\0" });
+    info.network = Some(Network { provider: Some(7), net: br"\\other", device: Some(b"Z:"), unicode: names });
     info.unicode = Some(InfoUnicode { local: b"D\0", suffix: b"s\0" });
     let mut volume = plain.clone();
     let label = Label::Unicode(b"L\0");
@@ -145,8 +150,8 @@ fn same_key(blocks: &[u8]) -> Vec<Record<'_>> {
         hotkey: 0x0646,
     };
     // One target from other texts, with the backslash in one of them or between them.
-    let parted = Info { suffix: b"cc", ..local(br"C:\bin\") };
-    let apart = Info { suffix: br"bin\cc", ..local(br"C:") };
+    let parted = local(br"C:\bin\").with_suffix(b"cc");
+    let apart = local(br"C:").with_suffix(br"bin\cc");
     vec![
         network,
         volume,
@@ -154,7 +159,7 @@ fn same_key(blocks: &[u8]) -> Vec<Record<'_>> {
         Record { info: Some(parted), ..plain.clone() },
         Record { info: Some(apart), ..plain.clone() },
         Record { items: Some(b"\x04\0ab"), ..plain.clone() },
-        Record { name: Some(b"n\0"), relative: Some(b"r\0"), icon: Some(b"i\0"), ..plain.clone() },
+        Record { name: unicode(b"n\0"), relative: unicode(b"r\0"), icon: unicode(b"i\0"), ..plain.clone() },
         plain,
     ]
 }
@@ -186,9 +191,11 @@ fn no_two_differ_and_have_one_key() {
         for target in ENDED {
             let record =
                 Record { header: Header { flags, ..Header::default() }, info: target.map(local), ..Record::default() };
-            for (arguments, workdir) in TEXTS.iter().flat_map(|one| TEXTS.map(|two| (*one, two))) {
+            for (one, two) in TEXTS.iter().flat_map(|one| TEXTS.map(|two| (*one, two))) {
+                let [arguments, workdir] = [one, two].map(|text| text.map(|bytes| Text::of(flags == 0x80, bytes)));
+                let record = Record { arguments, workdir, ..record.clone() };
                 for blocks in &blocks {
-                    assert!(keys.insert(key_of(&Record { arguments, workdir, blocks, ..record.clone() })));
+                    assert!(keys.insert(key_of(&Record { blocks, ..record.clone() })));
                 }
             }
         }
@@ -199,8 +206,8 @@ fn no_two_differ_and_have_one_key() {
 #[test]
 fn the_last_character_of_the_arguments_counts() {
     // Two cores whose arguments differ where a count of characters, taken for one of bytes, would end them.
-    let one = Record { arguments: Some(b"-\0m\x001\0"), ..full(b"") };
-    let two = Record { arguments: Some(b"-\0m\x002\0"), ..full(b"") };
+    let one = Record { arguments: unicode(b"-\0m\x001\0"), ..full(b"") };
+    let two = Record { arguments: unicode(b"-\0m\x002\0"), ..full(b"") };
     assert_ne!(key_of(&one), key_of(&two));
 }
 
@@ -250,12 +257,12 @@ fn every_proper_beginning_is_refused() {
 fn the_longest() {
     let text = vec![b'x'; 65_536];
     let frame = 76 + 2 + 4;
-    let longest = Record { arguments: Some(&text[frame..]), ..Record::default() }.to_vec().unwrap();
+    let longest = Record { arguments: Some(Text::of(false, &text[frame..])), ..Record::default() }.to_vec().unwrap();
     assert_eq!(check(&longest), Ok(65_536));
     let head = (65_536 - frame as u32).to_le_bytes();
     let expected = [&[0], ABSENT, &[1], &head, &text[frame..], ABSENT, ABSENT].concat();
     assert_eq!(key(&longest).unwrap(), expected);
-    let long = Refusal { fault: Fault::Long, position: 65_536 };
+    let long = Refusal::new(Fault::Long, 65_536);
     assert_eq!(key(&[longest, vec![0]].concat()), Err(long));
 }
 
@@ -274,7 +281,8 @@ fn from_parts(shortcut: &[u8]) -> Result<Vec<u8>, Refusal> {
     let block = blocks.find(|block| block.bytes[4..8] == *b"\x01\0\0\xA0");
     let environment = block.and_then(|block| block.bytes[8..].split(|&byte| byte == 0).next());
     let mut key = vec![u8::from(record.header.is_unicode())];
-    for part in [target.as_deref(), record.arguments, record.workdir, environment] {
+    let (arguments, workdir) = (record.arguments.as_ref(), record.workdir.as_ref());
+    for part in [target.as_deref(), arguments.map(Text::bytes), workdir.map(Text::bytes), environment] {
         let bytes = part.unwrap_or_default();
         key.push(part.is_some().into());
         key.extend((bytes.len() as u32).to_le_bytes());

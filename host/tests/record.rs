@@ -5,7 +5,7 @@ use common::SAMPLE;
 use herringnet::boundary;
 use herringnet::fields::FIELDS;
 use herringnet::record::{Header, Info, InfoUnicode, Label, Local, Network, NetworkUnicode, Record, Window};
-use herringnet::{check, section, sections, target, Fault, SectionName, LONGEST};
+use herringnet::{check, section, sections, target, Fault, SectionName, StringName, Text, LONGEST};
 
 /// What can be there or not, a bit each.
 const CHOICES: u32 = 15;
@@ -13,11 +13,11 @@ const CHOICES: u32 = 15;
 /// A record in which bit `n` of `choice` says whether the n-th part is there; all texts differ.
 fn record(choice: u32) -> Record<'static> {
     let there = |bit: u32| choice >> bit & 1 == 1;
-    let string = |bit: u32, text: &'static [u8]| there(bit).then_some(text);
+    let string = |bit: u32, text: &'static [u8]| there(bit).then(|| Text::of(there(0), text));
     let flags = if there(0) { 0x0400_0080 } else { 0x0400_0000 };
     Record {
         header: Header { flags, attributes: 0x20, creation: 1, access: 2, write: u64::MAX, ..header() },
-        items: string(1, b"\x04\0ab\x02\0"),
+        items: there(1).then_some(b"\x04\0ab\x02\0"),
         info: there(2).then(|| info(choice)),
         name: string(3, b"na"),
         relative: string(4, b""),
@@ -43,14 +43,13 @@ fn info(choice: u32) -> Info<'static> {
         unicode: there(14)
             .then_some(NetworkUnicode { net: b"n\0\x01\x02", device: if there(13) { b"Z\0" } else { b"" } }),
     };
-    Info {
-        local: there(9).then_some(local),
-        network: there(11).then_some(network),
-        suffix: b"suffix",
-        // The long head has no bit of its own: it comes with every second combination of the others.
-        unicode: (choice.count_ones() % 2 == 0)
-            .then_some(InfoUnicode { local: if there(9) { b"l\0" } else { b"" }, suffix: b"s\x02" }),
-    }
+    let mut info = Info::default().with_suffix(b"suffix");
+    info.local = there(9).then_some(local);
+    info.network = there(11).then_some(network);
+    // The long head has no bit of its own: it comes with every second combination of the others.
+    info.unicode = (choice.count_ones() % 2 == 0)
+        .then_some(InfoUnicode { local: if there(9) { b"l\0" } else { b"" }, suffix: b"s\x02" });
+    info
 }
 
 /// What the proved reader and writer make of a shortcut without the record of this package.
@@ -114,8 +113,8 @@ fn numbers(row: &[u32]) -> Vec<u8> {
 #[test]
 fn every_field_stands_where_the_format_has_it() {
     let full = record((1 << CHOICES) - 1);
-    let unicode = Some(InfoUnicode { local: b"l\0", suffix: b"s\x02" });
-    let full = Record { info: full.info.map(|info| Info { unicode, ..info }), ..full };
+    let unicode = InfoUnicode { local: b"l\0", suffix: b"s\x02" };
+    let full = Record { info: full.info.map(|info| info.with_unicode(unicode)), ..full };
     assert_eq!(full.to_vec().unwrap(), full_bytes());
     assert_eq!(Record::read(&full_bytes()).unwrap().info, full.info);
 }
@@ -169,7 +168,7 @@ fn presence_follows_from_what_is_there() {
     assert_eq!(Record::default().to_vec().unwrap().len(), 80);
     // Texts beside an absent local path or device are not looked at.
     let (local, device) = (b"odd".as_slice(), b"\0\0".as_slice());
-    let mut info = Info { unicode: Some(InfoUnicode { local, suffix: b"" }), ..Info::default() };
+    let mut info = Info::default().with_unicode(InfoUnicode { local, suffix: b"" });
     info.network = Some(Network { unicode: Some(NetworkUnicode { net: b"", device }), ..Network::default() });
     let shortcut = Record { info: Some(info), ..Record::default() }.to_vec().unwrap();
     let read = Record::read(&shortcut).unwrap().info.unwrap();
@@ -182,17 +181,108 @@ fn wrong_records_are_unwritable() {
     let refused = |record: Record| record.to_vec().unwrap_err();
     let unwritable = refused(Record { header: Header { attributes: 8, ..Header::default() }, ..Record::default() });
     assert_eq!((unwritable.fault, unwritable.position), (Fault::Unwritable, 0));
-    assert_eq!(unwritable.to_string(), "refused 11 UNWRITABLE at 0: no shortcut reads as this record");
+    let words = "refused 11 UNWRITABLE at 0: no shortcut reads as this record; \
+                 file attributes: bit 3, bit 6 or one above 14 is set";
+    assert_eq!(unwritable.to_string(), words);
     let unicode = Header { flags: 0x80, ..Header::default() };
-    assert_eq!(refused(Record { header: unicode, name: Some(b"odd"), ..Record::default() }).number(), 11);
+    assert_eq!(
+        refused(Record { header: unicode, name: Some(Text::of(true, b"odd")), ..Record::default() }).number(),
+        11
+    );
     assert_eq!(refused(Record { items: Some(b"\x05\0a"), ..Record::default() }).number(), 11);
     assert_eq!(refused(Record { blocks: b"\x04\0\0\0", ..Record::default() }).number(), 11);
+}
+
+/// A wrong record, the field that is to be named and a part of the reason.
+type Wrong<'a> = (Record<'a>, &'static str, &'static str);
+
+fn wrong_infos(long: &[u8]) -> Vec<Wrong<'_>> {
+    let local = Local { drive: 3, serial: 1, label: Label::Byte(b"l"), path: b"p" };
+    let with = |info| Record { info: Some(info), ..Record::default() };
+    let with_local = |local| with(Info::default().with_local(local));
+    let network = Network { net: b"n", device: Some(b"d"), ..Network::default() };
+    let with_network = |network| with(Info::default().with_network(network));
+    let names = |net, device| Some(NetworkUnicode { net, device });
+    let path = InfoUnicode { local: b"odd", suffix: b"" };
+    let suffix = InfoUnicode { local: b"", suffix: b"a\0\0\0" };
+    vec![
+        (with_local(Local { drive: 7, ..local.clone() }), "drive type", "above 6"),
+        (with_local(Local { label: Label::Byte(b"\0"), ..local.clone() }), "volume label", "zero"),
+        (with_local(Local { label: Label::Unicode(b"a"), ..local.clone() }), "Unicode label", "odd"),
+        (with_local(Local { path: b"a\0b", ..local.clone() }), "local path", "zero"),
+        (with_local(Local { path: long, ..local.clone() }), "local path", "too long"),
+        (with_network(Network { net: b"\0", ..network.clone() }), "net name", "zero"),
+        (with_network(Network { device: Some(b"\0"), ..network.clone() }), "device name", "zero"),
+        (with_network(Network { unicode: names(b"a", b""), ..network.clone() }), "Unicode net name", "odd"),
+        (with_network(Network { unicode: names(b"", b"\0\0"), ..network }), "Unicode device name", "zero"),
+        (with(Info::default().with_suffix(b"\0")), "suffix", "zero"),
+        (with(Info::default().with_local(local).with_unicode(path)), "Unicode local path", "odd"),
+        (with(Info::default().with_unicode(suffix)), "Unicode suffix", "zero"),
+    ]
+}
+
+fn wrong_others(long: &[u8]) -> Vec<Wrong<'_>> {
+    let none = Record::default;
+    let header = |header| Record { header, ..Record::default() };
+    let flags = Header { flags: 0x80, ..Header::default() };
+    let half = Some(Text::of(false, &long[..40_000]));
+    vec![
+        (header(Header { flags: 1 << 27, ..Header::default() }), "link flags", "above 26"),
+        (header(Header { attributes: 1 << 15, ..Header::default() }), "file attributes", "above 14"),
+        (header(Header { hotkey: 0x0600, ..Header::default() }), "hot key", "tables"),
+        (Record { items: Some(b"\x05\0a"), ..none() }, "items", "end to end"),
+        (Record { header: flags, name: Some(Text::of(true, b"odd")), ..none() }, "name", "odd"),
+        (Record { icon: Some(Text::of(false, long)), ..none() }, "icon location", "characters"),
+        (
+            Record { header: flags, workdir: Some(Text::of(false, b"wd")), ..none() },
+            "working directory",
+            "says Unicode",
+        ),
+        (Record { relative: Some(Text::of(true, b"r\0")), ..none() }, "relative path", "says bytes"),
+        (Record { blocks: b"\x04\0\0\0", ..none() }, "blocks", "end to end"),
+        (Record { name: half.clone(), arguments: half, ..none() }, "length", "65,536"),
+    ]
+}
+
+#[test]
+fn an_unwritable_record_names_its_field() {
+    let long = vec![b'a'; 70_000];
+    for (record, field, why) in wrong_infos(&long).into_iter().chain(wrong_others(&long)) {
+        let mut out = [0xEE; 100];
+        for refusal in [record.to_vec().unwrap_err(), record.write(&mut out).unwrap_err()] {
+            let cause = refusal.cause.unwrap();
+            assert_eq!((refusal.fault, cause.field), (Fault::Unwritable, field));
+            assert!(cause.why.contains(why), "{}", refusal);
+            assert!(refusal.to_string().ends_with(&format!("; {}: {}", field, cause.why)));
+        }
+        assert_eq!(out, [0xEE; 100]);
+    }
+    assert_eq!(Record::default().write(&mut []).unwrap_err().cause, None);
+}
+
+#[test]
+fn a_text_is_set_in_the_kind_of_the_record() {
+    for (flags, bytes) in [(0, &b"-D\x80"[..]), (0x80, b"-\0D\0\xAC\x20")] {
+        for name in StringName::ALL {
+            let mut record = Record { header: Header { flags, ..Header::default() }, ..Record::default() };
+            record.set(name, "-D€").unwrap();
+            let shortcut = record.to_vec().unwrap();
+            let read = Record::read(&shortcut).unwrap();
+            let text = read.string(name).unwrap();
+            assert_eq!((text.bytes(), text.decode().as_deref()), (bytes, Some("-D€")));
+            assert_eq!(StringName::ALL.iter().filter(|other| read.string(**other).is_some()).count(), 1);
+        }
+    }
+    let mut record = Record::default();
+    let misfit = record.set(StringName::Arguments, "-mΩ").unwrap_err();
+    assert_eq!((misfit.character, misfit.place, record), ('Ω', 2, Record::default()));
 }
 
 #[test]
 fn the_longest_records() {
     let text = vec![b'a'; 70_000];
-    let with = |name, icon| Record { name: Some(name), icon: Some(icon), ..Record::default() }.to_vec();
+    let of = |text| Some(Text::of(false, text));
+    let with = |name, icon| Record { name: of(name), icon: of(icon), ..Record::default() }.to_vec();
     let frame = 76 + 2 + 2 + 4;
     let longest = with(&text[..40_000], &text[..LONGEST - frame - 40_000]).unwrap();
     assert_eq!(check(&longest), Ok(LONGEST));
@@ -206,7 +296,8 @@ fn the_bodies_are_parts_of_the_shortcut() {
     let inside = |part: &[u8]| SAMPLE.as_ptr_range().contains(&part.as_ptr());
     let info = record.info.unwrap();
     assert!(inside(record.items.unwrap()) && inside(info.local.unwrap().path) && inside(info.suffix));
-    assert!(inside(record.relative.unwrap()) && inside(record.workdir.unwrap()) && inside(record.blocks));
+    let texts = [record.relative.unwrap(), record.workdir.unwrap()];
+    assert!(texts.iter().all(|text| inside(text.bytes())) && inside(record.blocks));
     assert!(sections(SAMPLE).unwrap().iter().all(|section| inside(section.bytes)));
 }
 

@@ -43,6 +43,14 @@ fn declarations_have_the_parameters_of_their_line() {
 }
 
 #[test]
+fn the_requests_are_those_with_a_note() {
+    let notes = std::fs::read_dir(concat!(env!("CARGO_MANIFEST_DIR"), "/../docs/requests")).unwrap();
+    let names: BTreeSet<String> = notes.map(|note| note.unwrap().file_name().into_string().unwrap()).collect();
+    let requests: BTreeSet<String> = herringnet::REQUESTS.iter().map(|number| format!("{}.md", number)).collect();
+    assert_eq!(names, requests);
+}
+
+#[test]
 fn only_the_boundary_is_unsafe() {
     let folder = concat!(env!("CARGO_MANIFEST_DIR"), "/src");
     let mut left = vec![std::path::PathBuf::from(folder)];
@@ -52,6 +60,8 @@ fn only_the_boundary_is_unsafe() {
         } else if !path.ends_with("boundary.rs") {
             let text = std::fs::read_to_string(&path).unwrap();
             assert!(!text.contains("unsafe {") && !text.contains("unsafe fn"), "{}", path.display());
+            // What runs before Rust's own start is in one place too.
+            assert!(path.ends_with("streams.rs") || !text.contains("link_section"), "{}", path.display());
         }
     }
 }

@@ -21,18 +21,18 @@ const TEXTS: [(&[u8], &[u8], &[u8]); 12] = [
 ];
 
 fn local(first: &'static [u8]) -> Info<'static> {
-    Info { local: Some(Local { drive: 3, serial: 1, label: Label::Byte(b""), path: first }), ..Info::default() }
+    Info::default().with_local(Local { drive: 3, serial: 1, label: Label::Byte(b""), path: first })
 }
 
 fn network(first: &'static [u8]) -> Info<'static> {
-    Info { network: Some(Network { net: first, ..Network::default() }), ..Info::default() }
+    Info::default().with_network(Network { net: first, ..Network::default() })
 }
 
 /// Shortcuts whose target has these two texts: a local one and one on the network.
 fn shortcuts(first: &'static [u8], suffix: &'static [u8]) -> [Vec<u8>; 2] {
     [local(first), network(first)].map(|info| {
         let header = Header::default();
-        Record { header, info: Some(Info { suffix, ..info }), ..Record::default() }.to_vec().unwrap()
+        Record { header, info: Some(info.with_suffix(suffix)), ..Record::default() }.to_vec().unwrap()
     })
 }
 

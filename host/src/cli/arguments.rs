@@ -1,8 +1,12 @@
 //! The words of the command line, made into a plan.
-use super::files::Input;
-use super::help;
-use super::run::{Command, Output, Run};
-use std::ffi::OsString;
+use super::command::Command;
+use super::input::Input;
+use super::options::{choices, Asks, Choice};
+use super::run::{Output, Run};
+use super::{help, manual};
+use herringnet::show::text::Name;
+use std::ffi::{OsStr, OsString};
+use std::os::unix::ffi::OsStrExt;
 use std::path::PathBuf;
 
 /// What the command line asks for.
@@ -14,57 +18,70 @@ pub enum Plan {
 }
 
 /// The plan, or why the words make no sense.
-pub fn parse(words: impl Iterator<Item = OsString>) -> Result<Plan, String> {
-    let mut words = words;
+pub fn parse(mut words: impl Iterator<Item = OsString>) -> Result<Plan, String> {
     let first = words.next().ok_or("a command is missing")?;
-    let command = match first.to_str() {
-        Some("--help" | "-h" | "help") => return Ok(Plan::Print(help::ALL.to_string())),
-        Some("--version" | "-V") => return Ok(Plan::Print(version())),
-        Some(word) => command(word),
-        None => None,
-    };
-    let command = command.ok_or_else(|| format!("there is no command {}", first.to_string_lossy()))?;
-    let mut given = Given::default();
-    while let Some(word) = words.next() {
-        if given.take(command, word, &mut words)? {
-            return Ok(Plan::Print(help_for(command).to_string()));
-        }
+    match first.to_str() {
+        Some("--help" | "-h" | "help") => help_for(words),
+        Some("--version" | "-V") => only(words, version()),
+        word => match word.and_then(Command::of) {
+            Some(command) => run(command, words),
+            None => Err(format!("there is no command {}", shown(&first))),
+        },
     }
-    given.plan(command)
+}
+
+/// A word in a message.
+fn shown(word: &OsStr) -> String {
+    Name(word.as_bytes()).to_string()
+}
+
+/// A text to print, if no word is left over.
+fn only(mut words: impl Iterator<Item = OsString>, text: String) -> Result<Plan, String> {
+    match words.next() {
+        Some(word) => Err(format!("the word {} is one too many", shown(&word))),
+        None => Ok(Plan::Print(text)),
+    }
+}
+
+fn help_for(mut words: impl Iterator<Item = OsString>) -> Result<Plan, String> {
+    let word = match words.next() {
+        Some(word) => word,
+        None => return Ok(Plan::Print(help::all())),
+    };
+    let text = match word.to_str() {
+        Some("man") => Some(manual::page()),
+        Some("bash") => Some(manual::completion()),
+        word => word.and_then(Command::of).map(help::of),
+    };
+    only(words, text.ok_or_else(|| format!("there is no help for {}", shown(&word)))?)
 }
 
 fn version() -> String {
-    format!("herringnet {}\n", env!("CARGO_PKG_VERSION"))
+    let requests = herringnet::REQUESTS.join(", ");
+    let (version, digest) = (env!("CARGO_PKG_VERSION"), herringnet::ARCHIVE_DIGEST);
+    format!("herringnet {}\narchive sha256 {}\nrequests {}\n", version, digest, requests)
 }
 
-fn command(word: &str) -> Option<Command> {
-    Some(match word {
-        "check" => Command::Check,
-        "list" => Command::List,
-        "target" => Command::Target,
-        "key" => Command::Key,
-        "show" => Command::Show,
-        "rewrite" => Command::Rewrite,
-        _ => return None,
-    })
-}
-
-fn help_for(command: Command) -> &'static str {
-    match command {
-        Command::Check => help::CHECK,
-        Command::List => help::LIST,
-        Command::Target => help::TARGET,
-        Command::Key => help::KEY,
-        Command::Show => help::SHOW,
-        Command::Rewrite => help::REWRITE,
+fn run(command: Command, mut words: impl Iterator<Item = OsString>) -> Result<Plan, String> {
+    let mut given = Given::default();
+    while let Some(word) = words.next() {
+        if given.take(command, word, &mut words)? {
+            return Ok(Plan::Print(help::of(command)));
+        }
     }
+    given.plan(command)
 }
 
 /// What has been given so far.
 #[derive(Default)]
 struct Given {
     inputs: Vec<Input>,
+    lists: Vec<Input>,
     outputs: Vec<Output>,
+    recursive: bool,
+    all_files: bool,
+    zero: bool,
+    json: bool,
     raw: bool,
     files_only: bool,
 }
@@ -77,67 +94,123 @@ impl Given {
         word: OsString,
         rest: &mut impl Iterator<Item = OsString>,
     ) -> Result<bool, String> {
-        match (command, word.to_str()) {
-            _ if self.files_only => self.file(word),
-            (_, Some("-")) => self.inputs.push(Input::Standard),
-            (_, Some("--")) => self.files_only = true,
-            (_, Some("--help" | "-h")) => return Ok(true),
-            (Command::Target, Some("--raw")) => self.raw = true,
-            (Command::Rewrite, Some("--in-place")) => self.outputs.push(Output::InPlace),
-            (Command::Rewrite, Some(option @ ("-o" | "--output"))) => {
-                self.outputs.push(Output::To(PathBuf::from(value(option, rest)?)));
+        match word.as_bytes() {
+            _ if self.files_only => self.inputs.push(Input::File(PathBuf::from(word))),
+            b"--" => self.files_only = true,
+            [b'-', _, ..] => {
+                let (choice, value) = option(command, &word, rest)?;
+                return self.option(choice.asks, value);
             }
-            (Command::Rewrite, Some("--suffix")) => {
-                self.outputs.push(Output::Suffix(suffix(value("--suffix", rest)?)?));
-            }
-            _ if word.to_string_lossy().starts_with('-') => {
-                return Err(format!("{} has no option {}", command.word(), word.to_string_lossy()));
-            }
-            _ => self.file(word),
+            _ => self.inputs.push(Input::of(word)),
         }
         Ok(false)
     }
 
-    fn file(&mut self, word: OsString) {
-        self.inputs.push(Input::File(PathBuf::from(word)));
+    fn option(&mut self, asks: Asks, value: OsString) -> Result<bool, String> {
+        match asks {
+            Asks::Help => return Ok(true),
+            Asks::Recursive => self.recursive = true,
+            Asks::AllFiles => self.all_files = true,
+            Asks::FilesFrom => self.lists.push(Input::of(value)),
+            Asks::Zero => self.zero = true,
+            Asks::Json => self.json = true,
+            Asks::Raw => self.raw = true,
+            Asks::InPlace => self.outputs.push(Output::InPlace),
+            Asks::Suffix => self.outputs.push(Output::Suffix(suffix(value)?)),
+            Asks::Output => self.outputs.push(match Input::of(value) {
+                Input::Standard => Output::Standard,
+                Input::File(path) => Output::To(path),
+            }),
+        }
+        Ok(false)
     }
 
     /// The plan, if what was given fits together.
     fn plan(mut self, command: Command) -> Result<Plan, String> {
-        if self.inputs.is_empty() {
+        if self.inputs.is_empty() && self.lists.is_empty() && !self.recursive {
             self.inputs.push(Input::Standard);
         }
-        let standard = self.inputs.iter().filter(|input| matches!(input, Input::Standard)).count();
-        if standard > 1 {
-            return Err("standard input can be read only once".to_string());
+        let several = self.recursive || !self.lists.is_empty() || self.inputs.len() > 1;
+        if let Some(why) = self.clash(command, several) {
+            return Err(why.to_string());
         }
-        if self.outputs.len() > 1 {
-            return Err("-o, --in-place and --suffix exclude each other, and each may stand once".to_string());
-        }
-        let output = self.outputs.pop().unwrap_or(Output::Standard);
-        let one_only = match (command, &output) {
-            (Command::Target, _) if self.raw => Some("--raw takes one input"),
-            (Command::Rewrite, Output::Standard) => Some("without --in-place or --suffix there can be one input"),
-            (Command::Rewrite, Output::To(_)) => Some("-o takes one input"),
-            _ => None,
-        };
-        match one_only {
-            Some(why) if self.inputs.len() > 1 => return Err(why.to_string()),
-            _ if output.is_beside() && standard > 0 => return Err("--in-place and --suffix need files".to_string()),
-            _ => {}
-        }
-        Ok(Plan::Run(Run { command, inputs: self.inputs, raw: self.raw, output }))
+        Ok(Plan::Run(Run {
+            command,
+            inputs: self.inputs,
+            list: self.lists.pop(),
+            recursive: self.recursive,
+            all_files: self.all_files,
+            zero: self.zero,
+            json: self.json,
+            raw: self.raw,
+            output: self.outputs.pop().unwrap_or(Output::Standard),
+            several,
+        }))
+    }
+
+    /// The first thing that does not fit together with the others.
+    fn clash(&self, command: Command, several: bool) -> Option<&'static str> {
+        let from_standard = self.inputs.iter().chain(&self.lists).filter(|input| matches!(input, Input::Standard));
+        let standard = self.inputs.iter().any(|input| matches!(input, Input::Standard));
+        let beside = matches!(self.outputs.first(), Some(Output::InPlace | Output::Suffix(_)));
+        let to_one_file = matches!(self.outputs.first(), Some(Output::To(_)));
+        let wrong = [
+            (from_standard.count() > 1, "standard input can be read only once"),
+            (self.outputs.len() > 1, "-o, --in-place and --suffix exclude each other, and each may stand once"),
+            (self.lists.len() > 1, "--files-from may stand once"),
+            (self.recursive && self.inputs.is_empty() && self.lists.is_empty(), "-r needs a FILE to go through"),
+            (self.all_files && !self.recursive, "--all-files goes with -r"),
+            (self.raw && (self.json || self.zero), "--raw excludes --json and -0"),
+            (self.raw && several, "--raw takes one input"),
+            (several && to_one_file, "-o takes one input"),
+            (
+                command == Command::Rewrite && several && !beside,
+                "without --in-place or --suffix there can be one input",
+            ),
+            (beside && standard, "--in-place and --suffix need files"),
+        ];
+        wrong.iter().find(|(is_wrong, _)| *is_wrong).map(|(_, why)| *why)
     }
 }
 
-fn value(option: &str, rest: &mut impl Iterator<Item = OsString>) -> Result<OsString, String> {
-    rest.next().ok_or_else(|| format!("{} needs a value", option))
+/// The option that a word is, and its value: after an equals sign, after a short word, or the next word.
+fn option(
+    command: Command,
+    word: &OsStr,
+    rest: &mut impl Iterator<Item = OsString>,
+) -> Result<(&'static Choice, OsString), String> {
+    let (name, joined) = split(word.as_bytes());
+    let is_named = |choice: &&Choice| choice.words.iter().any(|word| word.as_bytes() == name);
+    let choice = choices(command).find(is_named);
+    let shown = Name(name);
+    let choice = choice.ok_or_else(|| format!("{} has no option {}", command.word(), shown))?;
+    let value = match (choice.value, joined) {
+        (None, None) => Some(OsString::new()),
+        (None, Some(_)) => return Err(format!("{} takes no value", shown)),
+        (Some(_), Some(value)) => Some(OsStr::from_bytes(value).to_os_string()),
+        (Some(_), None) => rest.next(),
+    };
+    match value {
+        Some(value) if choice.value.is_none() || !value.is_empty() => Ok((choice, value)),
+        _ => Err(format!("{} needs a value", shown)),
+    }
+}
+
+/// An option's word and what is joined to it: `--output=X` and `-oX`.
+fn split(word: &[u8]) -> (&[u8], Option<&[u8]>) {
+    match word {
+        [b'-', b'-', ..] => match word.iter().position(|&byte| byte == b'=') {
+            Some(place) => (&word[..place], Some(&word[place + 1..])),
+            None => (word, None),
+        },
+        _ => (&word[..2], Some(&word[2..]).filter(|joined| !joined.is_empty())),
+    }
 }
 
 /// A suffix stays in the file's own folder, and makes another name.
 fn suffix(word: OsString) -> Result<OsString, String> {
-    if word.is_empty() || word.to_string_lossy().contains('/') {
-        return Err("a suffix is not empty and has no slash".to_string());
+    match word.as_bytes().contains(&b'/') {
+        true => Err("a suffix has no slash".to_string()),
+        false => Ok(word),
     }
-    Ok(word)
 }

@@ -1,94 +1,56 @@
-//! The help texts.
+//! The help texts, put together from the tables of commands and options.
+use super::command::Command;
+use super::options::choices;
+
+/// What the exit statuses mean.
+pub const STATUS: &str = "  0  every shortcut was accepted
+  1  a shortcut was refused
+  2  the command line makes no sense, and nothing was done
+  3  a file could not be read or written, or lines of output were lost; it outranks 1
+One file's fault does not keep the others from being done.
+";
+
+/// How names and refusals are printed.
+pub const PRINTED: &str = "\
+A refusal has a number, a name, the position in the file and a reason:
+  refused 2 CUT at 76: it is cut off inside a field or a part
+
+A plain name is printed as it is. A byte that is no UTF-8 stands as <E9>, a character without
+a shape as <U+202E>, < as <3C>, a space at either end as <20>, a colon at the end or before a
+space as <3A>: no two names are printed alike. <standard input> is no file's name.
+";
 
 /// The help for the whole program.
-pub const ALL: &str = "\
+pub fn all() -> String {
+    let commands = Command::ALL.map(|command| format!("  {:<10}{}\n", command.word(), command.line())).concat();
+    format!(
+        "\
 herringnet: checks, lists, shows and rewrites Windows shortcuts (.LNK files)
 
 usage: herringnet COMMAND [OPTION].. [FILE]..
 
 commands:
-  check     say of each shortcut whether it is accepted, and why not
-  list      list the sections of a shortcut: name, start, length
-  target    print the target text
-  key       print the cache key in hex
-  show      print every field and text, readable
-  rewrite   write the canonical form: the shortest shortcut with the same record
-
+{}
 Without FILE, or where FILE is -, standard input is read. After -- every word is a FILE.
-herringnet COMMAND --help tells more about a command, herringnet --version the version.
+herringnet help COMMAND tells more about a command, herringnet --version what this is built from;
+herringnet help man prints the manual page, herringnet help bash what bash completes words with.
 
-Exit status: 0 if every shortcut was accepted; 1 if one was refused, or a file could not be
-read or written (the others are still done); 2 if the command line makes no sense.
+Exit status:
+{}
+{}",
+        commands, STATUS, PRINTED
+    )
+}
 
-A refusal has a number, a name, the position in the file and a reason:
-  refused 2 CUT at 76: the bytes end before a field or declared size does
-";
-
-/// The help for `check`.
-pub const CHECK: &str = "\
-usage: herringnet check [FILE]..
-
-Prints a line for each shortcut: FILE: ok and its length, or FILE: refused with the number,
-the name, the position and the reason.
-";
-
-/// The help for `list`.
-pub const LIST: &str = "\
-usage: herringnet list [FILE]..
-
-Prints ok and the length, then a line per section: name, start, length. For a refused shortcut
-it prints one line: refused, number, position. With several files a line with the file's name
-and a colon stands before each listing.
-";
-
-/// The help for `target`.
-pub const TARGET: &str = "\
-usage: herringnet target [--raw] [FILE]..
-
-Prints the target text on a line: the local path or the net name, then the suffix. Printable
-ASCII stands as it is, every other byte and < as its number in hex: <E9>. With several files
-each line begins with the file's name and a colon.
-
-  --raw   print the bytes as they stand in the file, and no line feed; for one input only
-";
-
-/// The help for `key`.
-pub const KEY: &str = "\
-usage: herringnet key [FILE]..
-
-Prints a line for each accepted shortcut: its cache key in lower-case hex, one space, the file's
-name. Where standard input is the only input, the key stands alone. A refused shortcut has no key,
-and is told of on standard error. Two accepted shortcuts have equal keys exactly if these are
-equal: LinkFlags bit 7, target text, arguments, working directory, and the byte text of the first
-environment block (A0000001) up to its zero. What is absent differs from what is empty. A shortcut
-without a target has a key too.
-";
-
-/// The help for `show`.
-pub const SHOW: &str = "\
-usage: herringnet show [FILE]..
-
-Prints every field and text of a shortcut, and a line for each block. Texts stand in double
-quotes, a backslash as it is. In byte texts every byte that is not printable ASCII stands as
-<E9>, in Unicode texts every unit that has no shape as <U+200B>; < stands so too. Times are
-UTC. With several files a line with the file's name and a colon stands before each.
-";
-
-/// The help for `rewrite`.
-pub const REWRITE: &str = "\
-usage: herringnet rewrite [FILE]
-       herringnet rewrite -o OUTPUT [FILE]
-       herringnet rewrite --in-place FILE..
-       herringnet rewrite --suffix SUFFIX FILE..
-
-Writes the canonical form of a shortcut: the shortest shortcut that has the same record. It
-goes to standard output, or to the file that is named. Nothing is written for a shortcut that
-is refused.
-
-  -o, --output OUTPUT   write to OUTPUT; an older file there is replaced
-  --in-place            replace each FILE; one that is canonical already is not touched
-  --suffix SUFFIX       write beside each FILE, with SUFFIX put after its name; a file that is
-                        there already is not replaced, but counts as one that cannot be written
-
-A file is replaced all at once: the bytes go to a new file beside it, which then takes its name.
-";
+/// The help for a command.
+pub fn of(command: Command) -> String {
+    let usage = command.usage().iter().map(|words| format!("herringnet {} [OPTION].. {}\n", command.word(), words));
+    let usage: Vec<String> = usage.collect();
+    let options: String = choices(command)
+        .map(|choice| {
+            let lines = choice.lines.join(&format!("\n{:24}", ""));
+            format!("  {:<22}{}\n", choice.heading(), lines)
+        })
+        .collect();
+    format!("usage: {}\n{}\n{}", usage.join("       "), command.text(), options)
+}

@@ -1,5 +1,13 @@
 //! The parts of the command line.
+mod answer;
 pub mod arguments;
-pub mod files;
-pub mod help;
-pub mod run;
+mod command;
+pub mod console;
+mod files;
+mod help;
+mod input;
+mod manual;
+mod options;
+mod run;
+mod streams;
+mod walk;

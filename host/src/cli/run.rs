@@ -1,28 +1,14 @@
 //! Doing what the command line asks for, input by input.
-use super::files::{printable, reason, replace, with_suffix, write_new, Input, USUAL};
-use herringnet::show::{show, text::Bytes, text::Hex};
-use herringnet::{check, key, listing, target, Record, Refusal};
+use super::answer::{failed, object, Answer};
+use super::command::Command;
+use super::console::{Console, Outcome};
+use super::files::{replace, with_suffix, write_new};
+use super::input::{reason, Input};
+use super::walk::Walk;
+use herringnet::{Record, Refusal};
 use std::ffi::OsString;
-use std::io::{self, Write};
-use std::path::{Path, PathBuf};
-
-/// The commands.
-#[derive(Clone, Copy)]
-pub enum Command {
-    Check,
-    List,
-    Target,
-    Key,
-    Show,
-    Rewrite,
-}
-
-impl Command {
-    /// The word of the command line.
-    pub fn word(self) -> &'static str {
-        ["check", "list", "target", "key", "show", "rewrite"][self as usize]
-    }
-}
+use std::io;
+use std::path::PathBuf;
 
 /// Where `rewrite` puts what it writes.
 pub enum Output {
@@ -32,19 +18,20 @@ pub enum Output {
     Suffix(OsString),
 }
 
-impl Output {
-    /// Whether the place follows from the input's own name.
-    pub fn is_beside(&self) -> bool {
-        matches!(self, Output::InPlace | Output::Suffix(_))
-    }
-}
-
 /// A command with all that it needs.
 pub struct Run {
     pub command: Command,
     pub inputs: Vec<Input>,
+    /// A file with the names of further inputs.
+    pub list: Option<Input>,
+    pub recursive: bool,
+    pub all_files: bool,
+    pub zero: bool,
+    pub json: bool,
     pub raw: bool,
     pub output: Output,
+    /// Whether names stand beside the answers: always, if the number of inputs is not known from the words.
+    pub several: bool,
 }
 
 /// One input that was read.
@@ -54,133 +41,146 @@ struct Read<'a> {
 }
 
 impl Run {
-    /// Does all inputs, and says whether all went well; an error is one of standard output and ends the run.
-    pub fn all(&self, out: &mut impl Write) -> io::Result<bool> {
-        let mut good = true;
-        for (number, input) in self.inputs.iter().enumerate() {
-            good &= match input.bytes() {
-                Ok(bytes) => self.one(number, &Read { input, bytes: &bytes }, out)?,
-                Err(error) => complain(input, &format!("cannot be read: {}", reason(&error))),
-            };
-            out.flush()?;
+    /// Does all inputs.
+    pub fn all(mut self) -> Outcome {
+        // In JSON a line feed stands nowhere else, so that zero bytes are of no use.
+        let mut console = Console::new(self.end(!self.json));
+        match self.listed() {
+            Ok(inputs) => self.each(inputs, &mut console),
+            Err((list, error)) => self.unread(&list, &error, &mut console),
         }
-        Ok(good)
+        console.finish(self.command.writes())
     }
 
-    fn one(&self, number: usize, read: &Read, out: &mut impl Write) -> io::Result<bool> {
-        match self.command {
-            Command::Check => self.check(read, out),
-            Command::List => self.list(number, read, out),
-            Command::Target => self.target(read, out),
-            Command::Key => self.key(read, out),
-            Command::Show => self.show(number, read, out),
-            Command::Rewrite => self.rewrite(read, out),
+    /// The byte that ends a record or a name.
+    fn end(&self, may_be_zero: bool) -> u8 {
+        match self.zero && may_be_zero {
+            true => 0,
+            false => b'\n',
         }
     }
 
-    fn several(&self) -> bool {
-        self.inputs.len() > 1
-    }
-
-    /// With several inputs, the line before what is written for one, and an empty line between them.
-    fn heading(&self, number: usize, read: &Read, out: &mut impl Write) -> io::Result<()> {
-        match (self.several(), number) {
-            (false, _) => Ok(()),
-            (true, 0) => writeln!(out, "{}:", read.input.name()),
-            (true, _) => writeln!(out, "\n{}:", read.input.name()),
-        }
-    }
-
-    fn check(&self, read: &Read, out: &mut impl Write) -> io::Result<bool> {
-        let verdict = check(read.bytes);
-        match &verdict {
-            Ok(length) => writeln!(out, "{}: ok {}", read.input.name(), length)?,
-            Err(refusal) => writeln!(out, "{}: {}", read.input.name(), refusal)?,
-        }
-        Ok(verdict.is_ok())
-    }
-
-    fn list(&self, number: usize, read: &Read, out: &mut impl Write) -> io::Result<bool> {
-        self.heading(number, read, out)?;
-        let listed = listing(read.bytes);
-        match &listed {
-            Ok(text) => out.write_all(text.as_bytes())?,
-            Err(refusal) => writeln!(out, "refused {} {}", refusal.number(), refusal.position)?,
-        }
-        Ok(listed.is_ok())
-    }
-
-    fn target(&self, read: &Read, out: &mut impl Write) -> io::Result<bool> {
-        match target(read.bytes) {
-            Ok(text) if self.raw => out.write_all(&text)?,
-            Ok(text) if self.several() => writeln!(out, "{}: {}", read.input.name(), Bytes(&text))?,
-            Ok(text) => writeln!(out, "{}", Bytes(&text))?,
-            Err(refusal) => return Ok(complain(read.input, &refusal.to_string())),
-        }
-        Ok(true)
-    }
-
-    fn key(&self, read: &Read, out: &mut impl Write) -> io::Result<bool> {
-        match (key(read.bytes), read.input) {
-            (Ok(key), Input::Standard) if !self.several() => writeln!(out, "{}", Hex(&key))?,
-            (Ok(key), input) => writeln!(out, "{} {}", Hex(&key), input.name())?,
-            (Err(refusal), input) => return Ok(complain(input, &refusal.to_string())),
-        }
-        Ok(true)
-    }
-
-    fn show(&self, number: usize, read: &Read, out: &mut impl Write) -> io::Result<bool> {
-        match show(read.bytes) {
-            Ok(text) => {
-                self.heading(number, read, out)?;
-                out.write_all(text.as_bytes())?;
-                Ok(true)
+    /// All inputs by name; a list that cannot be read whole is none.
+    fn listed(&mut self) -> Result<Vec<Input>, (Input, io::Error)> {
+        let mut inputs = std::mem::take(&mut self.inputs);
+        if let Some(list) = self.list.take() {
+            match list.listed(self.end(true)) {
+                Ok(mut more) => inputs.append(&mut more),
+                Err(error) => return Err((list, error)),
             }
-            Err(refusal) => Ok(complain(read.input, &refusal.to_string())),
+        }
+        Ok(inputs)
+    }
+
+    fn each(&self, inputs: Vec<Input>, console: &mut Console) {
+        let mut walk = Walk::new(inputs, self.recursive, self.all_files);
+        let mut done = 0;
+        for found in &mut walk {
+            match found {
+                Ok(input) => self.one(&input, console),
+                Err((input, error)) => self.unread(&input, &error, console),
+            }
+            done += 1;
+            console.done(done);
+            if console.is_unread() && !self.command.writes() {
+                return;
+            }
+        }
+        if self.recursive {
+            console.say(&walk.seen);
         }
     }
 
-    fn rewrite(&self, read: &Read, out: &mut impl Write) -> io::Result<bool> {
-        let bytes = match canonical(read.bytes) {
+    fn one(&self, input: &Input, console: &mut Console) {
+        let bytes = match input.bytes() {
             Ok(bytes) => bytes,
-            Err(refusal) => return Ok(complain(read.input, &refusal.to_string())),
+            Err(error) => return self.unread(input, &error, console),
+        };
+        match Answer::to(self.command, &bytes) {
+            Some(answer) => self.answer(input, answer, console),
+            None => self.rewrite(&Read { input, bytes: &bytes }, console),
+        }
+    }
+
+    fn answer(&self, input: &Input, answer: Result<Answer, Refusal>, console: &mut Console) {
+        if answer.is_err() {
+            console.note(Outcome::Refused);
+        }
+        match answer {
+            answer if self.json => console.record(object(input, &answer).to_string().into_bytes()),
+            Ok(Answer::Target(text)) if self.raw => console.write(&text),
+            Ok(answer) => self.print(input, &answer.text(), console),
+            Err(refusal) if self.command.answers_refusals() => {
+                self.print(input, &self.refused(&refusal), console);
+            }
+            Err(refusal) => console.say(format!("{}: {}", input, refusal)),
+        }
+    }
+
+    /// A refusal as an answer: `list` says it in the words of the listing.
+    fn refused(&self, refusal: &Refusal) -> String {
+        match self.command {
+            Command::List => format!("refused {} {}", refusal.number(), refusal.position),
+            _ => refusal.to_string(),
+        }
+    }
+
+    fn unread(&self, input: &Input, error: &io::Error, console: &mut Console) {
+        let why = reason(error);
+        console.note(Outcome::Failed);
+        match self.json {
+            true => console.record(failed(input, &why).to_string().into_bytes()),
+            false => console.say(format!("{}: cannot be read: {}", input, why)),
+        }
+    }
+
+    /// Prints an answer with the input's name where the command has it.
+    fn print(&self, input: &Input, text: &str, console: &mut Console) {
+        let (name, text) = (input.name(self.zero), text.as_bytes());
+        let alone = matches!(input, Input::Standard) && !self.several;
+        console.record(match self.command {
+            Command::Key if alone => text.to_vec(),
+            Command::Key => [text, b" ", &name].concat(),
+            Command::Check | Command::Rewrite => [&name, &b": "[..], text].concat(),
+            Command::Target if self.several => [&name, &b": "[..], one_colon(text).as_bytes()].concat(),
+            Command::List | Command::Show if self.several => {
+                // An empty line stands between two inputs, unless zero bytes part them.
+                let gap: &[u8] = if console.has_written() && !self.zero { b"\n" } else { b"" };
+                [gap, &name, b":\n", text].concat()
+            }
+            Command::Target | Command::List | Command::Show => text.to_vec(),
+        });
+    }
+
+    fn rewrite(&self, read: &Read, console: &mut Console) {
+        let bytes = match Record::read(read.bytes).and_then(|record| record.to_vec()) {
+            Ok(bytes) => bytes,
+            Err(refusal) => return console.complain(Outcome::Refused, format!("{}: {}", read.input, refusal)),
         };
         let (path, written) = match (&self.output, read.input) {
             (Output::To(path), _) => (path.clone(), replace(path, &bytes)),
-            (Output::InPlace, Input::File(path)) => (path.clone(), replace_if_other(path, read.bytes, &bytes)),
+            (Output::InPlace, Input::File(_)) if read.bytes == bytes => {
+                return self.print(read.input, &format!("{} bytes, canonical already", bytes.len()), console);
+            }
+            (Output::InPlace, Input::File(path)) => (path.clone(), replace(path, &bytes)),
             (Output::Suffix(suffix), Input::File(path)) => {
                 let path = with_suffix(path, suffix);
-                let written = write_new(&path, &bytes, USUAL);
+                let written = write_new(&path, &bytes);
                 (path, written)
             }
-            _ => {
-                out.write_all(&bytes)?;
-                return Ok(true);
-            }
+            _ => return console.write(&bytes),
         };
-        let name = printable(&path);
-        match &written {
-            Ok(()) => writeln!(out, "{}: {} bytes, from {}", name, bytes.len(), read.bytes.len())?,
-            Err(error) => eprintln!("herringnet: {}: cannot be written: {}", name, reason(error)),
+        let output = Input::File(path);
+        match written {
+            Ok(()) => self.print(&output, &format!("{} bytes, from {}", bytes.len(), read.bytes.len()), console),
+            Err(error) => {
+                console.complain(Outcome::Failed, format!("{}: cannot be written: {}", output, reason(&error)));
+            }
         }
-        Ok(written.is_ok())
     }
 }
 
-/// The canonical form of a shortcut.
-fn canonical(shortcut: &[u8]) -> Result<Vec<u8>, Refusal> {
-    Record::read(shortcut)?.to_vec()
-}
-
-fn replace_if_other(path: &Path, old: &[u8], new: &[u8]) -> io::Result<()> {
-    match old == new {
-        true => Ok(()),
-        false => replace(path, new),
-    }
-}
-
-/// Says what is wrong with an input; the answer is that not all went well.
-fn complain(input: &Input, why: &str) -> bool {
-    eprintln!("herringnet: {}: {}", input.name(), why);
-    false
+/// A text in which no colon stands before a space, so that the last one that does ends the name before it.
+fn one_colon(text: &[u8]) -> String {
+    String::from_utf8_lossy(text).replace(": ", "<3A> ")
 }

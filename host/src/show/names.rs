@@ -71,30 +71,38 @@ const BLOCKS: [(u32, &str); 11] = [
 /// The rows of HighByte (section 2.1.3).
 const MODIFIERS: [(u8, &str); 3] = [(0x01, "SHIFT"), (0x02, "CTRL"), (0x04, "ALT")];
 
-/// The names of the bits that are set, with a space before each.
-fn bits(number: u32, names: &[&str]) -> String {
-    let set = names.iter().enumerate().filter(|(bit, _)| number >> bit & 1 == 1);
-    set.map(|(_, name)| format!(" {}", name)).collect()
+/// The names of the bits that are set.
+fn bits(number: u32, names: &[&'static str]) -> Vec<&'static str> {
+    names.iter().enumerate().filter(|(bit, _)| number >> bit & 1 == 1).map(|(_, name)| *name).collect()
 }
 
-/// LinkFlags as a number and by name.
-pub fn link_flags(flags: u32) -> String {
-    format!("0x{:08X}{}", flags, bits(flags, &LINK_FLAGS))
+/// LinkFlags by name.
+pub fn link_flags(flags: u32) -> Vec<&'static str> {
+    bits(flags, &LINK_FLAGS)
 }
 
-/// FileAttributes as a number and by name.
-pub fn attributes(attributes: u32) -> String {
-    format!("0x{:08X}{}", attributes, bits(attributes, &ATTRIBUTES))
+/// FileAttributes by name.
+pub fn attributes(attributes: u32) -> Vec<&'static str> {
+    bits(attributes, &ATTRIBUTES)
 }
 
-/// A drive type as a number and by name.
-pub fn drive(number: u32) -> String {
-    format!("{} ({})", number, DRIVES.get(number as usize).unwrap_or(&"no drive type"))
+/// A drive type by name.
+pub fn drive(number: u32) -> &'static str {
+    DRIVES.get(number as usize).unwrap_or(&"no drive type")
 }
 
-/// The name of the block with this signature.
-pub fn block(signature: u32) -> &'static str {
-    BLOCKS.iter().find(|row| row.0 == signature).map_or("unknown block", |row| row.1)
+/// The name of the block with this signature, if document 000 has one.
+pub fn block(signature: u32) -> Option<&'static str> {
+    BLOCKS.iter().find(|row| row.0 == signature).map(|row| row.1)
+}
+
+/// Sixteen bytes as an identifier is written: the first three numbers little-endian.
+pub fn identifier(bytes: &[u8]) -> String {
+    let hex = |places: &[usize]| -> String {
+        places.iter().map(|&place| format!("{:02X}", bytes.get(place).copied().unwrap_or_default())).collect()
+    };
+    let (first, last) = (hex(&[3, 2, 1, 0]), hex(&[10, 11, 12, 13, 14, 15]));
+    format!("{{{}-{}-{}-{}-{}}}", first, hex(&[5, 4]), hex(&[7, 6]), hex(&[8, 9]), last)
 }
 
 /// HotKey as a person says it, in the names and the order of the tables (section 2.1.3); a number if no rule allows it.
@@ -130,11 +138,11 @@ mod tests {
     #[test]
     fn bits_have_names() {
         let example = "HasLinkTargetIDList HasLinkInfo HasRelativePath HasWorkingDir IsUnicode EnableTargetMetadata";
-        assert_eq!(link_flags(0x0008_009B), format!("0x0008009B {}", example));
-        assert_eq!(link_flags(0x0400_0000), "0x04000000 KeepLocalIDListForUNCTarget");
-        assert_eq!(attributes(0x20), "0x00000020 ARCHIVE");
-        assert_eq!(attributes(0x4000), "0x00004000 ENCRYPTED");
-        assert_eq!(attributes(0), "0x00000000");
+        assert_eq!(link_flags(0x0008_009B).join(" "), example);
+        assert_eq!(link_flags(0x0400_0000), ["KeepLocalIDListForUNCTarget"]);
+        assert_eq!(attributes(0x20), ["ARCHIVE"]);
+        assert_eq!(attributes(0x4000), ["ENCRYPTED"]);
+        assert!(attributes(0).is_empty());
     }
 
     #[test]
@@ -151,9 +159,14 @@ mod tests {
 
     #[test]
     fn drives_and_blocks_have_names() {
-        assert_eq!(drive(3), "3 (fixed)");
-        assert_eq!(drive(6), "6 (RAM disk)");
-        assert_eq!(block(0xA000_000C), "VistaAndAboveIDListDataBlock");
-        assert_eq!(block(0xA000_000A), "unknown block");
+        assert_eq!((drive(3), drive(6)), ("fixed", "RAM disk"));
+        assert_eq!(block(0xA000_000C), Some("VistaAndAboveIDListDataBlock"));
+        assert_eq!(block(0xA000_000A), None);
+    }
+
+    #[test]
+    fn identifiers_are_written_in_their_order() {
+        let bytes: Vec<u8> = (0..16).collect();
+        assert_eq!(identifier(&bytes), "{03020100-0504-0706-0809-0A0B0C0D0E0F}");
     }
 }

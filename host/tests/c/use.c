@@ -7,7 +7,7 @@
 
 static void answer(const char *what, uint64_t a)
 {
-    printf("%s %u %zu\n", what, HERRINGNET_NUMBER(a), HERRINGNET_VALUE(a));
+    printf("%s %u %s %zu\n", what, HERRINGNET_NUMBER(a), herringnet_name(HERRINGNET_NUMBER(a)), HERRINGNET_VALUE(a));
 }
 
 static void section(const uint8_t *s, size_t n, uint32_t name, size_t block)
@@ -73,6 +73,13 @@ static void records(const uint8_t *s, size_t n)
     answer("write no fields", herringnet_write(NULL, 0, s, n, out, sizeof out));
 }
 
+static void names(void)
+{
+    for (unsigned number = 0; number < 256; number++)
+        printf("name %u %s\n", number, herringnet_name(number));
+    printf("version %s %d\n", HERRINGNET_VERSION, HERRINGNET_VERSION_NUMBER);
+}
+
 int main(void)
 {
     static uint8_t s[HERRINGNET_LONGEST + 1];
@@ -84,5 +91,6 @@ int main(void)
     targets(s, n);
     keys(s, n);
     records(s, n);
+    names();
     return 0;
 }

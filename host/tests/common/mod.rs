@@ -1,5 +1,7 @@
 //! What several tests need: running programs for x86-64 on any machine, and a folder of their own.
 #![allow(dead_code)]
+pub mod shortcuts;
+
 use std::env;
 use std::ffi::OsStr;
 use std::fs::{self, File};

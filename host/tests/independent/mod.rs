@@ -288,7 +288,7 @@ fn item_list(rest: &[u8]) -> Result<usize, u8> {
     }
 }
 
-/// Items and then two zero bytes, exactly at the end.
+/// Items, with two zero bytes after the last.
 fn ends_items(list: &[u8]) -> bool {
     list.ends_with(&[0, 0]) && are_items(&list[..list.len() - 2])
 }

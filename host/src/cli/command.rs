@@ -1,0 +1,141 @@
+//! The commands, and what each of them says of itself.
+
+/// The commands.
+#[derive(Clone, Copy, PartialEq, Eq)]
+pub enum Command {
+    Check,
+    List,
+    Target,
+    Key,
+    Show,
+    Rewrite,
+}
+
+/// What help says of a command, beside its options.
+struct Page {
+    word: &'static str,
+    /// What it does, in a line.
+    line: &'static str,
+    /// What can stand after its word.
+    usage: &'static [&'static str],
+    text: &'static str,
+}
+
+const PAGES: [Page; 6] = [
+    Page {
+        word: "check",
+        line: "say of each shortcut whether it is accepted, and why not",
+        usage: &["[FILE].."],
+        text: "\
+Prints a line for each shortcut: FILE: ok and its length, or FILE: refused with the number,
+the name, the position and the reason.
+",
+    },
+    Page {
+        word: "list",
+        line: "list the sections of a shortcut: name, start, length",
+        usage: &["[FILE].."],
+        text: "\
+Prints ok and the length, and for each section a line with its name, its start and its length.
+For a refused shortcut it prints one line: refused, number, position. With several files a line
+with the file's name and a colon stands before each listing.
+",
+    },
+    Page {
+        word: "target",
+        line: "print the target text",
+        usage: &["[FILE].."],
+        text: "\
+Prints the target text on a line: the local path or the net name, then the suffix. Printable
+ASCII stands as it is, every other byte and < as its number in hex: <E9>. With several files
+each line begins with the file's name and a colon, and a colon before a space inside the text
+stands as <3A>. A shortcut without a target is told of on standard error.
+",
+    },
+    Page {
+        word: "key",
+        line: "print the cache key in hex",
+        usage: &["[FILE].."],
+        text: "\
+Prints a line for each accepted shortcut: its cache key in lower-case hex, one space, the file's
+name. Where standard input is the only input, the key stands alone. A refused shortcut has no key,
+and is told of on standard error. Two accepted shortcuts have equal keys exactly if these are
+equal: LinkFlags bit 7, the target text, the arguments, the working directory, and the text of
+bytes in the first environment block (A0000001) up to its zero. What is absent differs from what
+is empty. A shortcut without a target has a key too.
+",
+    },
+    Page {
+        word: "show",
+        line: "print every field and text, readable",
+        usage: &["[FILE].."],
+        text: "\
+Prints every field and text of a shortcut, each item with its bytes in hex, and each block with
+the texts and identifiers in it that can name a file, a folder or a machine. Texts stand in double
+quotes, a backslash as it is. In texts of bytes every byte that is not printable ASCII stands as
+<E9>, in Unicode texts every character without a shape as <U+200B>; < and a double quote stand so
+too. Times are UTC. With several files a line with the file's name and a colon stands before each.
+",
+    },
+    Page {
+        word: "rewrite",
+        line: "write the canonical form: the shortest shortcut with the same record",
+        usage: &["[FILE]", "-o OUTPUT [FILE]", "--in-place FILE..", "--suffix SUFFIX FILE.."],
+        text: "\
+Writes the canonical form of a shortcut: the shortest shortcut that has the same record. It
+goes to standard output, or to the file that is named. Nothing is written for a shortcut that
+is refused. The line about a file says which it was: OUTPUT: 80 bytes, from 90 where it was
+written, or FILE: 80 bytes, canonical already where it was left alone.
+
+A file is replaced all at once: the bytes go to a new file beside it, which then takes its name.
+Owner, group and permissions stay; where they cannot, the file is left as it was. A link is
+followed to its file; one that leads nowhere is not replaced. If standard output cannot be
+written, the files are still done.
+",
+    },
+];
+
+impl Command {
+    /// All of them, each at its number.
+    pub const ALL: [Command; 6] =
+        [Command::Check, Command::List, Command::Target, Command::Key, Command::Show, Command::Rewrite];
+
+    /// The command with this word.
+    pub fn of(word: &str) -> Option<Command> {
+        Command::ALL.into_iter().find(|command| command.word() == word)
+    }
+
+    fn page(self) -> &'static Page {
+        &PAGES[self as usize]
+    }
+
+    /// The word of the command line.
+    pub fn word(self) -> &'static str {
+        self.page().word
+    }
+
+    /// What it does, in a line.
+    pub fn line(self) -> &'static str {
+        self.page().line
+    }
+
+    /// What can stand after its word.
+    pub fn usage(self) -> &'static [&'static str] {
+        self.page().usage
+    }
+
+    /// What it does, at length.
+    pub fn text(self) -> &'static str {
+        self.page().text
+    }
+
+    /// Whether it writes files, so that it goes on when nobody reads its lines.
+    pub fn writes(self) -> bool {
+        self == Command::Rewrite
+    }
+
+    /// Whether a refusal is its answer, and not a complaint.
+    pub fn answers_refusals(self) -> bool {
+        matches!(self, Command::Check | Command::List)
+    }
+}

@@ -1,0 +1,126 @@
+//! The options: one table for the command line, for help, for the manual and for completion.
+use super::command::Command;
+
+/// What an option asks for.
+#[derive(Clone, Copy, PartialEq, Eq)]
+pub enum Asks {
+    Recursive,
+    AllFiles,
+    FilesFrom,
+    Zero,
+    Json,
+    Raw,
+    Output,
+    InPlace,
+    Suffix,
+    Help,
+}
+
+/// An option.
+pub struct Choice {
+    pub asks: Asks,
+    /// Its words, the long one last.
+    pub words: &'static [&'static str],
+    /// What its value is called, if it has one.
+    pub value: Option<&'static str>,
+    pub commands: &'static [Command],
+    /// Its lines in help.
+    pub lines: &'static [&'static str],
+}
+
+const PRINTING: &[Command] = &[Command::Check, Command::List, Command::Target, Command::Key, Command::Show];
+const REWRITE: &[Command] = &[Command::Rewrite];
+
+/// All options, in the order of help.
+pub const CHOICES: [Choice; 10] = [
+    Choice {
+        asks: Asks::Recursive,
+        words: &["-r", "--recursive"],
+        value: None,
+        commands: &Command::ALL,
+        lines: &[
+            "go through each FILE that is a folder, and the folders in it, by name;",
+            "files whose names end in .lnk in any case are taken, links are not",
+            "followed; at the end standard error says how many files were seen",
+        ],
+    },
+    Choice {
+        asks: Asks::AllFiles,
+        words: &["--all-files"],
+        value: None,
+        commands: &Command::ALL,
+        lines: &["with -r: take files of every name"],
+    },
+    Choice {
+        asks: Asks::FilesFrom,
+        words: &["--files-from"],
+        value: Some("LIST"),
+        commands: &Command::ALL,
+        lines: &[
+            "after the FILEs, take those that the file LIST names, one on a line",
+            "(with -0, each ended by a zero byte); LIST - is standard input",
+        ],
+    },
+    Choice {
+        asks: Asks::Zero,
+        words: &["-0", "--null"],
+        value: None,
+        commands: &Command::ALL,
+        lines: &[
+            "end what is printed for a file with a zero byte in the place of its",
+            "last line feed, and print names as they are; names in LIST end so too",
+        ],
+    },
+    Choice {
+        asks: Asks::Json,
+        words: &["--json"],
+        value: None,
+        commands: PRINTING,
+        lines: &["print a JSON object on a line for each file, of those too that are", "refused or cannot be read"],
+    },
+    Choice {
+        asks: Asks::Raw,
+        words: &["--raw"],
+        value: None,
+        commands: &[Command::Target],
+        lines: &["print the bytes as they stand in the file, and no line feed; for one FILE"],
+    },
+    Choice {
+        asks: Asks::Output,
+        words: &["-o", "--output"],
+        value: Some("OUTPUT"),
+        commands: REWRITE,
+        lines: &["write to OUTPUT; an older file there is replaced; - is standard output"],
+    },
+    Choice {
+        asks: Asks::InPlace,
+        words: &["--in-place"],
+        value: None,
+        commands: REWRITE,
+        lines: &["replace each FILE; one that is canonical already is not touched"],
+    },
+    Choice {
+        asks: Asks::Suffix,
+        words: &["--suffix"],
+        value: Some("SUFFIX"),
+        commands: REWRITE,
+        lines: &[
+            "write beside each FILE, with SUFFIX put after its name; a file that is",
+            "there already is not replaced, but counts as one that cannot be written",
+        ],
+    },
+    Choice { asks: Asks::Help, words: &["-h", "--help"], value: None, commands: &Command::ALL, lines: &["print this"] },
+];
+
+/// The options of a command.
+pub fn choices(command: Command) -> impl Iterator<Item = &'static Choice> {
+    CHOICES.iter().filter(move |choice| choice.commands.contains(&command))
+}
+
+impl Choice {
+    /// All its words with its value, as `-o, --output OUTPUT`.
+    pub fn heading(&self) -> String {
+        let value = self.value.map_or(String::new(), |value| format!(" {}", value));
+        format!("{}{}", self.words.join(", "), value)
+    }
+}
