@@ -7,7 +7,7 @@ use native.Mathlib.Omega.{arith}
 use lib.ListN.{length, take, drop, length-take, length-drop}
 use lib.Seq.{length-take-le}
 use lib.Dec.{leb}
-use borrow.Author.Tests.{leb-true, le-leb, ltb-true}
+use borrow.Author.Tests.{le-leb, ltb-true}
 use Rattle.octets.specs.Numbers.{u16At, u32At}
 use Rattle.octets.specs.Characters.{bytesOf, characters, beforeZero}
 use Rattle.octets.proofs.CharacterLaws.{characters-fit, bytes-of-le, bytes-of-add}
@@ -28,7 +28,7 @@ use Rattle.format.specs.Blocks.{blocks}
 use Rattle.format.specs.Shortcut.{Section, Tail, Sections, blocksOf, found, stringSection, tail, sections, sum, recordOf}
 use Rattle.format.specs.Contents.{presentNetwork, presentInfo, present, labelPlace, bodies, allInside}
 use Rattle.format.specs.Listing.{Row, row, blockRows, rowsOf, EndToEnd}
-use Rattle.format.proofs.Bools.{and-true, choose-twice}
+use Rattle.format.proofs.Bools.{choose-twice}
 use Rattle.format.proofs.Chains.{Pass, pass-split, tests-elim}
 use Rattle.format.proofs.Holds.{struct-holds, volume-holds, networkPieceTests, network-pieces-hold, infoPieceTests, info-pieces-hold}
 use Rattle.format.proofs.Sized.{sizedTests, sized-holds}
