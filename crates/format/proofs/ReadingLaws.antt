@@ -7,7 +7,6 @@ use native.Mathlib.Omega.{arith}
 use lib.ListN.{length, take, drop}
 use lib.Seq.{drop-drop, length-take-le}
 use lib.Dec.{leb, eqb}
-use borrow.Author.Tests.{leb-true}
 use Rattle.octets.specs.Numbers.{u16At, u32At}
 use Rattle.octets.specs.Characters.{bytesOf}
 use Rattle.octets.proofs.NumberLaws.{part-inside}
@@ -27,7 +26,7 @@ use Rattle.format.specs.Shortcut.{Section, Tail, Sections, found, string
 use Rattle.format.specs.Bodies.{labelPlace, labelKind}
 use Rattle.format.specs.Contents.{bytesAt, volumeContents, networkContents, infoContents, bodiesOf}
 use Rattle.format.proofs.Chains.{drop-take}
-use Rattle.format.proofs.Sized.{sizedTests}
+use Rattle.format.proofs.Sized.{sizedTests, sized-holds}
 use Rattle.format.proofs.ItemsLaws.{itemsValue}
 use Rattle.format.proofs.VolumeLaws.{volumeValue}
 use Rattle.format.proofs.NetworkLaws.{networkValue}
@@ -51,7 +50,7 @@ module _ (f : List ℕ) where
         let n : ℕ = itemsLength s in
         tests-placed f (bytesAt f) p (sizedTests 2 itemsLength (λ n. []) itemsRules itemsValue s) (place (p + 2) (n - 4)) (itemsValue (take n s)) n
         (λ c.
-        let l : length (take n s) ≡ n = length-take-le n s (leb-true n (length s) (c .1 .0)) in
+        let l : length (take n s) ≡ n = length-take-le n s (sized-holds 2 itemsLength (λ n. []) itemsRules itemsValue s c .within) in
         sym (ap (λ (k : ℕ). take (k - 4) (drop 2 (take n s))) l ∙ part-inside 2 (n - 4) n s (omega arith) ∙ ap (take (n - 4)) (drop-drop 2 p f)));
   }
 

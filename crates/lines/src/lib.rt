@@ -4,8 +4,8 @@ mod hex;
 use crate::hex::put_hex;
 use format::Fault;
 use format::Verdict;
-use reader::Ends;
 use reader::Next;
+use reader::SectionEnds;
 ghost use Prim.Native.Nat.{_≤_};
 ghost use lib.ListN.{length};
 
@@ -48,7 +48,7 @@ fn block_lines(s: &[u8], from: usize) {
     }
 }
 
-fn section_lines(f: u32, e: Ends) {
+fn section_lines(f: u32, e: SectionEnds) {
     line(b"header", 0, 76);
     line_if(format::bit_0(f), b"items", 76, e.items);
     line_if(f / 2 % 2 == 1, b"info", e.items, e.info);

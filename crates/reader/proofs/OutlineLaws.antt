@@ -26,7 +26,7 @@ use Rattle.header.specs.declared.HeaderTaken.the-variants.{Got, Refused}
 use Rattle.reader.specs.declared.Next.{Next}
 use Rattle.reader.specs.declared.Next.the-variants.{On, Off}
 use Rattle.reader.specs.declared.Outline.{Outline}
-use Rattle.reader.specs.declared.Ends.{Ends}
+use Rattle.reader.specs.declared.SectionEnds.{SectionEnds}
 use Rattle.reader.specs.declared.Step.{Step}
 use Rattle.reader.specs.declared.InfoStep.{InfoStep}
 use Rattle.reader.specs.Steps.{itemsStep, stringStep, infoStep, blocksStep, atOf, endsOf, outlineFrom}
@@ -237,7 +237,7 @@ long-reading s h = rw (long-shortcut s h)
 -- ---- for the code
 
 -- the outline from its steps
-pub outline-is : (s : List ℕ) (h : Header) (c : Cursor) {items name relative workdir arguments icon blocks : Step} {info : InfoStep} {e : Ends} {there : Bool}
+pub outline-is : (s : List ℕ) (h : Header) (c : Cursor) {items name relative workdir arguments icon blocks : Step} {info : InfoStep} {e : SectionEnds} {there : Bool}
     → there ≡ bit 0 (h .flags)
     → items ≡ itemsStep s there (On c)
     → info ≡ infoStep s (bit 1 (h .flags)) (items .next)

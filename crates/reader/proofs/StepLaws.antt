@@ -20,7 +20,6 @@ use Rattle.blocks.specs.Walk.{walkedFrom, blocksAt}
 use Rattle.reader.specs.declared.Next.{Next}
 use Rattle.reader.specs.declared.Next.the-variants.{On, Off}
 use Rattle.reader.specs.declared.Step.{Step}
-use Rattle.reader.specs.declared.InfoStep.{InfoStep}
 use Rattle.reader.specs.Steps.{step, stepInfo, settled, itemsOn, itemsStep, stringOn, stringStep, settledInfo, infoOn, infoStep, settledBlocks, blocksOn, blocksStep, atOf}
 use Rattle.reader.proofs.Runs.{Runs, on-not-off, sectionOf, Stepped, section-runs, From}
 

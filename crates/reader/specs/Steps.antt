@@ -21,7 +21,7 @@ use Rattle.reader.specs.declared.Next.{Next}
 use Rattle.reader.specs.declared.Next.the-variants.{On, Off}
 use Rattle.reader.specs.declared.Step.{Step}
 use Rattle.reader.specs.declared.InfoStep.{InfoStep}
-use Rattle.reader.specs.declared.Ends.{Ends}
+use Rattle.reader.specs.declared.SectionEnds.{SectionEnds}
 use Rattle.reader.specs.declared.Outline.{Outline}
 
 abbrev pub step : Next → Place → Step
@@ -88,7 +88,7 @@ unfoldable pub atOf : Next → ℕ
 atOf (On c) = c .at
 atOf (Off f p) = 0
 
-unfoldable pub endsOf : Next → Next → Next → Next → Next → Next → Next → Ends
+unfoldable pub endsOf : Next → Next → Next → Next → Next → Next → Next → SectionEnds
 unfolding atOf
 endsOf items info name relative workdir arguments icon = record {
   items = atOf items;

@@ -38,7 +38,7 @@ pub struct InfoStep {
 }
 
 // Where each section after the header ends.
-pub struct Ends {
+pub struct SectionEnds {
     pub items: usize,
     pub info: usize,
     pub name: usize,
@@ -51,7 +51,7 @@ pub struct Ends {
 pub struct Outline {
     pub next: Next,
     pub held: Record,
-    pub ends: Ends,
+    pub ends: SectionEnds,
 }
 
 // A section that is there.
@@ -199,10 +199,10 @@ fn ends_of(
     workdir: Next,
     arguments: Next,
     icon: Next,
-) -> Ends
+) -> SectionEnds
     ensures { λ r. ⌜ r ≡ endsOf items info name relative workdir arguments icon ⌝ }
 {
-    Ends {
+    SectionEnds {
         items: at_of(items),
         info: at_of(info),
         name: at_of(name),
@@ -273,7 +273,7 @@ fn outline_off(f: Fault, at: usize) -> Outline
     Outline {
         next: Next::Off(f, at),
         held: format::no_record(),
-        ends: Ends {
+        ends: SectionEnds {
             items: 0,
             info: 0,
             name: 0,

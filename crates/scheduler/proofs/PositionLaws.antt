@@ -27,6 +27,9 @@ use Rattle.format.specs.Key.{keyOf, keyBytes, key, keyAnswer, keyIn}
 use Rattle.format.specs.Demands.{Accepts}
 use Rattle.format.proofs.Bools.{and-true, by-order}
 use Rattle.format.proofs.Chains.{Pass}
+use Rattle.format.proofs.Sized.{sizedTests, sized-holds}
+use Rattle.format.proofs.ItemsLaws.{itemsValue}
+use Rattle.format.proofs.InfoLaws.{infoValue}
 use Rattle.format.proofs.BlockLaws.{none-left, the-end, one-more}
 use Rattle.format.proofs.AcceptedLaws.{shortcut-whole}
 use Rattle.format.proofs.TargetLaws.{text-small}
@@ -84,22 +87,23 @@ near-header = record {
 near-items : NearBy items
 near-items = record {
   near = λ p s.
-      near-tests p (length s) (leb 2 (length s) else CUT ∷ leb (itemsLength s) (length s) else CUT ∷ itemsRules (take (itemsLength s) s))
-      (got (place (p + 2) (itemsLength s - 4)) (itemsLength s)) (λ k. leb-true (itemsLength s) (length s) (k .1 .0));
+      near-tests p (length s) (sizedTests 2 itemsLength (λ n. []) itemsRules itemsValue s)
+      (got (place (p + 2) (itemsLength s - 4)) (itemsLength s)) (λ k. sized-holds 2 itemsLength (λ n. []) itemsRules itemsValue s k .within);
 }
 
 near-info : NearBy info
 near-info = record {
   near = λ p s.
-      near-tests p (length s) (leb 4 (length s) else CUT ∷ leb 0x1C (infoSize s) else INFO ∷ leb (infoSize s) (length s) else CUT ∷ infoRules (take (infoSize s) s))
-      (got (infoFields p (take (infoSize s) s)) (infoSize s)) (λ k. leb-true (infoSize s) (length s) (k .1 .1 .0));
+      let sizes : ℕ → List Test = λ n. leb 0x1C n else INFO ∷ [] in
+      near-tests p (length s) (sizedTests 4 infoSize sizes infoRules infoValue s)
+      (got (infoFields p (take (infoSize s) s)) (infoSize s)) (λ k. sized-holds 4 infoSize sizes infoRules infoValue s k .within);
 }
 
 near-string : (u : Bool) → NearBy (string u)
 near-string u = record {
   near = λ p s.
-      near-tests p (length s) (leb 2 (length s) else CUT ∷ leb (stringLength u s) (length s) else CUT ∷ [])
-      (got (place (p + 2) (bytesOf u (u16At s 0))) (stringLength u s)) (λ k. leb-true (stringLength u s) (length s) (k .1 .0));
+      near-tests p (length s) (sizedTests 2 (stringLength u) (λ n. []) (λ l. []) (λ l. drop 2 l) s)
+      (got (place (p + 2) (bytesOf u (u16At s 0))) (stringLength u s)) (λ k. sized-holds 2 (stringLength u) (λ n. []) (λ l. []) (λ l. drop 2 l) s k .within);
 }
 
 -- k bounds what is left

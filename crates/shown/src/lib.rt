@@ -1,6 +1,5 @@
 // A section asked for by name, shown as the caller's own bytes.
 use format::Place;
-use reader::Ends;
 use reader::Next;
 use reader::Outline;
 ghost use mathlib.Core.Path.{_≡_};

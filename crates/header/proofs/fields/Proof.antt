@@ -39,7 +39,11 @@ u16-at-requires c κs = search needs
 
 returns : tie.Need-returns
 returns c =
-    fields-are _ (c .before .before .before .before .before .before .before .before .before .u32-at .ensures) (c .before .before .before .before .before .before .before .before .u32-at2 .ensures) (c .before .before .before .before .before .before .before .u64-at .ensures) (c .before .before .before .before .before .before .u64-at2 .ensures) (c .before .before .before .before .before .u64-at3 .ensures) (c .before .before .before .before .u32-at3 .ensures) (toZ-ofZ w32 (c .before .before .signed .result) (record { sfits = c .before .before .signed .ok }) ∙ c .before .before .signed .ensures ∙ ap signed (c .before .before .before .u32-at4 .ensures)) (c .before .u32-at5 .ensures) (c .u16-at .ensures)
+    let after-u32-at3 = c .before .before .before .before in
+    let after-u32-at2 = after-u32-at3 .before .before .before .before in
+    fields-are _ (after-u32-at2 .before .u32-at .ensures) (after-u32-at2 .u32-at2 .ensures) (after-u32-at3 .before .before .before .u64-at .ensures)
+    (after-u32-at3 .before .before .u64-at2 .ensures) (after-u32-at3 .before .u64-at3 .ensures) (after-u32-at3 .u32-at3 .ensures)
+    (toZ-ofZ w32 (c .before .before .signed .result) (record { sfits = c .before .before .signed .ok }) ∙ c .before .before .signed .ensures ∙ ap signed (c .before .before .before .u32-at4 .ensures)) (c .before .u32-at5 .ensures) (c .u16-at .ensures)
 
 pub fields-spec : {M : Type 1} → statement M
 fields-spec =

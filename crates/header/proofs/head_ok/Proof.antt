@@ -26,10 +26,10 @@ zeros-from-66-requires c κs = search needs
 
 returns : tie.Need-returns
 returns c =
-    let flags = c .before .before .before .before .before in
-    let hotkey = c .before .before in
-    head-are _ (flags .before .u32-at .ensures) (flags .flags-ok .ensures) (hotkey .before .before .u32-at2 .ensures) (hotkey .before .attributes-ok .ensures)
-    (hotkey .u16-at .ensures) (c .before .hotkey-ok .ensures) (c .zeros-from-66 .ensures)
+    let after-u32-at2 = c .before .before .before .before in
+    head-are _ (after-u32-at2 .before .before .u32-at .ensures) (after-u32-at2 .before .flags-ok .ensures) (after-u32-at2 .u32-at2 .ensures)
+    (c .before .before .before .attributes-ok .ensures)
+    (c .before .before .u16-at .ensures) (c .before .hotkey-ok .ensures) (c .zeros-from-66 .ensures)
 
 pub head-ok-spec : {M : Type 1} → statement M
 head-ok-spec =

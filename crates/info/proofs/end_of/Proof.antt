@@ -34,19 +34,22 @@ enum-told-2 c = search needs
 
 returns-3 : tie.Need-returns-3
 returns-3 c =
-    let t = take-got _ _ _ (c .before .before .before .before .before .before .take-u32 .ensures) (c .before .before .before .before .size .given .1) in
+    let after-size = c .before .before .before .before in
+    let t = take-got _ _ _ (after-size .before .before .take-u32 .ensures) (after-size .size .given .1) in
     end-past _ _ _ _ (omega arith) (t .0) (t .1) (skip-lost _ _ _ (c .before .before .skip .ensures) (c .enum-told2 .given .1))
 
 returns-4 : tie.Need-returns-4
 returns-4 c =
-    let t = take-got _ _ _ (c .before .before .before .before .before .before .before .before .take-u32 .ensures) (c .before .before .before .before .before .before .size .given .1) in
-    let u = skip-got _ _ _ (c .before .before .before .before .skip .ensures) (c .before .before .next .given .1) in
+    let after-skip = c .before .before .before .before in
+    let t = take-got _ _ _ (after-skip .before .before .before .before .take-u32 .ensures) (after-skip .before .before .size .given .1) in
+    let u = skip-got _ _ _ (after-skip .skip .ensures) (c .before .before .next .given .1) in
     end-small _ _ _ _ (omega arith) (t .0) (t .1) (u .0) (omega arith)
 
 returns-5 : tie.Need-returns-5
 returns-5 c =
-    let t = take-got _ _ _ (c .before .before .before .before .before .before .before .before .take-u32 .ensures) (c .before .before .before .before .before .before .size .given .1) in
-    let u = skip-got _ _ _ (c .before .before .before .before .skip .ensures) (c .before .before .next .given .1) in
+    let after-skip = c .before .before .before .before in
+    let t = take-got _ _ _ (after-skip .before .before .before .before .take-u32 .ensures) (after-skip .before .before .size .given .1) in
+    let u = skip-got _ _ _ (after-skip .skip .ensures) (c .before .before .next .given .1) in
     end-at _ _ _ _ (omega arith) (t .0) (t .1) (u .0) (omega arith) (u .1)
 
 pub end-of-spec : {M : Type 1} → statement M

@@ -39,8 +39,10 @@ enum-told-2 c = search needs
 
 returns-3 : tie.Need-returns-3
 returns-3 c =
-    let t = take-got _ _ _ (c .before .before .before .before .before .before .before .take-u32 .ensures) (c .before .before .before .before .before .size .given .1) in
-    info-past _ _ (t .0) (t .1) (omega arith) (skip-lost _ _ _ (c .before .before .skip .ensures) (c .enum-told2 .given .1))
+    let after-skip = c .before .before in
+    let after-size = after-skip .before .before .before in
+    let t = take-got _ _ _ (after-size .before .before .take-u32 .ensures) (after-size .size .given .1) in
+    info-past _ _ (t .0) (t .1) (omega arith) (skip-lost _ _ _ (after-skip .skip .ensures) (c .enum-told2 .given .1))
 
 sub-l : tie.Need-sub-l
 sub-l c = omega (arith, skip-got _ _ _ (c .before .before .before .skip .ensures) (c .before .next .given .1))
@@ -58,26 +60,40 @@ info-head-ok-requires c κs =
 
 returns-4 : tie.Need-returns-4
 returns-4 c =
-    let t = take-got _ _ _ (c .before .before .before .before .before .before .before .before .before .before .before .take-u32 .ensures) (c .before .before .before .before .before .before .before .before .before .size .given .1) in
-    let u = skip-got _ _ _ (c .before .before .before .before .before .before .skip .ensures) (c .before .before .before .before .next .given .1) in
+    let after-next = c .before .before .before .before in
+    let after-skip = after-next .before .before in
+    let after-size = after-skip .before .before .before in
+    let t = take-got _ _ _ (after-size .before .before .take-u32 .ensures) (after-size .size .given .1) in
+    let u = skip-got _ _ _ (after-skip .skip .ensures) (after-next .next .given .1) in
     info-head _ _ (t .0) (t .1) (omega arith) (u .0) (u .1) (c .before .info-head-ok .ensures) (c .if2 .taken)
 
 info-pieces-requires : tie.Need-info-pieces-requires
 info-pieces-requires c κs =
-    let u = skip-got _ _ _ (c .before .before .before .before .before .before .skip .ensures) (c .before .before .before .before .next .given .1) in
+    let after-next = c .before .before .before .before in
+    let u = skip-got _ _ _ (after-next .before .before .skip .ensures) (after-next .next .given .1) in
     (simp (length-take, length-drop) (omega arith), simp (length-take, length-drop) (omega arith), sym (c .before .info-head-ok .ensures) ∙ not-false _ (c .if2 .left))
 
 returns-5 : tie.Need-returns-5
 returns-5 c =
-    let t = take-got _ _ _ (c .before .before .before .before .before .before .before .before .before .before .before .before .before .before .take-u32 .ensures) (c .before .before .before .before .before .before .before .before .before .before .before .before .size .given .1) in
-    let u = skip-got _ _ _ (c .before .before .before .before .before .before .before .before .before .skip .ensures) (c .before .before .before .before .before .before .before .next .given .1) in
-    info-piece _ _ (t .0) (t .1) (omega arith) (u .0) (u .1) (c .before .before .before .before .info-head-ok .ensures) (c .before .before .before .if2 .left) (c .before .before .info-pieces .ensures) (c .if3 .taken)
+    let after-info-head-ok = c .before .before .before .before in
+    let after-next = after-info-head-ok .before .before .before in
+    let after-skip = after-next .before .before in
+    let after-size = after-skip .before .before .before in
+    let t = take-got _ _ _ (after-size .before .before .take-u32 .ensures) (after-size .size .given .1) in
+    let u = skip-got _ _ _ (after-skip .skip .ensures) (after-next .next .given .1) in
+    info-piece _ _ (t .0) (t .1) (omega arith) (u .0) (u .1) (after-info-head-ok .info-head-ok .ensures) (c .before .before .before .if2 .left)
+    (c .before .before .info-pieces .ensures) (c .if3 .taken)
 
 returns-6 : tie.Need-returns-6
 returns-6 c =
-    let t = take-got _ _ _ (c .before .before .before .before .before .before .before .before .before .before .before .before .before .before .before .take-u32 .ensures) (c .before .before .before .before .before .before .before .before .before .before .before .before .before .size .given .1) in
-    let u = skip-got _ _ _ (c .before .before .before .before .before .before .before .before .before .before .skip .ensures) (c .before .before .before .before .before .before .before .before .next .given .1) in
-    info-got _ _ (t .0) (t .1) (omega arith) (u .0) (u .1) (c .before .before .before .before .before .info-head-ok .ensures) (c .before .before .before .before .if2 .left) (c .before .before .before .info-pieces .ensures) (c .before .if3 .left)
+    let after-if2 = c .before .before .before .before in
+    let after-next = after-if2 .before .before .before .before in
+    let after-skip = after-next .before .before in
+    let after-size = after-skip .before .before .before in
+    let t = take-got _ _ _ (after-size .before .before .take-u32 .ensures) (after-size .size .given .1) in
+    let u = skip-got _ _ _ (after-skip .skip .ensures) (after-next .next .given .1) in
+    info-got _ _ (t .0) (t .1) (omega arith) (u .0) (u .1) (after-if2 .before .info-head-ok .ensures) (after-if2 .if2 .left)
+    (c .before .before .before .info-pieces .ensures) (c .before .if3 .left)
 
 pub info-spec : {M : Type 1} → statement M
 info-spec =

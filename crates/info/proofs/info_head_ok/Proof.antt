@@ -51,21 +51,23 @@ absent-zero-requires-3 c κs = search needs
 
 field-requires : tie.Need-field-requires
 field-requires c κs =
-    let local = c .before .before .before .before in
-    let head = local .before .before .before .before .before in
-    λ e. omega (arith, head-room _ (head .before .u32-at .ensures) (head .if1 .left) e)
+    let after-u32-at4 = c .before .before .before .before in
+    let after-u32-at2 = after-u32-at4 .before .before .before .before in
+    λ e. omega (arith, head-room _ (after-u32-at2 .before .before .u32-at .ensures) (after-u32-at2 .before .if1 .left) e)
 
 absent-zero-requires-4 : tie.Need-absent-zero-requires-4
 absent-zero-requires-4 c κs = search needs
 
 returns-2 : tie.Need-returns-2
 returns-2 c =
-    let network = c .before .before .before .before in
-    let local = network .before .before .before .before in
-    let head = local .before .before .before in
-    head-passes _ (head .before .u32-at .ensures) (head .if1 .left) (local .before .before .u32-at2 .ensures) (local .before .bit-0 .ensures)
-    (local .u32-at3 .ensures) (network .before .before .before .absent-zero .ensures) (network .before .before .u32-at4 .ensures) (network .before .absent-zero2 .ensures)
-    (network .bit-1 .ensures) (c .before .before .before .u32-at5 .ensures) (c .before .before .absent-zero3 .ensures) (c .before .field .ensures) (c .absent-zero4 .ensures)
+    let after-bit-1 = c .before .before .before .before in
+    let after-u32-at3 = after-bit-1 .before .before .before .before in
+    head-passes _ (after-u32-at3 .before .before .before .before .u32-at .ensures) (after-u32-at3 .before .before .before .if1 .left)
+    (after-u32-at3 .before .before .u32-at2 .ensures) (after-u32-at3 .before .bit-0 .ensures)
+    (after-u32-at3 .u32-at3 .ensures) (after-bit-1 .before .before .before .absent-zero .ensures) (after-bit-1 .before .before .u32-at4 .ensures)
+    (after-bit-1 .before .absent-zero2 .ensures)
+    (after-bit-1 .bit-1 .ensures) (c .before .before .before .u32-at5 .ensures) (c .before .before .absent-zero3 .ensures) (c .before .field .ensures)
+    (c .absent-zero4 .ensures)
 
 pub info-head-ok-spec : {M : Type 1} → statement M
 info-head-ok-spec =

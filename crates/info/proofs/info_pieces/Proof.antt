@@ -47,41 +47,72 @@ network-requires : tie.Need-network-requires
 network-requires c κs = search needs
 
 u32-at-requires-6 : tie.Need-u32-at-requires-6
-u32-at-requires-6 c κs = c .before .before .before .before .before .before .before .before .before .before .before .pre .0
+u32-at-requires-6 c κs =
+    let after-u32-at4 = c .before .before .before .before in
+    let after-u32-at2 = after-u32-at4 .before .before .before .before in
+    after-u32-at2 .before .before .before .pre .0
 
 cast-text-at-2 : tie.Need-cast-text-at-2
 cast-text-at-2 c = search needs
 
 text-at-requires-2 : tie.Need-text-at-requires-2
-text-at-requires-2 c κs = c .before .before .before .before .before .before .before .before .before .before .before .before .pre .1
+text-at-requires-2 c κs =
+    let after-text-at = c .before .before .before .before in
+    let after-bit-0 = after-text-at .before .before .before .before in
+    after-bit-0 .before .before .before .before .pre .1
 
 field-requires : tie.Need-field-requires
 field-requires c κs =
-    λ e. omega (arith, fixed-room _ (c .before .before .before .before .before .before .before .before .before .before .before .u32-at .ensures) (c .before .before .before .before .before .before .before .before .before .before .before .before .before .pre .2) e)
+    let after-bit-1 = c .before .before .before .before in
+    let after-u32-at3 = after-bit-1 .before .before .before .before in
+    let after-u32-at = after-u32-at3 .before .before .before in
+    λ e. omega (arith, fixed-room _ (after-u32-at .u32-at .ensures) (after-u32-at .before .before .pre .2) e)
 
 text-at-requires-3 : tie.Need-text-at-requires-3
 text-at-requires-3 c κs =
-    c .before .before .before .before .before .before .before .before .before .before .before .before .before .before .pre .1
+    let after-u32-at5 = c .before .before .before .before in
+    let after-volume = after-u32-at5 .before .before .before .before in
+    let after-u32-at = after-volume .before .before .before .before in
+    after-u32-at .before .before .pre .1
 
 field-requires-2 : tie.Need-field-requires-2
 field-requires-2 c κs =
-    fixed-room _ (c .before .before .before .before .before .before .before .before .before .before .before .before .before .u32-at .ensures) (c .before .before .before .before .before .before .before .before .before .before .before .before .before .before .before .pre .2)
+    let after-network = c .before .before .before .before in
+    let after-u32-at4 = after-network .before .before .before .before in
+    let after-u32-at2 = after-u32-at4 .before .before .before .before in
+    fixed-room _ (after-u32-at2 .before .u32-at .ensures) (after-u32-at2 .before .before .before .pre .2)
 
 text-at-requires-4 : tie.Need-text-at-requires-4
 text-at-requires-4 c κs =
-    c .before .before .before .before .before .before .before .before .before .before .before .before .before .before .before .before .pre .1
+    let after-u32-at6 = c .before .before .before .before in
+    let after-text-at = after-u32-at6 .before .before .before .before in
+    let after-bit-0 = after-text-at .before .before .before .before in
+    after-bit-0 .before .before .before .before .pre .1
 
 apart-six-requires : tie.Need-apart-six-requires
 apart-six-requires c κs =
-    (c .before .before .before .before .before .before .before .before .before .before .before .before .before .before .before .before .before .volume .ensures .1, c .before .before .before .before .before .before .before .before .before .before .before .before .before .before .before .text-at .ensures .1, c .before .before .before .before .before .before .before .before .before .before .before .before .network .ensures .1, c .before .before .before .before .before .before .before .before .before .before .text-at2 .ensures .1, c .before .before .before .before .before .before .before .before .text-at3 .ensures .1, c .before .before .before .before .before .before .text-at4 .ensures .1)
+    let after-struct-known2 = c .before .before .before .before in
+    let after-text-at3 = after-struct-known2 .before .before .before .before in
+    let after-network = after-text-at3 .before .before .before .before in
+    let after-text-at = after-network .before .before .before in
+    (after-text-at .before .before .volume .ensures .1, after-text-at .text-at .ensures .1, after-network .network .ensures .1, after-text-at3 .before .before .text-at2 .ensures .1, after-text-at3 .text-at3 .ensures .1, after-struct-known2 .before .before .text-at4 .ensures .1)
 
 returns : tie.Need-returns
 returns c =
-    let z = c .before .before .before .before .before .before .before .before .before .before .before .before .before in
-    let y = z .before .before .before .before .before .before .before in
-    let S = six _ _ (y .before .before .before .before .before .before .before .before .u32-at .ensures) (y .before .before .before .before .before .before .before .u32-at2 .ensures) (y .before .before .before .before .before .before .bit-0 .ensures) (y .before .bit-1 .ensures) (y .before .before .before .before .before .u32-at3 .ensures) (y .before .before .before .before .volume .ensures .0) (y .before .before .before .u32-at4 .ensures) (y .before .before .text-at .ensures .0)
-    (y .u32-at5 .ensures) (z .before .before .before .before .before .before .network .ensures .0) (z .before .before .before .before .before .u32-at6 .ensures) (z .before .before .before .before .text-at2 .ensures .0) (z .before .before .before .field .ensures) (z .before .before .text-at3 .ensures .0) (z .before .field2 .ensures) (z .text-at4 .ensures .0) in
-    pieces-are _ _ S (c .before .before .before .before .before .before .apart-six .ensures) (y .before .before .before .before .before .before .before .u32-at2 .ensures) (y .before .before .before .before .before .before .before .before .u32-at .ensures)
+    let after-local = c .before .before .before .before in
+    let after-apart-six = after-local .before .before in
+    let after-struct-known3 = after-apart-six .before .before .before .before in
+    let after-field2 = after-struct-known3 .before .before .before .before in
+    let after-u32-at6 = after-field2 .before .before .before .before in
+    let after-text-at = after-u32-at6 .before .before .before .before in
+    let after-bit-0 = after-text-at .before .before .before .before in
+    let S = six _ _ (after-bit-0 .before .before .u32-at .ensures) (after-bit-0 .before .u32-at2 .ensures) (after-bit-0 .bit-0 .ensures)
+    (after-u32-at6 .before .before .before .bit-1 .ensures) (after-text-at .before .before .before .u32-at3 .ensures)
+    (after-text-at .before .before .volume .ensures .0) (after-text-at .before .u32-at4 .ensures) (after-text-at .text-at .ensures .0)
+    (after-u32-at6 .before .before .u32-at5 .ensures) (after-u32-at6 .before .network .ensures .0) (after-u32-at6 .u32-at6 .ensures)
+    (after-field2 .before .before .before .text-at2 .ensures .0) (after-field2 .before .before .field .ensures) (after-field2 .before .text-at3 .ensures .0)
+    (after-field2 .field2 .ensures) (after-struct-known3 .before .before .before .text-at4 .ensures .0) in
+    pieces-are _ _ S (after-apart-six .apart-six .ensures) (after-bit-0 .before .u32-at2 .ensures) (after-bit-0 .before .before .u32-at .ensures)
 
 pub info-pieces-spec : {M : Type 1} → statement M
 info-pieces-spec =

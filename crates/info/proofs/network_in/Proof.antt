@@ -39,25 +39,41 @@ text-at-requires-2 c κs = search needs
 
 field-requires : tie.Need-field-requires
 field-requires c κs =
-    λ e. omega (arith, network-room _ (c .before .before .before .before .before .before .before .before .network-head-ok .ensures) (c .before .before .before .before .before .before .before .if1 .left) (c .before .before .before .before .before .u32-at2 .ensures) e)
+    let after-bit-0 = c .before .before .before .before in
+    λ e. omega (arith, network-room _ (after-bit-0 .before .before .before .before .network-head-ok .ensures) (after-bit-0 .before .before .before .if1 .left) (after-bit-0 .before .u32-at2 .ensures) e)
 
 text-at-requires-3 : tie.Need-text-at-requires-3
-text-at-requires-3 c κs = c .before .before .before .before .before .before .before .before .before .before .before .pre .1
+text-at-requires-3 c κs =
+    let after-network-head = c .before .before .before .before in
+    let after-if1 = after-network-head .before .before .before .before in
+    after-if1 .before .before .before .pre .1
 
 field-requires-2 : tie.Need-field-requires-2
 field-requires-2 c κs =
-    network-room _ (c .before .before .before .before .before .before .before .before .before .before .network-head-ok .ensures) (c .before .before .before .before .before .before .before .before .before .if1 .left) (c .before .before .before .before .before .before .before .u32-at2 .ensures)
+    let after-text-at = c .before .before .before .before in
+    let after-u32-at2 = after-text-at .before .before .before in
+    network-room _ (after-u32-at2 .before .before .before .network-head-ok .ensures) (after-u32-at2 .before .before .if1 .left) (after-u32-at2 .u32-at2 .ensures)
 
 text-at-requires-4 : tie.Need-text-at-requires-4
-text-at-requires-4 c κs = c .before .before .before .before .before .before .before .before .before .before .before .before .before .pre .1
+text-at-requires-4 c κs =
+    let after-u32-at3 = c .before .before .before .before in
+    let after-u32-at2 = after-u32-at3 .before .before .before .before in
+    let after-shared-slice-known = after-u32-at2 .before .before .before .before in
+    after-shared-slice-known .before .pre .1
 
 apart-four-requires : tie.Need-apart-four-requires
 apart-four-requires c κs =
-    (c .before .before .before .before .before .before .before .before .before .before .text-at .ensures .1, c .before .before .before .before .before .before .before .before .text-at2 .ensures .1, c .before .before .before .before .before .before .text-at3 .ensures .1, c .before .before .before .before .text-at4 .ensures .1)
+    let after-text-at4 = c .before .before .before .before in
+    let after-text-at2 = after-text-at4 .before .before .before .before in
+    (after-text-at2 .before .before .text-at .ensures .1, after-text-at2 .text-at2 .ensures .1, after-text-at4 .before .before .text-at3 .ensures .1, after-text-at4 .text-at4 .ensures .1)
 
 u32-at-requires-4 : tie.Need-u32-at-requires-4
 u32-at-requires-4 c κs =
-    c .before .before .before .before .before .before .before .before .before .before .before .before .before .before .before .before .before .before .before .pre .0
+    let after-struct-known = c .before .before .before .before in
+    let after-field = after-struct-known .before .before .before .before in
+    let after-network-head = after-field .before .before .before .before in
+    let after-if1 = after-network-head .before .before .before .before in
+    after-if1 .before .before .before .pre .0
 
 provider-requires : tie.Need-provider-requires
 provider-requires c κs = search needs
@@ -67,11 +83,20 @@ network-if-requires c κs = search needs
 
 returns-2 : tie.Need-returns-2
 returns-2 c =
-    let z = c .before .before .before .before .before .before .before .before .before .before .before .before in
-    let y = z .before .before .before .before .before .before .before in
-    let f = four _ _ (y .before .before .before .u32-at .ensures) (y .before .before .u32-at2 .ensures) (y .before .bit-0 .ensures) (y .network-head .ensures) (z .before .before .before .before .before .before .text-at .ensures .0) (z .before .before .before .before .before .u32-at3 .ensures) (z .before .before .before .before .text-at2 .ensures .0)
-    (z .before .before .before .field .ensures) (z .before .before .text-at3 .ensures .0) (z .before .field2 .ensures) (z .text-at4 .ensures .0) in
-    network-read _ _ (y .before .before .before .before .before .network-head-ok .ensures) (y .before .before .before .before .if1 .left) f (c .before .before .before .before .before .before .before .apart-four .ensures) (y .before .before .before .u32-at .ensures) (y .before .before .u32-at2 .ensures) (c .before .before .before .before .before .before .u32-at4 .ensures) (c .before .before .before .before .before .provider .ensures)
+    let after-net = c .before .before .before .before in
+    let after-apart-four = after-net .before .before .before in
+    let after-struct-known = after-apart-four .before .before .before .before in
+    let after-field = after-struct-known .before .before .before .before in
+    let after-network-head = after-field .before .before .before .before in
+    let after-if1 = after-network-head .before .before .before .before in
+    let f = four _ _ (after-network-head .before .before .before .u32-at .ensures) (after-network-head .before .before .u32-at2 .ensures)
+    (after-network-head .before .bit-0 .ensures) (after-network-head .network-head .ensures) (after-field .before .before .before .text-at .ensures .0)
+    (after-field .before .before .u32-at3 .ensures) (after-field .before .text-at2 .ensures .0)
+    (after-field .field .ensures) (after-struct-known .before .before .before .text-at3 .ensures .0) (after-struct-known .before .before .field2 .ensures)
+    (after-struct-known .before .text-at4 .ensures .0) in
+    network-read _ _ (after-if1 .before .network-head-ok .ensures) (after-if1 .if1 .left) f (after-apart-four .apart-four .ensures)
+    (after-network-head .before .before .before .u32-at .ensures) (after-network-head .before .before .u32-at2 .ensures) (after-net .before .before .u32-at4 .ensures)
+    (after-net .before .provider .ensures)
     (c .network-if .ensures)
 
 pub network-in-spec : {M : Type 1} → statement M

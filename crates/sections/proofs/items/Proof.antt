@@ -32,7 +32,8 @@ enum-told-2 c = search needs
 
 returns-2 : tie.Need-returns-2
 returns-2 c =
-    let g = take-got _ _ _ (c .before .before .before .before .before .before .take-u16 .ensures) (c .before .before .before .before .size .given .1) in
+    let after-size = c .before .before .before .before in
+    let g = take-got _ _ _ (after-size .before .before .take-u16 .ensures) (after-size .size .given .1) in
     items-cut _ _ (g .0) (g .1) (g .2) (skip-lost _ _ _ (c .before .before .skip .ensures) (c .enum-told2 .given .1))
 
 sub-item-list : tie.Need-sub-item-list
@@ -55,20 +56,26 @@ item-list-requires c κs = search needs
 
 returns-3 : tie.Need-returns-3
 returns-3 c =
-    let g = take-got _ _ _ (c .before .before .before .before .before .before .before .before .before .before .take-u16 .ensures) (c .before .before .before .before .before .before .before .before .size .given .1) in
-    let k = skip-got _ _ _ (c .before .before .before .before .before .before .skip .ensures) (c .before .before .before .before .next .given .1) in
+    let after-next = c .before .before .before .before in
+    let after-size = after-next .before .before .before .before in
+    let g = take-got _ _ _ (after-size .before .before .take-u16 .ensures) (after-size .size .given .1) in
+    let k = skip-got _ _ _ (after-next .before .before .skip .ensures) (after-next .next .given .1) in
     items-bad _ _ (g .0) (g .1) (g .2) (k .0) (k .1) (c .before .item-list .ensures) (c .if1 .taken)
 
 sub-t15 : tie.Need-sub-t15
 sub-t15 c =
-    let g = take-got _ _ _ (c .before .before .before .before .before .before .before .before .before .before .take-u16 .ensures) (c .before .before .before .before .before .before .before .before .size .given .1) in
-    let k = skip-got _ _ _ (c .before .before .before .before .before .before .skip .ensures) (c .before .before .before .before .next .given .1) in
+    let after-next = c .before .before .before .before in
+    let after-size = after-next .before .before .before .before in
+    let g = take-got _ _ _ (after-size .before .before .take-u16 .ensures) (after-size .size .given .1) in
+    let k = skip-got _ _ _ (after-next .before .before .skip .ensures) (after-next .next .given .1) in
     items-two _ _ (g .0) (g .1) (g .2) (k .0) (k .1) (c .before .item-list .ensures) (c .if1 .left)
 
 returns-4 : tie.Need-returns-4
 returns-4 c =
-    let g = take-got _ _ _ (c .before .before .before .before .before .before .before .before .before .before .take-u16 .ensures) (c .before .before .before .before .before .before .before .before .size .given .1) in
-    let k = skip-got _ _ _ (c .before .before .before .before .before .before .skip .ensures) (c .before .before .before .before .next .given .1) in
+    let after-next = c .before .before .before .before in
+    let after-size = after-next .before .before .before .before in
+    let g = take-got _ _ _ (after-size .before .before .take-u16 .ensures) (after-size .size .given .1) in
+    let k = skip-got _ _ _ (after-next .before .before .skip .ensures) (after-next .next .given .1) in
     items-got _ _ (g .0) (g .1) (g .2) (k .0) (k .1) (c .before .item-list .ensures) (c .if1 .left) refl
 
 pub items-spec : {M : Type 1} → statement M

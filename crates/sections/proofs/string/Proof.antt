@@ -30,14 +30,16 @@ enum-told-2 c = search needs
 
 returns-2 : tie.Need-returns-2
 returns-2 c =
-    let g = take-got _ _ _ (c .before .before .before .before .before .before .before .take-u16 .ensures) (c .before .before .before .before .before .count .given .1) in
-    string-cut _ _ _ (g .0) (g .1) (g .2) (c .before .before .before .bytes-of .ensures) (skip-lost _ _ _ (c .before .before .skip .ensures) (c .enum-told2 .given .1))
+    let after-bytes-of = c .before .before .before in
+    let g = take-got _ _ _ (after-bytes-of .before .before .before .before .take-u16 .ensures) (after-bytes-of .before .before .count .given .1) in
+    string-cut _ _ _ (g .0) (g .1) (g .2) (after-bytes-of .bytes-of .ensures) (skip-lost _ _ _ (c .before .before .skip .ensures) (c .enum-told2 .given .1))
 
 returns-3 : tie.Need-returns-3
 returns-3 c =
-    let g = take-got _ _ _ (c .before .before .before .before .before .before .before .before .take-u16 .ensures) (c .before .before .before .before .before .before .count .given .1) in
+    let after-bytes-of = c .before .before .before .before in
+    let g = take-got _ _ _ (after-bytes-of .before .before .before .before .take-u16 .ensures) (after-bytes-of .before .before .count .given .1) in
     let k = skip-got _ _ _ (c .before .before .before .skip .ensures) (c .before .next .given .1) in
-    string-got _ _ _ (g .0) (g .1) (g .2) (c .before .before .before .before .bytes-of .ensures) (k .0) (k .1)
+    string-got _ _ _ (g .0) (g .1) (g .2) (after-bytes-of .bytes-of .ensures) (k .0) (k .1)
 
 pub string-spec : {M : Type 1} → statement M
 string-spec =
