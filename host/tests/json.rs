@@ -4,7 +4,8 @@ mod schema;
 
 use common::shortcuts::{z, Shortcuts};
 use common::{rows, text, SAMPLE};
-use herringnet::check;
+use herringnet::record::{Header, Record};
+use herringnet::{check, Text};
 use schema::{misfit, misfit_of_all, parse, schema, Value};
 use std::collections::BTreeSet;
 
@@ -94,6 +95,24 @@ fn names_are_strings_or_hex() {
     s.put_raw(b"list", b"caf\xE9.lnk\0a.lnk\0");
     let said = s.run(&["check", "--json", "-0", "--files-from", "list"]);
     assert_eq!((said.status, values(&said.out).len()), (0, 2));
+}
+
+#[test]
+fn characters_are_there_only_where_they_are_certain() {
+    let s = Shortcuts::none("json_texts");
+    let shown = |flags: u32, arguments: &[u8]| {
+        let header = Header { flags, ..Header::default() };
+        let arguments = Some(Text::of(header.is_unicode(), arguments));
+        s.put("t.lnk", &Record { header, arguments, ..Record::default() }.to_vec().unwrap());
+        let value = values(&s.run(&["show", "--json", "t.lnk"]).out).remove(0);
+        let text = value.get("arguments").unwrap().clone();
+        (text.get("hex").unwrap().text().to_string(), text.get("text").unwrap().clone())
+    };
+    let string = |text: &str| Value::String(text.to_string());
+    assert_eq!(shown(0, b"-g\x01"), ("2d6701".to_string(), string("-g\x01")));
+    assert_eq!(shown(0, b"caf\xE9"), ("636166e9".to_string(), Value::Null));
+    assert_eq!(shown(0x80, b"\xE9\0\x3D\xD8\x00\xDE"), ("e9003dd800de".to_string(), string("é😀")));
+    assert_eq!(shown(0x80, b"\x3D\xD8"), ("3dd8".to_string(), Value::Null));
 }
 
 /// All names of members in a value.

@@ -9,6 +9,8 @@ mod key;
 mod record;
 mod writer;
 
+// Not every test calls this side as the boundary is called.
+#[allow(unused_imports)]
 pub use boundary::*;
 pub use key::key;
 pub use record::*;
