@@ -37,7 +37,7 @@ flagsOk f = eqb (f / 2 ^ 27) 0
 abbrev pub attributesOk : ℕ → Bool
 attributesOk a = not (bit 3 a) && not (bit 6 a) && eqb (a / 2 ^ 15) 0
 
--- the ten bytes from 66, one field, are zero
+-- one field of ten bytes, from 66 on, all zero
 abbrev pub zerosFrom66 : List ℕ → Bool
 zerosFrom66 l = eqb (numberAt 10 l 66) 0
 

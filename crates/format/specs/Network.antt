@@ -52,7 +52,7 @@ networkHeadTests v =
     ∷ (not (networkUnicode v) || absentZero (hasDevice v) (u32At v 24)) else PIECE
     ∷ []
 
--- the strings lie after the head, inside the declared size, and share no byte
+-- then those of its strings
 abbrev pub networkRules : List ℕ → List Test
 networkRules v = networkHeadTests v ++ pieceTests (networkHead (networkUnicode v)) (networkPieces v)
 

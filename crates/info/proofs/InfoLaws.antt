@@ -52,8 +52,8 @@ module _ (l : List ℕ) {head : ℕ} (eh : head ≡ u32At l 4) where
   pub head-room : not (headFits head (length l)) ≡ false → leb 0x24 head ≡ true → 0x24 ≤ length l
   head-room t = long-inside head (length l) (not-false (headFits head (length l)) t)
 
-  pub fixed-room : all (infoHeadTests l) ≡ true → leb 0x24 head ≡ true → 0x24 ≤ length l
-  fixed-room e = long-inside head (length l) (rw eh (info-head-holds l (all-pass (infoHeadTests l) e) .head))
+  pub passed-room : all (infoHeadTests l) ≡ true → leb 0x24 head ≡ true → 0x24 ≤ length l
+  passed-room e = long-inside head (length l) (rw eh (info-head-holds l (all-pass (infoHeadTests l) e) .head))
 
   pub head-passes : {flags o₁ o₂ o₃ o₄ : ℕ} {local linked x₁ x₂ x₃ x₄ : Bool} → not (headFits head (length l)) ≡ false
       → flags ≡ u32At l 8 → local ≡ localThere flags → o₁ ≡ u32At l 12 → x₁ ≡ absentZero local o₁ → o₂ ≡ u32At l 16 → x₂ ≡ absentZero local o₂ → linked ≡ networkThere flags

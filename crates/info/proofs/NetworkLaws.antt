@@ -97,19 +97,19 @@ four p v ef en ed eh ea e₁ eb e₂ ec e₃ ee =
       deviceUnicode = ee ∙ rw (e₃, eh, ed, ef, en) (text-field (u && hasDevice v) true v p h 24 u (λ z. rw z));
     }
 
-module _ (p : ℕ) (v : List ℕ) {fixed : Bool} (ex : fixed ≡ all (networkHeadTests v)) where
-  pub network-fails : not fixed ≡ true → Bad ≡ networkIn p v
+module _ (p : ℕ) (v : List ℕ) {ok : Bool} (ex : ok ≡ all (networkHeadTests v)) where
+  pub network-fails : not ok ≡ true → Bad ≡ networkIn p v
   unfolding networkIn
-  network-fails t = rw (rules-split v, ← ex, not-true fixed t)
+  network-fails t = rw (rules-split v, ← ex, not-true ok t)
 
-  module _ {a b c d : Text} {far : Bool} (t : not fixed ≡ false) (f : Four p v a b c d) (ef : far ≡ all (apartTests [] (a .span ∷ b .span ∷ c .span ∷ d .span ∷ []))) where
+  module _ {a b c d : Text} {far : Bool} (t : not ok ≡ false) (f : Four p v a b c d) (ef : far ≡ all (apartTests [] (a .span ∷ b .span ∷ c .span ∷ d .span ∷ []))) where
     judged : all (networkRules v) ≡ fourPass a b c d far
     unfolding textFound
     judged =
         let h : ℕ = networkHead (networkUnicode v) in
         let fs : ((a .ok, a .span) ∷ (b .ok, b .span) ∷ (c .ok, c .span) ∷ (d .ok, d .span) ∷ []) ≡ map (judge h) (networkPieces v)
         = rw (f .net, f .device, f .netUnicode, f .deviceUnicode) in
-        rules-split v ∙ rw (← ex, not-false fixed t, pieces-judged h (networkPieces v) fs ef) (simp (and-assoc, and-yes))
+        rules-split v ∙ rw (← ex, not-false ok t, pieces-judged h (networkPieces v) fs ef) (simp (and-assoc, and-yes))
 
     pub network-read : {flags name kept provider : ℕ} {r : NetworkRead} → flags ≡ u32At v 4 → name ≡ u32At v 8 → kept ≡ u32At v 16 → provider ≡ providerOf flags kept
         → r ≡ networkIf (fourPass a b c d far) (fourFields flags provider (ltb 0x14 name) a b c d) → r ≡ networkIn p v

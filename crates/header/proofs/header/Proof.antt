@@ -1,3 +1,4 @@
+-- One law for each way out; the rules of HEAD are one test of the code.
 use Rattle.header.proofs.Laws.{header-cut, header-size, header-identifier, header-head, header-got}
 use native.Mathlib.Omega.{arith}
 use lib.ListN.{length-take}

@@ -1,3 +1,4 @@
+-- Two pieces that end at 0 are apart from every other, so with a short head the first four decide.
 use Rattle.info.proofs.TestLaws.{six-as-four, six-apart}
 use borrow.Author.Needs.{needs}
 use Rattle.info.proofs.apart_six.Statement.{statement}

@@ -1,4 +1,4 @@
-use Rattle.info.proofs.InfoLaws.{fixed-room, six, pieces-are}
+use Rattle.info.proofs.InfoLaws.{passed-room, six, pieces-are}
 use native.Mathlib.Omega.{arith}
 use borrow.Author.Needs.{needs}
 use Rattle.info.proofs.info_pieces.Statement.{statement}
@@ -66,7 +66,7 @@ field-requires c κs =
     let after-bit-1 = c .before .before .before .before in
     let after-u32-at3 = after-bit-1 .before .before .before .before in
     let after-u32-at = after-u32-at3 .before .before .before in
-    λ e. omega (arith, fixed-room _ (after-u32-at .u32-at .ensures) (after-u32-at .before .before .pre .2) e)
+    λ e. omega (arith, passed-room _ (after-u32-at .u32-at .ensures) (after-u32-at .before .before .pre .2) e)
 
 text-at-requires-3 : tie.Need-text-at-requires-3
 text-at-requires-3 c κs =
@@ -80,7 +80,7 @@ field-requires-2 c κs =
     let after-network = c .before .before .before .before in
     let after-u32-at4 = after-network .before .before .before .before in
     let after-u32-at2 = after-u32-at4 .before .before .before .before in
-    fixed-room _ (after-u32-at2 .before .u32-at .ensures) (after-u32-at2 .before .before .before .pre .2)
+    passed-room _ (after-u32-at2 .before .u32-at .ensures) (after-u32-at2 .before .before .before .pre .2)
 
 text-at-requires-4 : tie.Need-text-at-requires-4
 text-at-requires-4 c κs =

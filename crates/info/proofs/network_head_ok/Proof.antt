@@ -1,3 +1,4 @@
+-- What comes first is one test of the code, and leaves room for the field at 24; the offsets of absent names are the rest.
 use Rattle.info.proofs.NetworkLaws.{network-short, network-fields, network-long}
 use borrow.Author.Needs.{needs}
 use Rattle.info.proofs.network_head_ok.Statement.{statement}

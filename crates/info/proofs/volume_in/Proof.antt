@@ -1,3 +1,4 @@
+-- The tests before the label are one test of the code; where they pass, the label's own answer decides.
 use Rattle.info.proofs.VolumeLaws.{label-room, volume-fixed, volume-open, volume-good}
 use native.Mathlib.Omega.{arith}
 use lib.Dec.{eqb, ltb}
