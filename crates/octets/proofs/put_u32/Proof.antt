@@ -24,7 +24,9 @@ same-length c = search needs
 
 returns : tie.Need-returns
 returns c =
-    put-halves 2 _ _ _ (omega arith) (c .before .before .before .before .before .before .put-u16 .ensures) (c .before .before .put-u162 .ensures)
+    let after-put-u162 = c .before .before in
+    let after-put-u16 = after-put-u162 .before .before .before .before in
+    put-halves 2 _ _ _ (omega arith) (after-put-u16 .put-u16 .ensures) (after-put-u162 .put-u162 .ensures)
 
 pub put-u32-spec : {M : Type 1} → statement M
 put-u32-spec =

@@ -24,7 +24,9 @@ same-length c = search needs
 
 returns : tie.Need-returns
 returns c =
-    put-halves 4 _ _ _ (omega arith) (c .before .before .before .before .before .before .put-u32 .ensures) (c .before .before .put-u322 .ensures)
+    let after-put-u322 = c .before .before in
+    let after-put-u32 = after-put-u322 .before .before .before .before in
+    put-halves 4 _ _ _ (omega arith) (after-put-u32 .put-u32 .ensures) (after-put-u322 .put-u322 .ensures)
 
 pub put-u64-spec : {M : Type 1} → statement M
 put-u64-spec =

@@ -44,10 +44,12 @@ loop-less c = omega arith
 
 loop-again : tie.Need-loop-again Inv-loop μ-loop
 loop-again c =
-    let i = c .before .before .before .loop .i in
-    let f = c .before .before .before .before .before .before .args .from in
+    let after-loop = c .before .before .before in
+    let start = after-loop .before .before .before in
+    let i = after-loop .loop .i in
+    let f = start .args .from in
     let e : i + 1 - f ≡ i - f + 1 = omega arith in
-    (omega arith, rw e (scan-other _ _ _ _ (c .before .before .before .loop .inv .1) (omega arith) (number-byte _ _) (c .if1 .left)))
+    (omega arith, rw e (scan-other _ _ _ _ (after-loop .loop .inv .1) (omega arith) (number-byte _ _) (c .if1 .left)))
 
 returns-2 : tie.Need-returns-2 Inv-loop μ-loop
 returns-2 c = scan-end _ _ _ _ (c .before .loop .inv .1) (omega arith)

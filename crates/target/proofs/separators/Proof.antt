@@ -24,13 +24,17 @@ shared-slice-read-if3 c = search needs
 
 returns-3 : tie.Need-returns-3
 returns-3 c =
-    let u = c .before .before .before .before .before .before .before in
-    separators-ended _ _ _ (u .pre .0) (u .pre .1) (c .before .before .before .before .before .if1 .left) (c .before .before .before .if2 .left) (c .if3 .taken)
+    let after-if2 = c .before .before .before in
+    let after-if1 = after-if2 .before .before in
+    let start = after-if1 .before .before in
+    separators-ended _ _ _ (start .pre .0) (start .pre .1) (after-if1 .if1 .left) (after-if2 .if2 .left) (c .if3 .taken)
 
 returns-4 : tie.Need-returns-4
 returns-4 c =
-    let u = c .before .before .before .before .before .before .before in
-    separators-one _ _ _ (u .pre .0) (u .pre .1) (c .before .before .before .before .before .if1 .left) (c .before .before .before .if2 .left) (c .if3 .left)
+    let after-if2 = c .before .before .before in
+    let after-if1 = after-if2 .before .before in
+    let start = after-if1 .before .before in
+    separators-one _ _ _ (start .pre .0) (start .pre .1) (after-if1 .if1 .left) (after-if2 .if2 .left) (c .if3 .left)
 
 pub separators-spec : {M : Type 1} → statement M
 separators-spec =
