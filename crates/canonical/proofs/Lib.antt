@@ -1,4 +1,3 @@
 pub mod WroteLaws
-pub mod SizeLaws
 pub mod LayoutLaws
 pub mod FitsLaws

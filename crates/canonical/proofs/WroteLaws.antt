@@ -6,16 +6,14 @@ use lib.ListN.{length}
 use Rattle.octets.specs.Parts.{part, put, Wrote}
 use Rattle.format.specs.declared.Place.{Place}
 use Rattle.format.specs.Contents.{bytesAt}
-use Rattle.format.proofs.BodyLaws.{body-length, body-part, part-length}
-use Rattle.canonical.specs.Inside.{Inside}
+use Rattle.format.proofs.BodyLaws.{body-part, part-length}
+use Rattle.sizes.specs.InBuffer.{InBuffer}
+use Rattle.sizes.proofs.SizeLaws.{length-body}
 
-module _ {d : List ℕ} {b : Place} (i : Inside d b) where
-  pub length-body : length (bytesAt d b) ≡ b .len
-  length-body = body-length d b (i .within)
-
+module _ {d : List ℕ} {b : Place} (i : InBuffer d b) where
   pub length-part : {y : List ℕ} → y ≡ part d (b .at) (b .len) → length y ≡ b .len
   length-part = part-length d b (i .within)
 
   pub wrote-body : {out x y : List ℕ} {at : ℕ} → y ≡ part d (b .at) (b .len) → x ≡ put out at y → at + b .len ≤ length out
       → Wrote out at (bytesAt d b) (b .len) x (at + b .len)
-  wrote-body p e h = record { content = e ∙ rw (p, body-part d b (i .within)); long = length-body; next = refl; fits = h }
+  wrote-body p e h = record { content = e ∙ rw (p, body-part d b (i .within)); long = length-body i; next = refl; fits = h }

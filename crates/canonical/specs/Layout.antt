@@ -12,7 +12,8 @@ use Rattle.format.specs.Header.{classIdentifier}
 use Rattle.format.specs.Network.{networkHead}
 use Rattle.format.specs.Contents.{bytesAt, volumeContents, networkContents}
 use Rattle.format.specs.Writing.{endToEnd, ifThere, textBytes, bits, twoFields, volumeBytes, networkBytes, stringBytes}
-use Rattle.canonical.specs.Sizes.{textSize, textSizeIf, volumeSize, deviceOffset, netUnicodeOffset, deviceUnicodeOffset, networkSize, infoHead, localOffset, networkOffset, suffixOffset, localUnicodeOffset, suffixUnicodeOffset, infoSize}
+use Rattle.format.specs.Bodies.{writtenHead}
+use Rattle.sizes.specs.Sizes.{writtenText, writtenTextIf, writtenVolume, deviceOffset, netUnicodeOffset, deviceUnicodeOffset, writtenNetwork, localOffset, networkOffset, suffixOffset, localUnicodeOffset, suffixUnicodeOffset, writtenInfo}
 
 -- the header's size and the class identifier
 abbrev pub magicBytes : List ℕ
@@ -25,8 +26,8 @@ markBytes h =
     (little 4 (h .flags) ∷ little 4 (h .attributes) ∷ little 8 (h .creation) ∷ little 8 (h .access) ∷ little 8 (h .write) ∷ [])
 
 -- from the file's size to the ten zero bytes
-unfoldable pub shownBytes : Header → List ℕ
-shownBytes h =
+unfoldable pub viewBytes : Header → List ℕ
+viewBytes h =
     endToEnd
     (little 4 (h .«file_size»)
     ∷ little 4 (bits (h .«icon_index»))
@@ -40,7 +41,7 @@ shownBytes h =
 unfoldable pub networkFieldBytes : Network → List ℕ
 networkFieldBytes n =
     endToEnd
-    (little 4 (networkSize n)
+    (little 4 (writtenNetwork n)
     ∷ little 4 (n .flags)
     ∷ little 4 (networkHead (n .unicode))
     ∷ little 4 (cond (deviceThere (n .flags)) (deviceOffset n) 0)
@@ -59,20 +60,20 @@ networkNameBytes d n =
 
 abbrev pub namesSize : Network → ℕ
 namesSize n =
-    textSize false (n .net)
-    + textSizeIf (deviceThere (n .flags)) false (n .device)
-    + textSizeIf (n .unicode) true (n .«net_unicode»)
-    + textSizeIf (deviceUnicodeThere (n .unicode) (n .flags)) true (n .«device_unicode»)
+    writtenText false (n .net)
+    + writtenTextIf (deviceThere (n .flags)) false (n .device)
+    + writtenTextIf (n .unicode) true (n .«net_unicode»)
+    + writtenTextIf (deviceUnicodeThere (n .unicode) (n .flags)) true (n .«device_unicode»)
 
 -- ---- LinkInfo: its fields, then its pieces
 
 unfoldable pub infoFieldBytes : Info → List ℕ
 infoFieldBytes i =
     endToEnd
-    (little 4 (infoSize i)
-    ∷ little 4 (infoHead (i .long))
+    (little 4 (writtenInfo i)
+    ∷ little 4 (writtenHead (i .long))
     ∷ little 4 (i .flags)
-    ∷ little 4 (cond (localThere (i .flags)) (infoHead (i .long)) 0)
+    ∷ little 4 (cond (localThere (i .flags)) (writtenHead (i .long)) 0)
     ∷ little 4 (cond (localThere (i .flags)) (localOffset i) 0)
     ∷ little 4 (cond (networkThere (i .flags)) (networkOffset i) 0)
     ∷ little 4 (suffixOffset i)
@@ -92,12 +93,12 @@ infoPieceBytes d i =
 
 abbrev pub piecesSize : Info → ℕ
 piecesSize i =
-    cond (localThere (i .flags)) (volumeSize (i .volume)) 0
-    + textSizeIf (localThere (i .flags)) false (i .local)
-    + cond (networkThere (i .flags)) (networkSize (i .network)) 0
-    + textSize false (i .suffix)
-    + textSizeIf (localUnicodeThere (i .long) (i .flags)) true (i .«local_unicode»)
-    + textSizeIf (i .long) true (i .«suffix_unicode»)
+    cond (localThere (i .flags)) (writtenVolume (i .volume)) 0
+    + writtenTextIf (localThere (i .flags)) false (i .local)
+    + cond (networkThere (i .flags)) (writtenNetwork (i .network)) 0
+    + writtenText false (i .suffix)
+    + writtenTextIf (localUnicodeThere (i .long) (i .flags)) true (i .«local_unicode»)
+    + writtenTextIf (i .long) true (i .«suffix_unicode»)
 
 -- ---- the five strings
 

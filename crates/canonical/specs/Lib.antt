@@ -1,4 +1,2 @@
-pub mod Inside
-pub mod Sizes
 pub mod Puts
 pub mod Layout

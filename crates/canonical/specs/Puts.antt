@@ -16,7 +16,7 @@ pub record Room (out : List ℕ) (at n : ℕ) : Type 0 where
   pub few : n ≤ most
 
 -- the record's bodies lie in the body buffer d, and its canonical form has room in out and is no longer than a shortcut can be
-pub record Fits (d out : List ℕ) (q : Record) : Type 0 where
+pub record RoomFor (d out : List ℕ) (q : Record) : Type 0 where
   pub inside : allInside (length d) (bodies q) ≡ true
   pub few : length (canonical (bodiesOf d q)) ≤ most
   pub room : length (canonical (bodiesOf d q)) ≤ length out

@@ -1,28 +1,28 @@
 // Puts the canonical bytes of a record into a lent buffer. A function that puts answers the place after what it put.
 mod info;
 mod numbers;
-mod sizes;
 mod texts;
 
 use crate::info::put_info_if;
 use crate::numbers::add_u16;
 use crate::numbers::add_u32;
 use crate::numbers::add_u64;
-use crate::sizes::characters_in;
 use crate::texts::put_body;
 use format::Header;
 use format::Place;
 use format::Record;
+use sizes::Starts;
 ghost use mathlib.Core.Path.{_≡_};
 ghost use Prim.Native.Nat.{_+_, _≤_};
 ghost use lib.ListN.{length};
 ghost use Rattle.octets.specs.Parts.{put, Wrote};
 ghost use Rattle.format.specs.Contents.{bytesAt, bodiesOf};
 ghost use Rattle.format.specs.Writing.{ifThere, headerBytes, itemsBytes, stringBytes, blocksBytes, canonical};
-ghost use Rattle.canonical.specs.Inside.{Inside, StringsInside};
-ghost use Rattle.canonical.specs.Sizes.{sizedIf, stringsSize};
-ghost use Rattle.canonical.specs.Puts.{Room, Fits};
-ghost use Rattle.canonical.specs.Layout.{magicBytes, markBytes, shownBytes, stringsBytes};
+ghost use Rattle.sizes.specs.InBuffer.{InBuffer, StringsInBuffer};
+ghost use Rattle.sizes.specs.Sizes.{charactersIn, writtenIf, writtenStrings};
+ghost use Rattle.sizes.specs.Starts.{startsOf};
+ghost use Rattle.canonical.specs.Puts.{Room, RoomFor};
+ghost use Rattle.canonical.specs.Layout.{magicBytes, markBytes, viewBytes, stringsBytes};
 
 // ---- the header
 
@@ -51,9 +51,9 @@ fn put_marks(out: &mut [u8], at: usize, h: Header) -> usize
 }
 
 // From the file's size to the ten zero bytes.
-fn put_shown(out: &mut [u8], at: usize, h: Header) -> usize
+fn put_view(out: &mut [u8], at: usize, h: Header) -> usize
     requires { ⌜ at + 24 ≤ length (now out) ⌝ }
-    ensures { λ r. ⌜ Wrote (now (out .entry)) at (shownBytes h) 24 (now (out .exit)) r ⌝ }
+    ensures { λ r. ⌜ Wrote (now (out .entry)) at (viewBytes h) 24 (now (out .exit)) r ⌝ }
 {
     let icon = format::bits_of(h.icon_index);
     let p = add_u32(out, at, h.file_size);
@@ -70,16 +70,16 @@ fn put_header(out: &mut [u8], at: usize, h: Header) -> usize
 {
     let p = put_magic(out, at);
     let p = put_marks(out, p, h);
-    put_shown(out, p, h)
+    put_view(out, p, h)
 }
 
 // ---- the item list
 
 // Its size, the items, and two zero bytes.
 fn put_items(out: &mut [u8], at: usize, d: &[u8], b: Place) -> usize
-    requires { ⌜ Inside (now d) b ⌝ }
-    requires { ⌜ Room (now out) at (4 + b .len) ⌝ }
-    ensures { λ r. ⌜ Wrote (now (out .entry)) at (itemsBytes (bytesAt (now (d .entry)) b)) (4 + b .len) (now (out .exit)) r ⌝ }
+    requires { ⌜ InBuffer (now d) b ⌝ }
+    requires { ⌜ Room (now out) at (b .len + 4) ⌝ }
+    ensures { λ r. ⌜ Wrote (now (out .entry)) at (itemsBytes (bytesAt (now (d .entry)) b)) (b .len + 4) (now (out .exit)) r ⌝ }
 {
     let n = b.len;
     let p = add_u16(out, at, (n + 2) as u16);
@@ -88,9 +88,9 @@ fn put_items(out: &mut [u8], at: usize, d: &[u8], b: Place) -> usize
 }
 
 fn put_items_if(there: bool, out: &mut [u8], at: usize, d: &[u8], b: Place) -> usize
-    requires { ⌜ Inside (now d) b ⌝ }
-    requires { ⌜ Room (now out) at (sizedIf there 4 b) ⌝ }
-    ensures { λ r. ⌜ Wrote (now (out .entry)) at (ifThere there itemsBytes (bytesAt (now (d .entry)) b)) (sizedIf there 4 b) (now (out .exit)) r ⌝ }
+    requires { ⌜ InBuffer (now d) b ⌝ }
+    requires { ⌜ Room (now out) at (writtenIf there b 4) ⌝ }
+    ensures { λ r. ⌜ Wrote (now (out .entry)) at (ifThere there itemsBytes (bytesAt (now (d .entry)) b)) (writtenIf there b 4) (now (out .exit)) r ⌝ }
 {
     if there {
         return put_items(out, at, d, b);
@@ -100,11 +100,22 @@ fn put_items_if(there: bool, out: &mut [u8], at: usize, d: &[u8], b: Place) -> u
 
 // ---- the strings
 
+// How many characters stand in n bytes.
+fn characters_in(unicode: bool, n: usize) -> u16
+    requires { ⌜ n ≤ 65535 ⌝ }
+    ensures { λ r. ⌜ r ≡ charactersIn unicode n ⌝ }
+{
+    if unicode {
+        return (n / 2) as u16;
+    }
+    n as u16
+}
+
 // A count of characters, and the characters.
 fn put_string(out: &mut [u8], at: usize, d: &[u8], unicode: bool, b: Place) -> usize
-    requires { ⌜ Inside (now d) b ⌝ }
-    requires { ⌜ Room (now out) at (2 + b .len) ⌝ }
-    ensures { λ r. ⌜ Wrote (now (out .entry)) at (stringBytes unicode (bytesAt (now (d .entry)) b)) (2 + b .len) (now (out .exit)) r ⌝ }
+    requires { ⌜ InBuffer (now d) b ⌝ }
+    requires { ⌜ Room (now out) at (b .len + 2) ⌝ }
+    ensures { λ r. ⌜ Wrote (now (out .entry)) at (stringBytes unicode (bytesAt (now (d .entry)) b)) (b .len + 2) (now (out .exit)) r ⌝ }
 {
     let n = b.len;
     let count = characters_in(unicode, n);
@@ -113,9 +124,9 @@ fn put_string(out: &mut [u8], at: usize, d: &[u8], unicode: bool, b: Place) -> u
 }
 
 fn put_string_if(there: bool, out: &mut [u8], at: usize, d: &[u8], unicode: bool, b: Place) -> usize
-    requires { ⌜ Inside (now d) b ⌝ }
-    requires { ⌜ Room (now out) at (sizedIf there 2 b) ⌝ }
-    ensures { λ r. ⌜ Wrote (now (out .entry)) at (ifThere there (stringBytes unicode) (bytesAt (now (d .entry)) b)) (sizedIf there 2 b) (now (out .exit)) r ⌝ }
+    requires { ⌜ InBuffer (now d) b ⌝ }
+    requires { ⌜ Room (now out) at (writtenIf there b 2) ⌝ }
+    ensures { λ r. ⌜ Wrote (now (out .entry)) at (ifThere there (stringBytes unicode) (bytesAt (now (d .entry)) b)) (writtenIf there b 2) (now (out .exit)) r ⌝ }
 {
     if there {
         return put_string(out, at, d, unicode, b);
@@ -125,41 +136,56 @@ fn put_string_if(there: bool, out: &mut [u8], at: usize, d: &[u8], unicode: bool
 
 // Name, relative path, working directory, arguments, icon.
 fn put_strings(out: &mut [u8], at: usize, q: Record, d: &[u8]) -> usize
-    requires { ⌜ StringsInside (now d) q ⌝ }
-    requires { ⌜ Room (now out) at (stringsSize q) ⌝ }
-    ensures { λ r. ⌜ Wrote (now (out .entry)) at (stringsBytes (now (d .entry)) q) (stringsSize q) (now (out .exit)) r ⌝ }
+    requires { ⌜ StringsInBuffer (now d) q ⌝ }
+    requires { ⌜ Room (now out) at (writtenStrings q) ⌝ }
+    ensures { λ r. ⌜ Wrote (now (out .entry)) at (stringsBytes (now (d .entry)) q) (writtenStrings q) (now (out .exit)) r ⌝ }
 {
     let flags = q.header.flags;
-    let unicode = flags / 128 % 2 == 1;
-    let p = put_string_if(flags / 4 % 2 == 1, out, at, d, unicode, q.name);
-    let p = put_string_if(flags / 8 % 2 == 1, out, p, d, unicode, q.relative);
-    let p = put_string_if(flags / 16 % 2 == 1, out, p, d, unicode, q.workdir);
-    let p = put_string_if(flags / 32 % 2 == 1, out, p, d, unicode, q.arguments);
-    put_string_if(flags / 64 % 2 == 1, out, p, d, unicode, q.icon)
+    let unicode = format::strings_unicode(flags);
+    let p = put_string_if(format::name_there(flags), out, at, d, unicode, q.name);
+    let p = put_string_if(
+        format::relative_there(flags),
+        out,
+        p,
+        d,
+        unicode,
+        q.relative,
+    );
+    let p = put_string_if(format::workdir_there(flags), out, p, d, unicode, q.workdir);
+    let p = put_string_if(
+        format::arguments_there(flags),
+        out,
+        p,
+        d,
+        unicode,
+        q.arguments,
+    );
+    put_string_if(format::icon_there(flags), out, p, d, unicode, q.icon)
 }
 
 // ---- the blocks, and the whole
 
 // The blocks, and a zero terminal block.
 fn put_blocks(out: &mut [u8], at: usize, d: &[u8], b: Place) -> usize
-    requires { ⌜ Inside (now d) b ⌝ }
-    requires { ⌜ Room (now out) at (4 + b .len) ⌝ }
-    ensures { λ r. ⌜ Wrote (now (out .entry)) at (blocksBytes (bytesAt (now (d .entry)) b)) (4 + b .len) (now (out .exit)) r ⌝ }
+    requires { ⌜ InBuffer (now d) b ⌝ }
+    requires { ⌜ Room (now out) at (b .len + 4) ⌝ }
+    ensures { λ r. ⌜ Wrote (now (out .entry)) at (blocksBytes (bytesAt (now (d .entry)) b)) (b .len + 4) (now (out .exit)) r ⌝ }
 {
     let p = put_body(out, at, d, b);
     add_u32(out, p, 0)
 }
 
 // The sections in file order, from the buffer's start on. Answers their length.
-pub fn put_canonical(out: &mut [u8], q: Record, d: &[u8]) -> usize
-    requires { ⌜ Fits (now d) (now out) q ⌝ }
+pub fn put_canonical(out: &mut [u8], q: Record, s: Starts, d: &[u8]) -> usize
+    requires fits { ⌜ RoomFor (now d) (now out) q ⌝ }
+    requires starts { ⌜ s ≡ startsOf q ⌝ }
     ensures { λ r. ⌜ r ≡ length (canonical (bodiesOf (now (d .entry)) q)) ⌝ }
     ensures { λ _. ⌜ now (out .exit) ≡ put (now (out .entry)) 0 (canonical (bodiesOf (now (d .entry)) q)) ⌝ }
 {
     let flags = q.header.flags;
     let p = put_header(out, 0, q.header);
-    let p = put_items_if(flags / 1 % 2 == 1, out, p, d, q.items);
-    let p = put_info_if(flags / 2 % 2 == 1, out, p, q.info, d);
+    let p = put_items_if(format::items_there(flags), out, p, d, q.items);
+    let p = put_info_if(format::info_there(flags), out, p, q.info, s.info, d);
     let p = put_strings(out, p, q, d);
     put_blocks(out, p, d, q.blocks)
 }

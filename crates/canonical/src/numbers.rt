@@ -1,21 +1,10 @@
 // Numbers put into the buffer. A function that puts answers the place after what it put.
-ghost use mathlib.Core.Path.{_≡_};
 ghost use mathlib.Core.Bool.{cond};
 ghost use Prim.Native.Nat.{_+_, _≤_};
 ghost use lib.ListN.{length};
 ghost use Rattle.octets.specs.Numbers.{little};
 ghost use Rattle.octets.specs.Parts.{Wrote};
 ghost use Rattle.format.specs.Writing.{twoFields};
-
-// What is absent counts as 0.
-pub fn number_if(there: bool, n: u32) -> u32
-    ensures { λ r. ⌜ r ≡ cond there n 0 ⌝ }
-{
-    if there {
-        return n;
-    }
-    0
-}
 
 pub fn add_u16(out: &mut [u8], at: usize, n: u16) -> usize
     requires { ⌜ at + 2 ≤ length (now out) ⌝ }

@@ -7,13 +7,13 @@ ghost use Rattle.octets.specs.Characters.{bytesOf};
 ghost use Rattle.octets.specs.Parts.{Wrote};
 ghost use Rattle.format.specs.Contents.{bytesAt};
 ghost use Rattle.format.specs.Writing.{ifThere, textBytes};
-ghost use Rattle.canonical.specs.Inside.{Inside};
-ghost use Rattle.canonical.specs.Sizes.{textSize, textSizeIf};
+ghost use Rattle.sizes.specs.InBuffer.{InBuffer};
+ghost use Rattle.sizes.specs.Sizes.{writtenText, writtenTextIf};
 ghost use Rattle.canonical.specs.Puts.{Room};
 
 // The bytes of the body at its place in the body buffer d.
 pub fn put_body(out: &mut [u8], at: usize, d: &[u8], b: Place) -> usize
-    requires { ⌜ Inside (now d) b ⌝ }
+    requires { ⌜ InBuffer (now d) b ⌝ }
     requires { ⌜ Room (now out) at (b .len) ⌝ }
     ensures { λ r. ⌜ Wrote (now (out .entry)) at (bytesAt (now (d .entry)) b) (b .len) (now (out .exit)) r ⌝ }
 {
@@ -36,9 +36,9 @@ fn put_end(out: &mut [u8], at: usize, unicode: bool) -> usize
 }
 
 pub fn put_text(out: &mut [u8], at: usize, d: &[u8], unicode: bool, b: Place) -> usize
-    requires { ⌜ Inside (now d) b ⌝ }
-    requires { ⌜ Room (now out) at (textSize unicode b) ⌝ }
-    ensures { λ r. ⌜ Wrote (now (out .entry)) at (textBytes unicode (bytesAt (now (d .entry)) b)) (textSize unicode b) (now (out .exit)) r ⌝ }
+    requires { ⌜ InBuffer (now d) b ⌝ }
+    requires { ⌜ Room (now out) at (writtenText unicode b) ⌝ }
+    ensures { λ r. ⌜ Wrote (now (out .entry)) at (textBytes unicode (bytesAt (now (d .entry)) b)) (writtenText unicode b) (now (out .exit)) r ⌝ }
 {
     let p = put_body(out, at, d, b);
     put_end(out, p, unicode)
@@ -53,9 +53,9 @@ pub fn put_text_if(
     unicode: bool,
     b: Place,
 ) -> usize
-    requires { ⌜ Inside (now d) b ⌝ }
-    requires { ⌜ Room (now out) at (textSizeIf there unicode b) ⌝ }
-    ensures { λ r. ⌜ Wrote (now (out .entry)) at (ifThere there (textBytes unicode) (bytesAt (now (d .entry)) b)) (textSizeIf there unicode b) (now (out .exit)) r ⌝ }
+    requires { ⌜ InBuffer (now d) b ⌝ }
+    requires { ⌜ Room (now out) at (writtenTextIf there unicode b) ⌝ }
+    ensures { λ r. ⌜ Wrote (now (out .entry)) at (ifThere there (textBytes unicode) (bytesAt (now (d .entry)) b)) (writtenTextIf there unicode b) (now (out .exit)) r ⌝ }
 {
     if there {
         return put_text(out, at, d, unicode, b);

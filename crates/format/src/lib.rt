@@ -1,8 +1,10 @@
 // The record of a shortcut, and the answers that calls give.
 use octets::Cursor;
 ghost use mathlib.Core.Path.{_≡_};
+ghost use mathlib.Core.Bool.{cond};
 ghost use Rattle.format.specs.Numbers.{numberOf};
 ghost use Rattle.format.specs.Tests.{bit, oneOr0, noPlace};
+ghost use Rattle.format.specs.Presence.{itemsThere, infoThere, nameBit, relativeBit, workdirBit, argumentsBit, iconBit, stringThere, stringsUnicode, localThere, networkThere, localUnicodeThere, deviceThere, providerThere, deviceUnicodeThere};
 ghost use Rattle.format.specs.Header.{signed};
 ghost use Rattle.format.specs.Volume.{labelOf, noVolume};
 ghost use Rattle.format.specs.Network.{noNetwork};
@@ -192,7 +194,7 @@ pub fn no_record() -> Record
     }
 }
 
-// ---- numbers, bits and labels
+// ---- faults and bits
 
 // The number of a fault in the table of document 01.
 pub fn number_of(f: Fault) -> u8
@@ -226,6 +228,107 @@ pub fn bit_1(n: u32) -> bool
 {
     n / 2 % 2 == 1
 }
+
+// ---- what makes each part present
+
+// By LinkFlags.
+pub fn items_there(flags: u32) -> bool
+    ensures { λ r. ⌜ r ≡ itemsThere flags ⌝ }
+{
+    bit_0(flags)
+}
+
+pub fn info_there(flags: u32) -> bool
+    ensures { λ r. ⌜ r ≡ infoThere flags ⌝ }
+{
+    bit_1(flags)
+}
+
+pub fn name_there(flags: u32) -> bool
+    ensures { λ r. ⌜ r ≡ stringThere nameBit flags ⌝ }
+{
+    flags / 4 % 2 == 1
+}
+
+pub fn relative_there(flags: u32) -> bool
+    ensures { λ r. ⌜ r ≡ stringThere relativeBit flags ⌝ }
+{
+    flags / 8 % 2 == 1
+}
+
+pub fn workdir_there(flags: u32) -> bool
+    ensures { λ r. ⌜ r ≡ stringThere workdirBit flags ⌝ }
+{
+    flags / 16 % 2 == 1
+}
+
+pub fn arguments_there(flags: u32) -> bool
+    ensures { λ r. ⌜ r ≡ stringThere argumentsBit flags ⌝ }
+{
+    flags / 32 % 2 == 1
+}
+
+pub fn icon_there(flags: u32) -> bool
+    ensures { λ r. ⌜ r ≡ stringThere iconBit flags ⌝ }
+{
+    flags / 64 % 2 == 1
+}
+
+pub fn strings_unicode(flags: u32) -> bool
+    ensures { λ r. ⌜ r ≡ stringsUnicode flags ⌝ }
+{
+    flags / 128 % 2 == 1
+}
+
+// By LinkInfo's flags, and by whether its head is long.
+pub fn local_there(flags: u32) -> bool
+    ensures { λ r. ⌜ r ≡ localThere flags ⌝ }
+{
+    bit_0(flags)
+}
+
+pub fn network_there(flags: u32) -> bool
+    ensures { λ r. ⌜ r ≡ networkThere flags ⌝ }
+{
+    bit_1(flags)
+}
+
+pub fn local_unicode_there(long: bool, flags: u32) -> bool
+    ensures { λ r. ⌜ r ≡ localUnicodeThere long flags ⌝ }
+{
+    long & local_there(flags)
+}
+
+// By the network link's flags, and by whether it has Unicode names.
+pub fn device_there(flags: u32) -> bool
+    ensures { λ r. ⌜ r ≡ deviceThere flags ⌝ }
+{
+    bit_0(flags)
+}
+
+pub fn provider_there(flags: u32) -> bool
+    ensures { λ r. ⌜ r ≡ providerThere flags ⌝ }
+{
+    bit_1(flags)
+}
+
+pub fn device_unicode_there(unicode: bool, flags: u32) -> bool
+    ensures { λ r. ⌜ r ≡ deviceUnicodeThere unicode flags ⌝ }
+{
+    unicode & device_there(flags)
+}
+
+// What is absent counts as 0.
+pub fn number_if(there: bool, n: u32) -> u32
+    ensures { λ r. ⌜ r ≡ cond there n 0 ⌝ }
+{
+    if there {
+        return n;
+    }
+    0
+}
+
+// ---- numbers and labels
 
 pub fn one_or_0(b: bool) -> u8
     ensures { λ r. ⌜ r ≡ oneOr0 b ⌝ }

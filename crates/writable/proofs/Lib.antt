@@ -4,5 +4,4 @@ pub mod PresentLaws
 pub mod TextLaws
 pub mod WalkLaws
 pub mod SectionLaws
-pub mod LengthLaws
 pub mod WholeLaws

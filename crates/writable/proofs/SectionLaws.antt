@@ -10,7 +10,7 @@ use Rattle.format.specs.declared.Volume.{Volume}
 use Rattle.format.specs.declared.Network.{Network}
 use Rattle.format.specs.declared.Info.{Info}
 use Rattle.format.specs.declared.Record.{Record}
-use Rattle.format.specs.Presence.{itemsThere, infoThere, stringThere, stringsUnicode, localThere, networkThere, deviceThere}
+use Rattle.format.specs.Presence.{itemsThere, infoThere, nameBit, relativeBit, workdirBit, argumentsBit, iconBit, stringThere, stringsUnicode, localThere, networkThere, localUnicodeThere, deviceThere, deviceUnicodeThere}
 use Rattle.format.specs.Header.{flagsOk, attributesOk}
 use Rattle.format.specs.Hotkey.{hotkeyOk}
 use Rattle.format.specs.Bodies.{labelPlace, labelKind}
@@ -37,14 +37,14 @@ module _ (d : List ℕ) where
   pub volume-is : (v : Volume) {u : Bool} {l : Place} {a : Bool} → u ≡ labelKind (v .label) → l ≡ labelPlace (v .label) → a ≡ textIf true u l → (leb (v .drive) 6 && a) ≡ writableVolume (volumeContents d v)
   volume-is v eu el ea = rw (ea, eu, el)
 
-  pub network-is : (n : Network) {t a b c e : Bool} → t ≡ deviceThere (n .flags) → a ≡ textIf true false (n .net) → b ≡ textIf t false (n .device) → c ≡ textIf (n .unicode) true (n .«net_unicode»)
-      → e ≡ textIf (n .unicode && t) true (n .«device_unicode») → (leb (n .flags) 3 && a && b && c && e) ≡ writableNetwork (networkContents d n)
-  network-is n {t} {a} {b} {c} {e} et ea eb ec ee = joined-every (leb (n .flags) 3) (a ∷ b ∷ c ∷ e ∷ []) ∙ rw (ea, eb, ec, ee, et)
+  pub network-is : (n : Network) {t u a b c e : Bool} → t ≡ deviceThere (n .flags) → u ≡ deviceUnicodeThere (n .unicode) (n .flags) → a ≡ textIf true false (n .net) → b ≡ textIf t false (n .device) → c ≡ textIf (n .unicode) true (n .«net_unicode»)
+      → e ≡ textIf u true (n .«device_unicode») → (leb (n .flags) 3 && a && b && c && e) ≡ writableNetwork (networkContents d n)
+  network-is n {t} {u} {a} {b} {c} {e} et eu ea eb ec ee = joined-every (leb (n .flags) 3) (a ∷ b ∷ c ∷ e ∷ []) ∙ rw (ea, eb, ec, ee, et, eu)
 
-  pub info-is : (i : Info) {t u a b c e f g : Bool} → t ≡ localThere (i .flags) → u ≡ networkThere (i .flags) → a ≡ writableIf t writableVolume (volumeContents d (i .volume)) → b ≡ textIf t false (i .local)
-      → c ≡ writableIf u writableNetwork (networkContents d (i .network)) → e ≡ textIf true false (i .suffix) → f ≡ textIf (i .long && t) true (i .«local_unicode»)
+  pub info-is : (i : Info) {t w u a b c e f g : Bool} → t ≡ localThere (i .flags) → w ≡ localUnicodeThere (i .long) (i .flags) → u ≡ networkThere (i .flags) → a ≡ writableIf t writableVolume (volumeContents d (i .volume)) → b ≡ textIf t false (i .local)
+      → c ≡ writableIf u writableNetwork (networkContents d (i .network)) → e ≡ textIf true false (i .suffix) → f ≡ textIf w true (i .«local_unicode»)
       → g ≡ textIf (i .long) true (i .«suffix_unicode») → (leb (i .flags) 3 && a && b && c && e && f && g) ≡ writableInfo (infoContents d i)
-  info-is i {t} {u} {a} {b} {c} {e} {f} {g} et eu ea eb ec ee ef eg = joined-every (leb (i .flags) 3) (a ∷ b ∷ c ∷ e ∷ f ∷ g ∷ []) ∙ rw (ea, eb, ec, ee, ef, eg, et, eu)
+  info-is i {t} {w} {u} {a} {b} {c} {e} {f} {g} et ew eu ea eb ec ee ef eg = joined-every (leb (i .flags) 3) (a ∷ b ∷ c ∷ e ∷ f ∷ g ∷ []) ∙ rw (ea, eb, ec, ee, ef, eg, et, ew, eu)
 
   module _ (q : Record) where
     -- a string, with the test of its flag
@@ -57,8 +57,8 @@ module _ (d : List ℕ) where
     stringOf eu s = rw (← (s .flag), ← eu) (s .is)
 
     pub sections-are : {u h t a v b i j k l m z : Bool} {y : List ℕ} → u ≡ stringsUnicode (q .header .flags) → h ≡ writableHeader (q .header) → t ≡ itemsThere (q .header .flags)
-        → a ≡ writableIf t writableItems (bytesAt d (q .items)) → v ≡ infoThere (q .header .flags) → b ≡ writableIf v writableInfo (infoContents d (q .info)) → String u 2 (q .name) i → String u 3 (q .relative) j
-        → String u 4 (q .workdir) k → String u 5 (q .arguments) l → String u 6 (q .icon) m → z ≡ writableBlocks y → y ≡ bytesAt d (q .blocks)
+        → a ≡ writableIf t writableItems (bytesAt d (q .items)) → v ≡ infoThere (q .header .flags) → b ≡ writableIf v writableInfo (infoContents d (q .info)) → String u nameBit (q .name) i → String u relativeBit (q .relative) j
+        → String u workdirBit (q .workdir) k → String u argumentsBit (q .arguments) l → String u iconBit (q .icon) m → z ≡ writableBlocks y → y ≡ bytesAt d (q .blocks)
         → (h && a && b && i && j && k && l && m && z) ≡ sectionsWritable (bodiesOf d q)
     unfolding sectionsWritable
     sections-are {h = h} {a = a} {b = b} {i = i} {j = j} {k = k} {l = l} {m = m} {z = z} eu eh et ea ev eb ei ej ek el em ez ey =

@@ -1,3 +1,2 @@
-pub mod Bodies
+pub mod Places
 pub mod Sections
-pub mod Lengths

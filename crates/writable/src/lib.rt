@@ -1,4 +1,4 @@
-// Whether a record can be written: the bodies' places, the rules of each section, and the length.
+// Whether a record can be written: the bodies' places, the rules of each section, and the length of the whole.
 use format::Header;
 use format::Info;
 use format::Network;
@@ -12,23 +12,14 @@ ghost use lib.ListN.{length};
 ghost use lib.Dec.{eqb, leb};
 ghost use Rattle.format.specs.Tests.{noPlace};
 ghost use Rattle.format.specs.Volume.{noVolume};
-ghost use Rattle.format.specs.Network.{networkHead, noNetwork};
+ghost use Rattle.format.specs.Network.{noNetwork};
 ghost use Rattle.format.specs.Info.{noInfo};
-ghost use Rattle.format.specs.Bodies.{bodies, allInside};
+ghost use Rattle.format.specs.Bodies.{bodies, allInside, writtenLength};
 ghost use Rattle.format.specs.Contents.{presentNetwork, presentInfo, present, bytesAt, volumeContents, networkContents, infoContents, bodiesOf};
 ghost use Rattle.format.specs.Writing.{writableIf, writableHeader, writableItems, writableText, writableVolume, writableNetwork, writableInfo, writableString, writableBlocks, writable};
-ghost use Rattle.writable.specs.Bodies.{networkBodies, infoBodies};
+ghost use Rattle.writable.specs.Places.{networkBodies, infoBodies};
 ghost use Rattle.writable.specs.Sections.{sectionsWritable};
-ghost use Rattle.canonical.specs.Sizes.{volumeSize, networkSize, infoSize, canonicalSize};
-ghost use Rattle.writable.specs.Lengths.{capped, bodySpan};
-
-// One bit of the flags, by its power of two.
-fn flag(flags: u32, power: u32) -> bool
-    requires { ⌜ 0 < power ⌝ }
-    ensures { λ r. ⌜ r ≡ eqb (flags / power % 2) 1 ⌝ }
-{
-    flags / power % 2 == 1
-}
+ghost use Rattle.sizes.specs.Starts.{capped};
 
 // ---- which parts are present
 
@@ -36,12 +27,6 @@ fn kept(there: bool, b: Place) -> Place
     ensures { λ r. ⌜ r ≡ cond there b noPlace ⌝ }
 {
     if there { b } else { format::no_place() }
-}
-
-fn kept_number(there: bool, n: u32) -> u32
-    ensures { λ r. ⌜ r ≡ cond there n 0 ⌝ }
-{
-    if there { n } else { 0 }
 }
 
 fn kept_volume(there: bool, v: Volume) -> Volume
@@ -53,16 +38,16 @@ fn kept_volume(there: bool, v: Volume) -> Volume
 fn present_network(n: Network) -> Network
     ensures { λ r. ⌜ r ≡ presentNetwork n ⌝ }
 {
-    let device = flag(n.flags, 1);
     let net = n.net;
+    let both = format::device_unicode_there(n.unicode, n.flags);
     Network {
         flags: n.flags,
-        provider: kept_number(flag(n.flags, 2), n.provider),
+        provider: format::number_if(format::provider_there(n.flags), n.provider),
         unicode: n.unicode,
         net,
-        device: kept(device, n.device),
+        device: kept(format::device_there(n.flags), n.device),
         net_unicode: kept(n.unicode, n.net_unicode),
-        device_unicode: kept(n.unicode & device, n.device_unicode),
+        device_unicode: kept(both, n.device_unicode),
     }
 }
 
@@ -79,16 +64,17 @@ fn kept_network(there: bool, n: Network) -> Network
 fn present_info(i: Info) -> Info
     ensures { λ r. ⌜ r ≡ presentInfo i ⌝ }
 {
-    let local = flag(i.flags, 1);
+    let local = format::local_there(i.flags);
+    let both = format::local_unicode_there(i.long, i.flags);
     let suffix = i.suffix;
     Info {
         flags: i.flags,
         long: i.long,
         volume: kept_volume(local, i.volume),
         local: kept(local, i.local),
-        network: kept_network(flag(i.flags, 2), i.network),
+        network: kept_network(format::network_there(i.flags), i.network),
         suffix,
-        local_unicode: kept(i.long & local, i.local_unicode),
+        local_unicode: kept(both, i.local_unicode),
         suffix_unicode: kept(i.long, i.suffix_unicode),
     }
 }
@@ -112,13 +98,13 @@ pub fn present(r: Record) -> Record
     let blocks = r.blocks;
     Record {
         header,
-        items: kept(flag(flags, 1), r.items),
-        info: kept_info(flag(flags, 2), r.info),
-        name: kept(flag(flags, 4), r.name),
-        relative: kept(flag(flags, 8), r.relative),
-        workdir: kept(flag(flags, 16), r.workdir),
-        arguments: kept(flag(flags, 32), r.arguments),
-        icon: kept(flag(flags, 64), r.icon),
+        items: kept(format::items_there(flags), r.items),
+        info: kept_info(format::info_there(flags), r.info),
+        name: kept(format::name_there(flags), r.name),
+        relative: kept(format::relative_there(flags), r.relative),
+        workdir: kept(format::workdir_there(flags), r.workdir),
+        arguments: kept(format::arguments_there(flags), r.arguments),
+        icon: kept(format::icon_there(flags), r.icon),
         blocks,
     }
 }
@@ -314,12 +300,13 @@ fn volume_if(there: bool, v: Volume, d: &[u8]) -> bool
 fn network_ok(n: Network, d: &[u8]) -> bool
     ensures { λ r. ⌜ r ≡ writableNetwork (networkContents (now (d .entry)) n) ⌝ }
 {
-    let device = flag(n.flags, 1);
+    let device = format::device_there(n.flags);
+    let both = format::device_unicode_there(n.unicode, n.flags);
     (n.flags <= 3)
         & text_if(true, false, n.net, d)
         & text_if(device, false, n.device, d)
         & text_if(n.unicode, true, n.net_unicode, d)
-        & text_if(n.unicode & device, true, n.device_unicode, d)
+        & text_if(both, true, n.device_unicode, d)
 }
 
 fn network_if(there: bool, n: Network, d: &[u8]) -> bool
@@ -331,13 +318,14 @@ fn network_if(there: bool, n: Network, d: &[u8]) -> bool
 fn info_ok(i: Info, d: &[u8]) -> bool
     ensures { λ r. ⌜ r ≡ writableInfo (infoContents (now (d .entry)) i) ⌝ }
 {
-    let local = flag(i.flags, 1);
+    let local = format::local_there(i.flags);
+    let both = format::local_unicode_there(i.long, i.flags);
     (i.flags <= 3)
         & volume_if(local, i.volume, d)
         & text_if(local, false, i.local, d)
-        & network_if(flag(i.flags, 2), i.network, d)
+        & network_if(format::network_there(i.flags), i.network, d)
         & text_if(true, false, i.suffix, d)
-        & text_if(i.long & local, true, i.local_unicode, d)
+        & text_if(both, true, i.local_unicode, d)
         & text_if(i.long, true, i.suffix_unicode, d)
 }
 
@@ -352,128 +340,27 @@ fn sections_ok(q: Record, d: &[u8]) -> bool
     ensures { λ r. ⌜ r ≡ sectionsWritable (bodiesOf (now (d .entry)) q) ⌝ }
 {
     let flags = q.header.flags;
-    let unicode = flag(flags, 128);
+    let unicode = format::strings_unicode(flags);
     header_ok(q.header)
-        & items_if(flag(flags, 1), q.items, d)
-        & info_if(flag(flags, 2), q.info, d)
-        & string_if(flag(flags, 4), unicode, q.name, d)
-        & string_if(flag(flags, 8), unicode, q.relative, d)
-        & string_if(flag(flags, 16), unicode, q.workdir, d)
-        & string_if(flag(flags, 32), unicode, q.arguments, d)
-        & string_if(flag(flags, 64), unicode, q.icon, d)
+        & items_if(format::items_there(flags), q.items, d)
+        & info_if(format::info_there(flags), q.info, d)
+        & string_if(format::name_there(flags), unicode, q.name, d)
+        & string_if(format::relative_there(flags), unicode, q.relative, d)
+        & string_if(format::workdir_there(flags), unicode, q.workdir, d)
+        & string_if(format::arguments_there(flags), unicode, q.arguments, d)
+        & string_if(format::icon_there(flags), unicode, q.icon, d)
         & blocks_ok(body(d, q.blocks))
-}
-
-// ---- lengths: each counts as one more than the most where it is greater than that, so that no sum can wrap
-
-const MOST: usize = 65536;
-
-fn plus(a: usize, b: usize) -> usize
-    ensures { λ r. ⌜ r ≡ capped (a + b) ⌝ }
-{
-    if MOST < a {
-        return MOST + 1;
-    }
-    if MOST - a < b {
-        return MOST + 1;
-    }
-    a + b
-}
-
-// A body with some bytes around it, if it is there.
-fn body_length(there: bool, b: Place, around: usize) -> usize
-    ensures { λ r. ⌜ r ≡ capped (bodySpan there b around) ⌝ }
-{
-    if there { plus(b.len, around) } else { 0 }
-}
-
-fn volume_length(v: Volume) -> usize
-    ensures { λ r. ⌜ r ≡ capped (volumeSize v) ⌝ }
-{
-    let l = v.label;
-    let b = format::label_place(l);
-    if format::label_unicode(l) {
-        plus(0x14, body_length(true, b, 2))
-    } else {
-        plus(0x10, body_length(true, b, 1))
-    }
-}
-
-fn volume_length_if(there: bool, v: Volume) -> usize
-    ensures { λ r. ⌜ r ≡ capped (cond there (volumeSize v) 0) ⌝ }
-{
-    if there { volume_length(v) } else { 0 }
-}
-
-fn network_head(unicode: bool) -> usize
-    ensures { λ r. ⌜ r ≡ networkHead unicode ⌝ }
-{
-    if unicode { 0x1C } else { 0x14 }
-}
-
-fn network_length(n: Network) -> usize
-    ensures { λ r. ⌜ r ≡ capped (networkSize n) ⌝ }
-{
-    let device = flag(n.flags, 1);
-    let net = plus(network_head(n.unicode), body_length(true, n.net, 1));
-    let names = plus(net, body_length(device, n.device, 1));
-    let wide = plus(names, body_length(n.unicode, n.net_unicode, 2));
-    plus(wide, body_length(n.unicode & device, n.device_unicode, 2))
-}
-
-fn network_length_if(there: bool, n: Network) -> usize
-    ensures { λ r. ⌜ r ≡ capped (cond there (networkSize n) 0) ⌝ }
-{
-    if there { network_length(n) } else { 0 }
-}
-
-fn info_head(long: bool) -> usize
-    ensures { λ r. ⌜ r ≡ cond long 0x24 0x1C ⌝ }
-{
-    if long { 0x24 } else { 0x1C }
-}
-
-fn info_length(i: Info) -> usize
-    ensures { λ r. ⌜ r ≡ capped (infoSize i) ⌝ }
-{
-    let local = flag(i.flags, 1);
-    let volume = plus(info_head(i.long), volume_length_if(local, i.volume));
-    let path = plus(volume, body_length(local, i.local, 1));
-    let network = plus(path, network_length_if(flag(i.flags, 2), i.network));
-    let suffix = plus(network, body_length(true, i.suffix, 1));
-    let wide = plus(suffix, body_length(i.long & local, i.local_unicode, 2));
-    plus(wide, body_length(i.long, i.suffix_unicode, 2))
-}
-
-fn info_length_if(there: bool, i: Info) -> usize
-    ensures { λ r. ⌜ r ≡ capped (cond there (infoSize i) 0) ⌝ }
-{
-    if there { info_length(i) } else { 0 }
-}
-
-// The length of the shortest form, or 65,537 where it has more than 65,536 bytes.
-pub fn length(q: Record) -> usize
-    ensures { λ r. ⌜ r ≡ capped (canonicalSize q) ⌝ }
-{
-    let flags = q.header.flags;
-    let items = plus(76, body_length(flag(flags, 1), q.items, 4));
-    let info = plus(items, info_length_if(flag(flags, 2), q.info));
-    let name = plus(info, body_length(flag(flags, 4), q.name, 2));
-    let relative = plus(name, body_length(flag(flags, 8), q.relative, 2));
-    let workdir = plus(relative, body_length(flag(flags, 16), q.workdir, 2));
-    let arguments = plus(workdir, body_length(flag(flags, 32), q.arguments, 2));
-    let icon = plus(arguments, body_length(flag(flags, 64), q.icon, 2));
-    plus(icon, body_length(true, q.blocks, 4))
 }
 
 // ---- the whole
 
-// A body that is too long is refused by its length, before any body is looked at.
-pub fn writable(q: Record, d: &[u8]) -> bool
-    requires { ⌜ allInside (length (now d)) (bodies q) ≡ true ⌝ }
+// A body that is too long is refused by its length, before any body is looked at. `end` is where the shortest form ends.
+pub fn writable(q: Record, end: u32, d: &[u8]) -> bool
+    requires placed { ⌜ allInside (length (now d)) (bodies q) ≡ true ⌝ }
+    requires counted { ⌜ end ≡ capped (writtenLength q) ⌝ }
     ensures { λ r. ⌜ r ≡ writable (bodiesOf (now (d .entry)) q) ⌝ }
 {
-    if MOST < length(q) {
+    if 65536 < end {
         return false;
     }
     sections_ok(q, d)

@@ -12,14 +12,18 @@ use Rattle.format.specs.declared.Record.{Record}
 use Rattle.format.specs.declared.Fault.the-variants.{Place as PLACE, Unwritable as UNWRITABLE, Room as ROOM}
 use Rattle.format.specs.declared.Verdict.the-variants.{Accepted, Refused}
 use Rattle.format.specs.Tests.{got, refused, _else_, tests}
-use Rattle.format.specs.Bodies.{bodies, allInside}
+use Rattle.format.specs.Bodies.{bodies, allInside, writtenLength}
 use Rattle.format.specs.Contents.{present, bodiesOf, contents}
 use Rattle.format.specs.Writing.{canonical, writable, writing, outputOf, writeAnswer, writeOutput}
 use Rattle.format.proofs.TableLaws.{placed-present}
-use Rattle.writable.specs.Lengths.{capped}
+use Rattle.sizes.specs.declared.Starts.{Starts}
+use Rattle.sizes.specs.Starts.{capped, startsOf}
 use Rattle.writable.proofs.WholeLaws.{writable-length, writable-within}
-use Rattle.canonical.specs.Puts.{Fits}
-use Rattle.canonical.specs.Sizes.{canonicalSize}
+use Rattle.canonical.specs.Puts.{RoomFor}
+
+pub end-counted : (q : Record) {s : Starts} → s ≡ startsOf q → s .end ≡ capped (writtenLength q)
+unfolding startsOf
+end-counted q e = ap (λ (x : Starts). x .end) e
 
 module _ (r : Record) (d out : List ℕ) {q : Record} (e : q ≡ present r) where
   abbrev w : List ℕ
@@ -49,7 +53,7 @@ module _ (r : Record) (d out : List ℕ) {q : Record} (e : q ≡ present r) wher
             let z : writing r d (length out) ≡ refused UNWRITABLE 0 = writing-is ∙ rw (all-placed, sym j ∙ not-true b t) in
             (rw z, rw z)
 
-        module _ (can : not b ≡ false) {n : ℕ} (count : n ≡ capped (canonicalSize q)) where
+        module _ (can : not b ≡ false) {n : ℕ} (count : n ≡ capped (writtenLength q)) where
           is-writable : writable (bodiesOf d q) ≡ true
           is-writable = sym j ∙ not-false b can
 
@@ -63,7 +67,7 @@ module _ (r : Record) (d out : List ℕ) {q : Record} (e : q ≡ present r) wher
               let z : writing r d (length out) ≡ refused ROOM 0 = writing-is ∙ rw (all-placed, is-writable, k) in
               (rw z, rw z)
 
-          pub write-fits : n ≤ length out → Fits d out q
+          pub write-fits : n ≤ length out → RoomFor d out q
           write-fits h =
               record { inside = all-placed; few = writable-within d q all-placed is-writable; room = omega (arith, long) }
 

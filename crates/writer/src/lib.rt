@@ -13,12 +13,13 @@ pub fn write(r: Record, d: &[u8], out: &mut [u8]) -> Verdict
     if !writable::placed(q, d.len()) {
         return Verdict::Refused(Fault::Place, 0);
     }
-    if !writable::writable(q, d) {
+    let s = sizes::starts_of(q);
+    if !writable::writable(q, s.end, d) {
         return Verdict::Refused(Fault::Unwritable, 0);
     }
-    if out.len() < writable::length(q) {
+    if out.len() < s.end as usize {
         return Verdict::Refused(Fault::Room, 0);
     }
-    let n = canonical::put_canonical(out, q, d);
+    let n = canonical::put_canonical(out, q, s, d);
     Verdict::Accepted(n)
 }

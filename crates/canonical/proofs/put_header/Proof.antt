@@ -11,17 +11,17 @@ put-magic-requires c κs = search needs
 put-marks-requires : tie.Need-put-marks-requires
 put-marks-requires c κs = search needs
 
-put-shown-requires : tie.Need-put-shown-requires
-put-shown-requires c κs = search needs
+put-view-requires : tie.Need-put-view-requires
+put-view-requires c κs = search needs
 
 same-length : tie.Need-same-length
 same-length c = search needs
 
 returns : tie.Need-returns
 returns c =
-    reword (join (c .before .before .before .before .before .before .before .before .before .before .put-magic .ensures) (join (c .before .before .before .before .before .before .put-marks .ensures) (c .before .before .put-shown .ensures))) (header-is _) refl
+    reword (join (c .before .before .before .before .before .before .before .before .before .before .put-magic .ensures) (join (c .before .before .before .before .before .before .put-marks .ensures) (c .before .before .put-view .ensures))) (header-is _) refl
 
 pub put-header-spec : {M : Type 1} → statement M
 put-header-spec =
     tie.close
-    (tie.spec put-magic-requires put-marks-requires put-shown-requires same-length returns)
+    (tie.spec put-magic-requires put-marks-requires put-view-requires same-length returns)

@@ -1,6 +1,6 @@
 use Rattle.canonical.proofs.LayoutLaws.{string-is}
 use Rattle.octets.proofs.WroteLaws.{join, reword}
-use mathlib.Core.Path.{refl}
+use native.Mathlib.Omega.{arith}
 use borrow.Author.Needs.{needs}
 use Rattle.canonical.proofs.put_string.Statement.{statement}
 use Rattle.canonical.proofs.put_string.Tie as tie
@@ -19,7 +19,7 @@ same-length c = search needs
 
 returns : tie.Need-returns
 returns c =
-    reword (join (c .before .before .before .before .before .before .add-u16 .ensures) (c .before .before .put-body .ensures)) (string-is (c .before .before .before .before .before .before .before .before .before .before .before .pre .0) _ (c .before .before .before .before .before .before .before .before .characters-in .ensures)) refl
+    reword (join (c .before .before .before .before .before .before .add-u16 .ensures) (c .before .before .put-body .ensures)) (string-is (c .before .before .before .before .before .before .before .before .before .before .before .pre .0) _ (c .before .before .before .before .before .before .before .before .characters-in .ensures)) (omega arith)
 
 pub put-string-spec : {M : Type 1} → statement M
 put-string-spec =

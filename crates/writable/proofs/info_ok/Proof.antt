@@ -3,8 +3,11 @@ use borrow.Author.Needs.{needs}
 use Rattle.writable.proofs.info_ok.Statement.{statement}
 use Rattle.writable.proofs.info_ok.Tie as tie
 
-flag-requires : tie.Need-flag-requires
-flag-requires c κs = search needs
+local-there-requires : tie.Need-local-there-requires
+local-there-requires c κs = search needs
+
+local-unicode-there-requires : tie.Need-local-unicode-there-requires
+local-unicode-there-requires c κs = search needs
 
 volume-if-requires : tie.Need-volume-if-requires
 volume-if-requires c κs = search needs
@@ -12,8 +15,8 @@ volume-if-requires c κs = search needs
 text-if-requires : tie.Need-text-if-requires
 text-if-requires c κs = search needs
 
-flag-requires-2 : tie.Need-flag-requires-2
-flag-requires-2 c κs = search needs
+network-there-requires : tie.Need-network-there-requires
+network-there-requires c κs = search needs
 
 network-if-requires : tie.Need-network-if-requires
 network-if-requires c κs = search needs
@@ -29,16 +32,21 @@ text-if-requires-4 c κs = search needs
 
 returns : tie.Need-returns
 returns c =
-    info-is (c .before .before .before .before .before .before .before .before .before .before .before .args .d .now) (c .before .before .before .before .before .before .before .before .before .before .before .args .i) (c .before .before .before .before .before .before .before .before .before .flag .ensures) (c .before .before .before .before .before .flag2 .ensures) (c .before .before .before .before .before .before .before .volume-if .ensures) (c .before .before .before .before .before .before .text-if .ensures) (c .before .before .before .before .network-if .ensures) (c .before .before .before .text-if2 .ensures) (c .before .text-if3 .ensures) (c .text-if4 .ensures)
+    let p4 = c .before .before .before .before in
+    let p8 = p4 .before .before .before .before in
+    let s = p8 .before .before .before in
+    info-is (s .args .d .now) (s .args .i) (p8 .before .local-there .ensures) (p8 .local-unicode-there .ensures) (p4 .network-there .ensures)
+    (p4 .before .before .volume-if .ensures) (p4 .before .text-if .ensures) (c .before .before .before .network-if .ensures) (c .before .before .text-if2 .ensures) (c .before .text-if3 .ensures) (c .text-if4 .ensures)
 
 pub info-ok-spec : {M : Type 1} → statement M
 info-ok-spec =
     tie.close
     (tie.spec
-    flag-requires
+    local-there-requires
+    local-unicode-there-requires
     volume-if-requires
     text-if-requires
-    flag-requires-2
+    network-there-requires
     network-if-requires
     text-if-requires-2
     text-if-requires-3

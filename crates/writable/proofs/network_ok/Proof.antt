@@ -3,8 +3,11 @@ use borrow.Author.Needs.{needs}
 use Rattle.writable.proofs.network_ok.Statement.{statement}
 use Rattle.writable.proofs.network_ok.Tie as tie
 
-flag-requires : tie.Need-flag-requires
-flag-requires c κs = search needs
+device-there-requires : tie.Need-device-there-requires
+device-there-requires c κs = search needs
+
+device-unicode-there-requires : tie.Need-device-unicode-there-requires
+device-unicode-there-requires c κs = search needs
 
 text-if-requires : tie.Need-text-if-requires
 text-if-requires c κs = search needs
@@ -20,13 +23,18 @@ text-if-requires-4 c κs = search needs
 
 returns : tie.Need-returns
 returns c =
-    network-is (c .before .before .before .before .before .before .before .before .args .d .now) (c .before .before .before .before .before .before .before .before .args .n) (c .before .before .before .before .before .before .flag .ensures) (c .before .before .before .before .text-if .ensures) (c .before .before .before .text-if2 .ensures) (c .before .before .text-if3 .ensures) (c .text-if4 .ensures)
+    let p4 = c .before .before .before .before in
+    let p8 = p4 .before .before .before .before in
+    let s = p8 in
+    network-is (s .args .d .now) (s .args .n) (p4 .before .before .device-there .ensures) (p4 .before .device-unicode-there .ensures)
+    (c .before .before .before .text-if .ensures) (c .before .before .text-if2 .ensures) (c .before .text-if3 .ensures) (c .text-if4 .ensures)
 
 pub network-ok-spec : {M : Type 1} → statement M
 network-ok-spec =
     tie.close
     (tie.spec
-    flag-requires
+    device-there-requires
+    device-unicode-there-requires
     text-if-requires
     text-if-requires-2
     text-if-requires-3

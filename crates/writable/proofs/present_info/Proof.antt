@@ -2,8 +2,11 @@ use borrow.Author.Needs.{needs}
 use Rattle.writable.proofs.present_info.Statement.{statement}
 use Rattle.writable.proofs.present_info.Tie as tie
 
-flag-requires : tie.Need-flag-requires
-flag-requires c κs = search needs
+local-there-requires : tie.Need-local-there-requires
+local-there-requires c κs = search needs
+
+local-unicode-there-requires : tie.Need-local-unicode-there-requires
+local-unicode-there-requires c κs = search needs
 
 kept-volume-requires : tie.Need-kept-volume-requires
 kept-volume-requires c κs = search needs
@@ -11,8 +14,8 @@ kept-volume-requires c κs = search needs
 kept-requires : tie.Need-kept-requires
 kept-requires c κs = search needs
 
-flag-requires-2 : tie.Need-flag-requires-2
-flag-requires-2 c κs = search needs
+network-there-requires : tie.Need-network-there-requires
+network-there-requires c κs = search needs
 
 kept-network-requires : tie.Need-kept-network-requires
 kept-network-requires c κs = search needs
@@ -30,10 +33,11 @@ pub present-info-spec : {M : Type 1} → statement M
 present-info-spec =
     tie.close
     (tie.spec
-    flag-requires
+    local-there-requires
+    local-unicode-there-requires
     kept-volume-requires
     kept-requires
-    flag-requires-2
+    network-there-requires
     kept-network-requires
     kept-requires-2
     kept-requires-3

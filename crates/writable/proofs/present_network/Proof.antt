@@ -2,14 +2,17 @@ use borrow.Author.Needs.{needs}
 use Rattle.writable.proofs.present_network.Statement.{statement}
 use Rattle.writable.proofs.present_network.Tie as tie
 
-flag-requires : tie.Need-flag-requires
-flag-requires c κs = search needs
+device-unicode-there-requires : tie.Need-device-unicode-there-requires
+device-unicode-there-requires c κs = search needs
 
-flag-requires-2 : tie.Need-flag-requires-2
-flag-requires-2 c κs = search needs
+provider-there-requires : tie.Need-provider-there-requires
+provider-there-requires c κs = search needs
 
-kept-number-requires : tie.Need-kept-number-requires
-kept-number-requires c κs = search needs
+number-if-requires : tie.Need-number-if-requires
+number-if-requires c κs = search needs
+
+device-there-requires : tie.Need-device-there-requires
+device-there-requires c κs = search needs
 
 kept-requires : tie.Need-kept-requires
 kept-requires c κs = search needs
@@ -27,9 +30,10 @@ pub present-network-spec : {M : Type 1} → statement M
 present-network-spec =
     tie.close
     (tie.spec
-    flag-requires
-    flag-requires-2
-    kept-number-requires
+    device-unicode-there-requires
+    provider-there-requires
+    number-if-requires
+    device-there-requires
     kept-requires
     kept-requires-2
     kept-requires-3

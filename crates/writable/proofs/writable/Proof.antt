@@ -4,19 +4,18 @@ use borrow.Author.Needs.{needs}
 use Rattle.writable.proofs.writable.Statement.{statement}
 use Rattle.writable.proofs.writable.Tie as tie
 
-length-requires : tie.Need-length-requires
-length-requires c κs = search needs
-
 returns : tie.Need-returns
 returns c =
-    writable-long (c .before .before .before .args .d .now) (c .before .before .before .args .q) (c .before .before .before .pre) (c .before .length .ensures) (omega arith)
+    let s = c .before .before in
+    writable-long (s .args .d .now) (s .args .q) (s .pre .0) (s .pre .1) (omega arith)
 
 sections-ok-requires : tie.Need-sections-ok-requires
 sections-ok-requires c κs = search needs
 
 returns-2 : tie.Need-returns-2
 returns-2 c =
-    writable-short (c .before .before .before .before .args .d .now) (c .before .before .before .before .args .q) (c .before .before .before .before .pre) (c .before .before .length .ensures) (omega arith) (c .sections-ok .ensures)
+    let s = c .before .before .before in
+    writable-short (s .args .d .now) (s .args .q) (s .pre .0) (s .pre .1) (omega arith) (c .sections-ok .ensures)
 
 pub writable-spec : {M : Type 1} → statement M
-writable-spec = tie.close (tie.spec length-requires returns sections-ok-requires returns-2)
+writable-spec = tie.close (tie.spec returns sections-ok-requires returns-2)

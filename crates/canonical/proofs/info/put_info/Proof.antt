@@ -1,6 +1,5 @@
-use Rattle.canonical.proofs.SizeLaws.{info-head-is}
-use Rattle.canonical.specs.Sizes.{infoSize}
-use Rattle.canonical.proofs.LayoutLaws.{info-is}
+use Rattle.canonical.proofs.LayoutLaws.{info-head-is, info-is}
+use Rattle.sizes.specs.Sizes.{writtenInfo}
 use Rattle.octets.proofs.WroteLaws.{join, reword}
 use native.Mathlib.Omega.{arith}
 use borrow.Author.Needs.{needs}
@@ -8,21 +7,33 @@ use Rattle.canonical.proofs.info.put_info.Statement.{statement}
 use Rattle.canonical.proofs.info.put_info.Tie as tie
 
 put-info-fields-requires : tie.Need-put-info-fields-requires
-unfolding infoSize
-put-info-fields-requires c κs = (omega arith, omega (arith, info-head-is (c .before .before .before .args .i .long)))
+unfolding writtenInfo
+put-info-fields-requires c κs =
+    let s = c .before .before .before in
+    let h = s .pre .1 .0 in
+    let k = info-head-is (s .args .i .long) in
+    (s .pre .1 .1, (h .few, omega arith))
 
 put-info-pieces-requires : tie.Need-put-info-pieces-requires
-unfolding infoSize
+unfolding writtenInfo
 put-info-pieces-requires c κs =
-    (c .before .before .before .before .before .before .before .pre .0, record { room = omega (arith, info-head-is (c .before .before .before .before .before .before .before .args .i .long)); few = omega arith })
+    let p4 = c .before .before .before .before in
+    let s = p4 .before .before .before in
+    let h = s .pre .1 .0 in
+    let k = info-head-is (s .args .i .long) in
+    (s .pre .0, (record { room = omega arith; few = omega arith }, s .pre .1 .1))
 
 same-length : tie.Need-same-length
 same-length c = search needs
 
 returns : tie.Need-returns
-unfolding infoSize
+unfolding writtenInfo
 returns c =
-    reword (join (c .before .before .before .before .before .before .put-info-fields .ensures) (c .before .before .put-info-pieces .ensures)) (info-is (c .before .before .before .before .before .before .before .before .before .before .pre .0)) (omega (arith, info-head-is (c .before .before .before .before .before .before .before .before .before .before .args .i .long)))
+    let p4 = c .before .before .before .before in
+    let p8 = p4 .before .before .before .before in
+    let s = p8 .before .before in
+    let k = info-head-is (s .args .i .long) in
+    reword (join (p4 .before .before .put-info-fields .ensures) (c .before .before .put-info-pieces .ensures)) (info-is (s .pre .0)) (omega arith)
 
 pub put-info-spec : {M : Type 1} → statement M
 put-info-spec =

@@ -1,6 +1,5 @@
-use Rattle.canonical.proofs.SizeLaws.{network-head-is}
-use Rattle.canonical.specs.Sizes.{networkSize}
-use Rattle.canonical.proofs.LayoutLaws.{network-is}
+use Rattle.canonical.proofs.LayoutLaws.{network-head-is, network-is}
+use Rattle.sizes.specs.Sizes.{writtenNetwork}
 use Rattle.octets.proofs.WroteLaws.{join, reword}
 use native.Mathlib.Omega.{arith}
 use borrow.Author.Needs.{needs}
@@ -8,21 +7,33 @@ use Rattle.canonical.proofs.info.put_network.Statement.{statement}
 use Rattle.canonical.proofs.info.put_network.Tie as tie
 
 put-network-fields-requires : tie.Need-put-network-fields-requires
-unfolding networkSize
-put-network-fields-requires c κs = (omega arith, omega (arith, network-head-is (c .before .before .before .args .n .unicode)))
+unfolding writtenNetwork
+put-network-fields-requires c κs =
+    let s = c .before .before .before in
+    let h = s .pre .1 .0 in
+    let k = network-head-is (s .args .n .unicode) in
+    (s .pre .1 .1, (h .few, omega arith))
 
 put-network-names-requires : tie.Need-put-network-names-requires
-unfolding networkSize
+unfolding writtenNetwork
 put-network-names-requires c κs =
-    (c .before .before .before .before .before .before .before .pre .0, record { room = omega (arith, network-head-is (c .before .before .before .before .before .before .before .args .n .unicode)); few = omega arith })
+    let p4 = c .before .before .before .before in
+    let s = p4 .before .before .before in
+    let h = s .pre .1 .0 in
+    let k = network-head-is (s .args .n .unicode) in
+    (s .pre .0, record { room = omega arith; few = omega arith })
 
 same-length : tie.Need-same-length
 same-length c = search needs
 
 returns : tie.Need-returns
-unfolding networkSize
+unfolding writtenNetwork
 returns c =
-    reword (join (c .before .before .before .before .before .before .put-network-fields .ensures) (c .before .before .put-network-names .ensures)) (network-is (c .before .before .before .before .before .before .before .before .before .before .pre .0)) (omega (arith, network-head-is (c .before .before .before .before .before .before .before .before .before .before .args .n .unicode)))
+    let p4 = c .before .before .before .before in
+    let p8 = p4 .before .before .before .before in
+    let s = p8 .before .before in
+    let k = network-head-is (s .args .n .unicode) in
+    reword (join (p4 .before .before .put-network-fields .ensures) (c .before .before .put-network-names .ensures)) (network-is (s .pre .0)) (omega arith)
 
 pub put-network-spec : {M : Type 1} → statement M
 put-network-spec =

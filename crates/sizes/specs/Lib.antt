@@ -1,0 +1,3 @@
+pub mod InBuffer
+pub mod Sizes
+pub mod Starts
