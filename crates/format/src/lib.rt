@@ -3,13 +3,10 @@ use octets::Cursor;
 ghost use mathlib.Core.Path.{_≡_};
 ghost use mathlib.Core.Bool.{cond};
 ghost use Rattle.format.specs.Numbers.{numberOf};
-ghost use Rattle.format.specs.Tests.{bit, oneOr0, noPlace};
+ghost use Rattle.format.specs.Tests.{bit, oneOr0};
 ghost use Rattle.format.specs.Presence.{itemsThere, infoThere, nameBit, relativeBit, workdirBit, argumentsBit, iconBit, stringThere, stringsUnicode, localThere, networkThere, localUnicodeThere, deviceThere, providerThere, deviceUnicodeThere};
 ghost use Rattle.format.specs.Header.{signed};
-ghost use Rattle.format.specs.Volume.{labelOf, noVolume};
-ghost use Rattle.format.specs.Network.{noNetwork};
-ghost use Rattle.format.specs.Info.{noInfo};
-ghost use Rattle.format.specs.Shortcut.{noHeader, noRecord};
+ghost use Rattle.format.specs.Volume.{labelOf};
 ghost use Rattle.format.specs.Writing.{bits};
 ghost use Rattle.format.specs.Bodies.{labelPlace, labelKind};
 
@@ -112,89 +109,60 @@ pub struct Reading {
     pub held: Record,
 }
 
-// ---- zeros, for what is absent and beside a refusal
+// ---- zeros, for what is absent and beside a refusal: constants, since a call into another crate stays a call
 
-pub fn no_place() -> Place
-    ensures { λ r. ⌜ r ≡ noPlace ⌝ }
-{
-    Place { at: 0, len: 0 }
-}
+pub const NO_PLACE: Place = Place { at: 0, len: 0 };
 
-pub fn no_volume() -> Volume
-    ensures { λ r. ⌜ r ≡ noVolume ⌝ }
-{
-    Volume {
-        drive: 0,
-        serial: 0,
-        label: Label::Byte(no_place()),
-    }
-}
+pub const NO_VOLUME: Volume = Volume {
+    drive: 0,
+    serial: 0,
+    label: Label::Byte(NO_PLACE),
+};
 
-pub fn no_network() -> Network
-    ensures { λ r. ⌜ r ≡ noNetwork ⌝ }
-{
-    let none = no_place();
-    Network {
-        flags: 0,
-        provider: 0,
-        unicode: false,
-        net: none,
-        device: none,
-        net_unicode: none,
-        device_unicode: none,
-    }
-}
+pub const NO_NETWORK: Network = Network {
+    flags: 0,
+    provider: 0,
+    unicode: false,
+    net: NO_PLACE,
+    device: NO_PLACE,
+    net_unicode: NO_PLACE,
+    device_unicode: NO_PLACE,
+};
 
-pub fn no_info() -> Info
-    ensures { λ r. ⌜ r ≡ noInfo ⌝ }
-{
-    let none = no_place();
-    Info {
-        flags: 0,
-        long: false,
-        volume: no_volume(),
-        local: none,
-        network: no_network(),
-        suffix: none,
-        local_unicode: none,
-        suffix_unicode: none,
-    }
-}
+pub const NO_INFO: Info = Info {
+    flags: 0,
+    long: false,
+    volume: NO_VOLUME,
+    local: NO_PLACE,
+    network: NO_NETWORK,
+    suffix: NO_PLACE,
+    local_unicode: NO_PLACE,
+    suffix_unicode: NO_PLACE,
+};
 
-fn no_header() -> Header
-    ensures { λ r. ⌜ r ≡ noHeader ⌝ }
-{
-    Header {
-        flags: 0,
-        attributes: 0,
-        creation: 0,
-        access: 0,
-        write: 0,
-        file_size: 0,
-        icon_index: 0,
-        command: 0,
-        hotkey: 0,
-    }
-}
+const NO_HEADER: Header = Header {
+    flags: 0,
+    attributes: 0,
+    creation: 0,
+    access: 0,
+    write: 0,
+    file_size: 0,
+    icon_index: 0,
+    command: 0,
+    hotkey: 0,
+};
 
-pub fn no_record() -> Record
-    ensures { λ r. ⌜ r ≡ noRecord ⌝ }
-{
-    let none = no_place();
-    Record {
-        header: no_header(),
-        items: none,
-        info: no_info(),
-        name: none,
-        relative: none,
-        workdir: none,
-        arguments: none,
-        icon: none,
-        blocks: none,
-    }
-}
-
-// ---- faults and bits
+pub const NO_RECORD: Record = Record {
+    header: NO_HEADER,
+    items: NO_PLACE,
+    info: NO_INFO,
+    name: NO_PLACE,
+    relative: NO_PLACE,
+    workdir: NO_PLACE,
+    arguments: NO_PLACE,
+    icon: NO_PLACE,
+    blocks: NO_PLACE,
+};
 
 // The number of a fault in the table of document 01.
 pub fn number_of(f: Fault) -> u8

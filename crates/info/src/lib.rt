@@ -115,8 +115,8 @@ fn no_text(ok: bool) -> Text
 {
     Text {
         ok,
-        span: format::no_place(),
-        body: format::no_place(),
+        span: format::NO_PLACE,
+        body: format::NO_PLACE,
     }
 }
 
@@ -263,8 +263,8 @@ fn no_volume(ok: bool) -> VolumeFound
 {
     VolumeFound {
         ok,
-        span: format::no_place(),
-        volume: format::no_volume(),
+        span: format::NO_PLACE,
+        volume: format::NO_VOLUME,
     }
 }
 
@@ -373,8 +373,8 @@ fn no_network(ok: bool) -> NetworkFound
 {
     NetworkFound {
         ok,
-        span: format::no_place(),
-        network: format::no_network(),
+        span: format::NO_PLACE,
+        network: format::NO_NETWORK,
     }
 }
 

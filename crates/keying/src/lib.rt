@@ -39,7 +39,7 @@ fn only(b: Place) -> Texts
     Texts {
         first: b,
         separators: 0,
-        suffix: format::no_place(),
+        suffix: format::NO_PLACE,
     }
 }
 
@@ -51,7 +51,7 @@ fn part_if(there: bool, texts: Texts) -> KeyPart
     }
     KeyPart {
         there,
-        texts: only(format::no_place()),
+        texts: only(format::NO_PLACE),
     }
 }
 

@@ -65,7 +65,7 @@ fn settle(t: Taken) -> Step
         },
         Taken::Refused(f, p) => Step {
             next: Next::Off(f, p),
-            held: format::no_place(),
+            held: format::NO_PLACE,
         },
     }
 }
@@ -76,7 +76,7 @@ fn off(f: Fault, at: usize) -> Step
 {
     Step {
         next: Next::Off(f, at),
-        held: format::no_place(),
+        held: format::NO_PLACE,
     }
 }
 
@@ -86,7 +86,7 @@ fn items_on(s: &[u8], present: bool, c: Cursor) -> Step
     if !present {
         return Step {
             next: Next::On(c),
-            held: format::no_place(),
+            held: format::NO_PLACE,
         };
     }
     settle(sections::items(s, c))
@@ -107,7 +107,7 @@ fn string_on(s: &[u8], present: bool, unicode: bool, c: Cursor) -> Step
     if !present {
         return Step {
             next: Next::On(c),
-            held: format::no_place(),
+            held: format::NO_PLACE,
         };
     }
     settle(sections::string(s, c, unicode))
@@ -127,7 +127,7 @@ fn info_off(f: Fault, at: usize) -> InfoStep
 {
     InfoStep {
         next: Next::Off(f, at),
-        held: format::no_info(),
+        held: format::NO_INFO,
     }
 }
 
@@ -138,7 +138,7 @@ fn info_on(s: &[u8], present: bool, c: Cursor) -> InfoStep
     if !present {
         return InfoStep {
             next: Next::On(c),
-            held: format::no_info(),
+            held: format::NO_INFO,
         };
     }
     match info::info(s, c) {
@@ -272,7 +272,7 @@ fn outline_off(f: Fault, at: usize) -> Outline
 {
     Outline {
         next: Next::Off(f, at),
-        held: format::no_record(),
+        held: format::NO_RECORD,
         ends: SectionEnds {
             items: 0,
             info: 0,
@@ -303,7 +303,7 @@ fn refused(f: Fault, at: usize) -> Reading
 {
     Reading {
         verdict: Verdict::Refused(f, at),
-        held: format::no_record(),
+        held: format::NO_RECORD,
     }
 }
 

@@ -27,7 +27,7 @@ fn between(there: bool, p: usize, e: usize) -> Place
             len: less(e, p),
         };
     }
-    format::no_place()
+    format::NO_PLACE
 }
 
 // By the outline, which is all that the sections' places need.
@@ -37,10 +37,10 @@ fn place_in(s: &[u8], o: Outline, name: u32, block: usize) -> Place
 {
     let next = o.next;
     let Next::On(c) = next else {
-        return format::no_place();
+        return format::NO_PLACE;
     };
     if c.at != s.len() {
-        return format::no_place();
+        return format::NO_PLACE;
     }
     let f = o.held.header.flags;
     let e = o.ends;
@@ -58,7 +58,7 @@ fn place_in(s: &[u8], o: Outline, name: u32, block: usize) -> Place
             at: less(s.len(), 4),
             len: 4,
         },
-        _ => format::no_place(),
+        _ => format::NO_PLACE,
     }
 }
 

@@ -26,13 +26,13 @@ ghost use Rattle.sizes.specs.Starts.{capped};
 fn kept(there: bool, b: Place) -> Place
     ensures { λ r. ⌜ r ≡ cond there b noPlace ⌝ }
 {
-    if there { b } else { format::no_place() }
+    if there { b } else { format::NO_PLACE }
 }
 
 fn kept_volume(there: bool, v: Volume) -> Volume
     ensures { λ r. ⌜ r ≡ cond there v noVolume ⌝ }
 {
-    if there { v } else { format::no_volume() }
+    if there { v } else { format::NO_VOLUME }
 }
 
 fn present_network(n: Network) -> Network
@@ -57,7 +57,7 @@ fn kept_network(there: bool, n: Network) -> Network
     if there {
         present_network(n)
     } else {
-        format::no_network()
+        format::NO_NETWORK
     }
 }
 
@@ -85,7 +85,7 @@ fn kept_info(there: bool, i: Info) -> Info
     if there {
         present_info(i)
     } else {
-        format::no_info()
+        format::NO_INFO
     }
 }
 

@@ -4,12 +4,9 @@ use borrow.Author.Needs.{needs}
 use Rattle.reader.proofs.info_on.Statement.{statement}
 use Rattle.reader.proofs.info_on.Tie as tie
 
-no-info-requires : tie.Need-no-info-requires
-no-info-requires c κs = search needs
-
 returns : tie.Need-returns
 unfolding infoOn
-returns c = rw (not-true (c .before .before .before .args .present) (c .before .if1 .taken), c .no-info .ensures)
+returns c = rw (not-true (c .before .before .args .present) (c .if1 .taken))
 
 info-requires : tie.Need-info-requires
 info-requires c κs = search needs
@@ -40,7 +37,6 @@ pub info-on-spec : {M : Type 1} → statement M
 info-on-spec =
     tie.close
     (tie.spec
-    no-info-requires
     returns
     info-requires
     enum-known-i

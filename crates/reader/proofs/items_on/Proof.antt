@@ -4,12 +4,9 @@ use borrow.Author.Needs.{needs}
 use Rattle.reader.proofs.items_on.Statement.{statement}
 use Rattle.reader.proofs.items_on.Tie as tie
 
-no-place-requires : tie.Need-no-place-requires
-no-place-requires c κs = search needs
-
 returns : tie.Need-returns
 unfolding itemsOn
-returns c = rw (not-true (c .before .before .before .args .present) (c .before .if1 .taken), c .no-place .ensures)
+returns c = rw (not-true (c .before .before .args .present) (c .if1 .taken))
 
 items-requires : tie.Need-items-requires
 items-requires c κs = search needs
@@ -22,4 +19,4 @@ unfolding itemsOn
 returns-2 c = rw (not-false (c .before .before .before .before .args .present) (c .before .before .if1 .left), c .settle .ensures, c .before .items .ensures)
 
 pub items-on-spec : {M : Type 1} → statement M
-items-on-spec = tie.close (tie.spec no-place-requires returns items-requires settle-requires returns-2)
+items-on-spec = tie.close (tie.spec returns items-requires settle-requires returns-2)

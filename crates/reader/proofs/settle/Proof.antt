@@ -9,16 +9,13 @@ enum-known-t c = search needs
 enum-known-t-2 : tie.Need-enum-known-t-2
 enum-known-t-2 c = search needs
 
-no-place-requires : tie.Need-no-place-requires
-no-place-requires c κs = search needs
-
 returns : tie.Need-returns
 unfolding settled
 returns c = rw (c .before .t .given .1)
 
 returns-2 : tie.Need-returns-2
 unfolding settled
-returns-2 c = rw (c .before .before .t2 .given .1, c .no-place .ensures)
+returns-2 c = rw (c .before .t2 .given .1)
 
 pub settle-spec : {M : Type 1} → statement M
-settle-spec = tie.close (tie.spec enum-known-t enum-known-t-2 no-place-requires returns returns-2)
+settle-spec = tie.close (tie.spec enum-known-t enum-known-t-2 returns returns-2)

@@ -4,12 +4,9 @@ use borrow.Author.Needs.{needs}
 use Rattle.reader.proofs.string_on.Statement.{statement}
 use Rattle.reader.proofs.string_on.Tie as tie
 
-no-place-requires : tie.Need-no-place-requires
-no-place-requires c κs = search needs
-
 returns : tie.Need-returns
 unfolding stringOn
-returns c = rw (not-true (c .before .before .before .args .present) (c .before .if1 .taken), c .no-place .ensures)
+returns c = rw (not-true (c .before .before .args .present) (c .if1 .taken))
 
 string-requires : tie.Need-string-requires
 string-requires c κs = search needs
@@ -23,4 +20,4 @@ returns-2 c = rw (not-false (c .before .before .before .before .args .present) (
 
 pub string-on-spec : {M : Type 1} → statement M
 string-on-spec =
-    tie.close (tie.spec no-place-requires returns string-requires settle-requires returns-2)
+    tie.close (tie.spec returns string-requires settle-requires returns-2)
