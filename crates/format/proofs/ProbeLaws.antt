@@ -7,7 +7,7 @@ use Rattle.octets.specs.Parts.{put}
 use Rattle.format.specs.Numbers.{numberOf, answerNumber, answerValue}
 use Rattle.format.specs.Header.{magic, signed}
 use Rattle.format.specs.Items.{walk}
-use Rattle.format.specs.Blocks.{blockOk, blocksFrom}
+use Rattle.format.specs.Blocks.{slotOf, sizeFits, insideFits, blocksFrom}
 use Rattle.format.specs.Shortcut.{sections, shortcut, reading}
 use Rattle.format.specs.Contents.{present, placed, contents}
 use Rattle.format.specs.Writing.{bits, headerBytes, itemsBytes, volumeBytes, networkBytes, infoBytes, stringBytes, canonical, writable, writing, outputOf, writeAnswer, writeOutput}
@@ -15,5 +15,5 @@ use Rattle.format.specs.Listing.{listing}
 use Rattle.format.specs.Probes.{holds, allHold, table}
 
 pub probes-hold : allHold table ≡ true
-unfolding allHold holds table number numberAt little units beforeZero put numberOf answerNumber answerValue magic signed walk blockOk blocksFrom sections shortcut reading present placed contents bits headerBytes itemsBytes volumeBytes networkBytes infoBytes stringBytes canonical writable writing outputOf writeAnswer writeOutput listing
+unfolding allHold holds table number numberAt little units beforeZero put numberOf answerNumber answerValue magic signed walk slotOf sizeFits insideFits blocksFrom sections shortcut reading present placed contents bits headerBytes itemsBytes volumeBytes networkBytes infoBytes stringBytes canonical writable writing outputOf writeAnswer writeOutput listing
 probes-hold = refl

@@ -13,7 +13,7 @@ use Rattle.sections.specs.declared.Taken.the-variants.{Got, Refused}
 use Rattle.sections.specs.Taken.{stringAt, itemsAt}
 use Rattle.blocks.specs.declared.Walked.{Walked}
 use Rattle.blocks.specs.declared.Walked.the-variants.{Body, Refused as Stopped}
-use Rattle.blocks.specs.Walk.{blocksAt}
+use Rattle.blocks.specs.Walk.{noFirsts, blocksRead}
 use Rattle.info.specs.declared.InfoTaken.{InfoTaken}
 use Rattle.info.specs.declared.InfoTaken.the-variants.{Got as GotInfo, Refused as RefusedInfo}
 use Rattle.info.specs.Taken.{infoAt}
@@ -21,6 +21,7 @@ use Rattle.reader.specs.declared.Next.{Next}
 use Rattle.reader.specs.declared.Next.the-variants.{On, Off}
 use Rattle.reader.specs.declared.Step.{Step}
 use Rattle.reader.specs.declared.InfoStep.{InfoStep}
+use Rattle.reader.specs.declared.BlocksStep.{BlocksStep}
 use Rattle.reader.specs.declared.Ends.{Ends}
 use Rattle.reader.specs.declared.Outline.{Outline}
 
@@ -29,6 +30,9 @@ step next b = record { next = next; held = b }
 
 abbrev pub stepInfo : Next → Info → InfoStep
 stepInfo next i = record { next = next; held = i }
+
+abbrev pub stepBlocks : Next → Place → List ℕ → BlocksStep
+stepBlocks next b row = record { next = next; held = b; firsts = row }
 
 -- a section that starts at p
 unfoldable pub settled : ℕ → Taken → Step
@@ -43,6 +47,10 @@ onwards (Off f p) g = step (Off f p) noPlace
 abbrev pub onwardsInfo : Next → (Cursor → InfoStep) → InfoStep
 onwardsInfo (On c) g = g c
 onwardsInfo (Off f p) g = stepInfo (Off f p) noInfo
+
+abbrev pub onwardsBlocks : Next → (Cursor → BlocksStep) → BlocksStep
+onwardsBlocks (On c) g = g c
+onwardsBlocks (Off f p) g = stepBlocks (Off f p) noPlace noFirsts
 
 unfoldable pub itemsOn : List ℕ → Bool → Cursor → Step
 unfolding settled
@@ -72,17 +80,18 @@ unfoldable pub infoStep : List ℕ → Bool → Next → InfoStep
 unfolding infoOn
 infoStep s present next = onwardsInfo next (infoOn s present)
 
-unfoldable pub settledBlocks : Walked → Step
-settledBlocks (Body b c) = step (On c) b
-settledBlocks (Stopped f p) = step (Off f p) noPlace
+-- after a refusal nothing is noted
+unfoldable pub settledBlocks : Walked → List ℕ → BlocksStep
+settledBlocks (Body b c) row = stepBlocks (On c) b row
+settledBlocks (Stopped f p) row = stepBlocks (Off f p) noPlace noFirsts
 
-unfoldable pub blocksOn : List ℕ → Cursor → Step
+unfoldable pub blocksOn : List ℕ → Cursor → BlocksStep
 unfolding settledBlocks
-blocksOn s c = settledBlocks (blocksAt s (c .at))
+blocksOn s c = let r = blocksRead s (c .at) in settledBlocks (r .walked) (r .firsts)
 
-unfoldable pub blocksStep : List ℕ → Next → Step
+unfoldable pub blocksStep : List ℕ → Next → BlocksStep
 unfolding blocksOn
-blocksStep s next = onwards next (blocksOn s)
+blocksStep s next = onwardsBlocks next (blocksOn s)
 
 unfoldable pub atOf : Next → ℕ
 atOf (On c) = c .at
@@ -128,4 +137,5 @@ outlineFrom s h c =
         blocks = blocks .held;
       };
       ends = endsOf (items .next) (info .next) (name .next) (relative .next) (workdir .next) (arguments .next) (icon .next);
+      firsts = blocks .firsts;
     }
