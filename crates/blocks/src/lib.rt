@@ -1,19 +1,70 @@
-// Extra blocks: the rules of one, and the walk over all of them up to the terminal block.
+// Extra blocks: what stands where one is due, and the walks over them up to the terminal block.
 use format::Fault;
 use format::Place;
+use format::Taken;
 use octets::Cursor;
 ghost use mathlib.Core.Path.{_≡_};
-ghost use mathlib.Core.Bool.{_&&_};
-ghost use Prim.Native.Nat.{_≤_};
+ghost use mathlib.Core.Bool.{true};
+ghost use Prim.Native.Nat.{_+_, _≤_, _<_};
 ghost use lib.ListN.{length};
-ghost use lib.Dec.{eqb};
-ghost use Rattle.format.specs.Blocks.{pathTexts, blockOk};
-ghost use Rattle.blocks.specs.Walk.{plainOk, blocksAt, NthOf, FirstOf};
+ghost use Rattle.format.specs.Blocks.{slotOf, sizeFits, pathTexts, insideFits};
+ghost use Rattle.format.specs.Shortcut.{most};
+ghost use Rattle.blocks.specs.Walk.{BySize, Stands, noFirsts, noted, Passed, NoBlock, blocksRead, readTo, stoppedAt, blockFrom, NthOf};
+
+// A block of so many bytes, with the slot of its signature; or the terminal block; or neither.
+pub enum BlockStep {
+    Block(usize, usize),
+    Terminal,
+    Refused(Fault),
+}
 
 // All blocks before the terminal as one body, with the cursor after the terminal; or the fault and the start of the block at fault.
-pub enum Walked {
-    Body(Place, Cursor),
-    Refused(Fault, usize),
+// Beside it, for each slot where its signature first stands; 0 where it does not, and after a refusal.
+pub struct BlocksRead {
+    pub taken: Taken,
+    pub firsts: [u32; 11],
+}
+
+// ---- one block
+
+// The table's slots: 11 for a signature that it does not have.
+fn slot_of(signature: u32) -> usize
+    ensures { λ r. ⌜ r ≡ slotOf signature ⌝ }
+{
+    match signature {
+        0xA000_0001 => 0,
+        0xA000_0002 => 1,
+        0xA000_0003 => 2,
+        0xA000_0004 => 3,
+        0xA000_0005 => 4,
+        0xA000_0006 => 5,
+        0xA000_0007 => 6,
+        0xA000_0008 => 7,
+        0xA000_0009 => 8,
+        0xA000_000B => 9,
+        0xA000_000C => 10,
+        _ => 11,
+    }
+}
+
+// The table's sizes.
+fn size_ok(slot: usize, n: usize) -> bool
+    ensures { λ r. ⌜ r ≡ sizeFits slot n ⌝ }
+{
+    match slot {
+        0 => n == 0x314,
+        1 => n == 0xCC,
+        2 => n == 0x60,
+        3 => n == 0x0C,
+        4 => n == 0x10,
+        5 => n == 0x314,
+        6 => n == 0x314,
+        7 => 0x88 <= n,
+        8 => 0x0C <= n,
+        9 => n == 0x1C,
+        10 => 0x0A <= n,
+        _ => true,
+    }
 }
 
 // A zero byte among the 260 from byte 8, and a zero unit among the 260 units from byte 268.
@@ -24,143 +75,190 @@ fn path_texts(b: &[u8]) -> bool
     octets::has_zero(false, &b[8..268]) & octets::has_zero(true, &b[268..788])
 }
 
-// The three of 0x314.
-fn path_ok(b: &[u8]) -> bool
-    ensures { λ r. ⌜ r ≡ (eqb (length (now (b .entry))) 0x314 && pathTexts (now (b .entry))) ⌝ }
+// What the block holds. Few have a rule for it.
+fn inside_ok(slot: usize, b: &[u8]) -> bool
+    requires { ⌜ sizeFits slot (length (now b)) ≡ true ⌝ }
+    ensures { λ r. ⌜ r ≡ insideFits slot (now (b .entry)) ⌝ }
 {
-    if b.len() != 0x314 {
-        return false;
-    }
-    path_texts(b)
-}
-
-// The table of signatures and sizes, for those that have no rule beyond their size.
-pub fn plain_ok(signature: u32, n: usize) -> bool
-    ensures { λ r. ⌜ r ≡ plainOk signature n ⌝ }
-{
-    match signature {
-        0xA000_0001 => false,
-        0xA000_0002 => n == 0xCC,
-        0xA000_0003 => n == 0x60,
-        0xA000_0004 => n == 0x0C,
-        0xA000_0005 => n == 0x10,
-        0xA000_0006 => false,
-        0xA000_0007 => false,
-        0xA000_0008 => 0x88 <= n,
-        0xA000_0009 => 0x0C <= n,
-        0xA000_000B => n == 0x1C,
-        0xA000_000C => false,
+    match slot {
+        0 => path_texts(b),
+        5 => path_texts(b),
+        6 => path_texts(b),
+        10 => items::item_list(&b[8..]),
         _ => true,
     }
 }
 
-pub fn block_ok(b: &[u8]) -> bool
-    requires { ⌜ 8 ≤ length (now b) ⌝ }
-    ensures { λ r. ⌜ r ≡ blockOk (now (b .entry)) ⌝ }
+// ---- the step
+
+// What stands at the start of the rest, by its sizes; what a block holds is not looked at.
+pub fn step(rest: &[u8]) -> BlockStep
+    ensures { λ t. ⌜ BySize (now (rest .entry)) t ⌝ }
 {
-    let n = b.len();
-    let signature = octets::u32_at(b, 4);
-    match signature {
-        0xA000_0001 => path_ok(b),
-        0xA000_0006 => path_ok(b),
-        0xA000_0007 => path_ok(b),
-        0xA000_000C => {
-            if n < 0x0A {
-                return false;
-            }
-            items::item_list(&b[8..])
+    let left = rest.len();
+    if left < 4 {
+        return BlockStep::Refused(Fault::Cut);
+    }
+    let n = octets::u32_at(rest, 0) as usize;
+    if n < 8 {
+        if n < 4 {
+            return BlockStep::Terminal;
         }
-        _ => plain_ok(signature, n),
+        return BlockStep::Refused(Fault::Block);
+    }
+    if left < n {
+        return BlockStep::Refused(Fault::Cut);
+    }
+    let slot = slot_of(octets::u32_at(rest, 4));
+    if !size_ok(slot, n) {
+        return BlockStep::Refused(Fault::Block);
+    }
+    BlockStep::Block(n, slot)
+}
+
+// What stands at the start of the rest.
+fn judged(rest: &[u8]) -> BlockStep
+    ensures { λ t. ⌜ Stands (now (rest .entry)) t ⌝ }
+{
+    match step(rest) {
+        BlockStep::Block(n, slot) => {
+            if inside_ok(slot, &rest[..n]) {
+                return BlockStep::Block(n, slot);
+            }
+            BlockStep::Refused(Fault::Block)
+        }
+        BlockStep::Terminal => BlockStep::Terminal,
+        BlockStep::Refused(f) => BlockStep::Refused(f),
     }
 }
 
-pub fn blocks(s: &[u8], c: Cursor) -> Walked
-    ensures { λ r. ⌜ r ≡ blocksAt (now (s .entry)) (c .at) ⌝ }
+// ---- the walks
+
+fn no_firsts() -> [u32; 11]
+    ensures { λ r. ⌜ r ≡ noFirsts ⌝ }
+{
+    [0u32; 11]
+}
+
+// Where the signature of the block at p stands; no shortcut reaches what is too far for the number.
+fn field_of(p: usize) -> u32
+    ensures { λ r. ⌜ (p < most → r ≡ p + 4) ⌝ }
+{
+    if p < 65536 { (p + 4) as u32 } else { 0 }
+}
+
+// The block at p is noted if it is the first in its slot.
+fn note(firsts: &mut [u32; 11], slot: usize, p: usize)
+    ensures { λ _. ⌜ (p < most → now (firsts .exit) ≡ noted (now (firsts .entry)) slot (p + 4)) ⌝ }
+{
+    if slot < 11 {
+        if firsts[slot] == 0 {
+            firsts[slot] = field_of(p);
+        }
+    }
+}
+
+// Past all blocks from `start` on, up to what is no block. It notes the first of each kind.
+pub fn run(s: &[u8], start: usize, firsts: &mut [u32; 11]) -> usize
+    requires { ⌜ (start ≤ length (now s)) × (now firsts ≡ noFirsts) ⌝ }
+    ensures passed { λ p. ⌜ Passed (now (s .entry)) start p (now (firsts .exit)) ⌝ }
+    ensures ended { λ p. ⌜ NoBlock (now (s .entry)) p ⌝ }
+{
+    let mut p = start;
+    let mut rest = &s[start..];
+    loop {
+        match judged(rest) {
+            BlockStep::Block(n, slot) => {
+                note(firsts, slot, p);
+                p += n;
+                rest = &rest[n..];
+            }
+            BlockStep::Terminal => return p,
+            BlockStep::Refused(_) => return p,
+        }
+    }
+}
+
+// The blocks from `start` to p, with the terminal block there.
+fn read_to(start: usize, p: usize, firsts: [u32; 11]) -> BlocksRead
+    requires { ⌜ (start ≤ p) × (p ≤ most) ⌝ }
+    ensures { λ r. ⌜ r ≡ readTo start p firsts ⌝ }
+{
+    let body = Place {
+        at: start,
+        len: p - start,
+    };
+    BlocksRead {
+        taken: Taken::Got(body, Cursor { at: p + 4 }),
+        firsts,
+    }
+}
+
+fn stopped(f: Fault, p: usize) -> BlocksRead
+    ensures { λ r. ⌜ r ≡ stoppedAt f p ⌝ }
+{
+    BlocksRead {
+        taken: Taken::Refused(f, p),
+        firsts: no_firsts(),
+    }
+}
+
+pub fn blocks(s: &[u8], c: Cursor) -> BlocksRead
+    requires { ⌜ length (now s) ≤ most ⌝ }
+    ensures { λ r. ⌜ r ≡ blocksRead (now (s .entry)) (c .at) ⌝ }
 {
     let start = c.at;
-    let n = s.len();
-    if n < start {
-        return Walked::Refused(Fault::Cut, start);
+    if s.len() < start {
+        return stopped(Fault::Cut, start);
     }
-    let mut p = start;
-    while 4 <= n - p {
-        let size = octets::u32_at(s, p) as usize;
-        if size < 8 {
-            if size < 4 {
-                let body = Place {
-                    at: start,
-                    len: p - start,
-                };
-                return Walked::Body(body, Cursor { at: p + 4 });
-            }
-            return Walked::Refused(Fault::Block, p);
-        }
-        if n - p < size {
-            return Walked::Refused(Fault::Cut, p);
-        }
-        let e = p + size;
-        // Few blocks need a look inside.
-        if !plain_ok(octets::u32_at(s, p + 4), size) {
-            if !block_ok(&s[p..e]) {
-                return Walked::Refused(Fault::Block, p);
-            }
-        }
-        p = e;
+    // Many shortcuts have no block at all.
+    if let BlockStep::Terminal = step(&s[start..]) {
+        return read_to(start, start, no_firsts());
     }
-    Walked::Refused(Fault::Cut, p)
+    let mut firsts = no_firsts();
+    let p = run(s, start, &mut firsts);
+    match step(&s[p..]) {
+        BlockStep::Terminal => read_to(start, p, firsts),
+        BlockStep::Refused(f) => stopped(f, p),
+        BlockStep::Block(_, _) => stopped(Fault::Block, p),
+    }
+}
+
+// The block whose signature stands there; the empty place for 0.
+pub fn block_from(s: &[u8], field: u32) -> Place
+    requires { ⌜ field ≤ length (now s) ⌝ }
+    ensures { λ r. ⌜ r ≡ blockFrom (now (s .entry)) field ⌝ }
+{
+    if field < 4 {
+        return format::NO_PLACE;
+    }
+    let at = field as usize - 4;
+    Place {
+        at,
+        len: octets::u32_at(s, at) as usize,
+    }
 }
 
 // Where block number k stands, of those that start at `from`; the empty place where there are not so many.
 pub fn nth_block(s: &[u8], from: usize, k: usize) -> Place
     ensures { λ r. ⌜ NthOf (now (s .entry)) from k r ⌝ }
 {
-    let none = Place { at: 0, len: 0 };
-    let n = s.len();
-    if n < from {
-        return none;
+    if s.len() < from {
+        return format::NO_PLACE;
     }
     let mut p = from;
     let mut left = k;
-    while 4 <= n - p {
-        let size = octets::u32_at(s, p) as usize;
-        if size < 4 {
-            return none;
+    loop {
+        match step(&s[p..]) {
+            BlockStep::Block(n, _) => {
+                if left == 0 {
+                    return Place { at: p, len: n };
+                }
+                left -= 1;
+                p += n;
+            }
+            BlockStep::Terminal => return format::NO_PLACE,
+            BlockStep::Refused(_) => return format::NO_PLACE,
         }
-        if n - p < size {
-            return none;
-        }
-        if left == 0 {
-            return Place { at: p, len: size };
-        }
-        left -= 1;
-        p += size;
     }
-    none
-}
-
-// Where the first block with this signature stands, of those that start at `from`; the empty place where there is none.
-pub fn first_block(s: &[u8], from: usize, signature: u32) -> Place
-    ensures { λ r. ⌜ FirstOf (now (s .entry)) from signature r ⌝ }
-    ensures sized { λ r. ⌜ ((r .len ≡ 0 → ⊥) → 8 ≤ r .len) ⌝ }
-{
-    let none = Place { at: 0, len: 0 };
-    let n = s.len();
-    if n < from {
-        return none;
-    }
-    let mut at = from;
-    while 4 <= n - at {
-        let len = octets::u32_at(s, at) as usize;
-        if len < 8 {
-            return none;
-        }
-        if n - at < len {
-            return none;
-        }
-        if octets::u32_at(s, at + 4) == signature {
-            return Place { at, len };
-        }
-        at += len;
-    }
-    none
 }

@@ -1,7 +1,7 @@
 -- The laws of the blocks.
 use mathlib.Core.Path.{_≡_, refl, sym, ap, _∙_}
 use mathlib.Core.List.{List, [], _∷_, _++_, append-assoc, append-nil}
-use mathlib.Core.Bool.{true}
+use mathlib.Core.Bool.{Bool, true, false, cond}
 use Prim.Native.Nat.{ℕ, zero, suc, _+_, _-_, _≤_, _<_}
 use native.Mathlib.Omega.{arith}
 use native.Mathlib.Nat.{add-sub-of-le}
@@ -12,8 +12,8 @@ use Rattle.octets.specs.Numbers.{Bytes, little}
 use Rattle.octets.proofs.NumberLaws.{bytes-take, bytes-append, bytes-little, length-little, number-back, number-same}
 use Rattle.format.specs.declared.Fault.{Fault}
 use Rattle.format.specs.declared.Fault.the-variants.{Cut as CUT}
-use Rattle.format.specs.Tests.{Outcome, got, refused, tests, Reader, andThen}
-use Rattle.format.specs.Blocks.{blockSize, blockTests, blocksFrom, blocks}
+use Rattle.format.specs.Tests.{Outcome, got, refused, Test, tests, Reader, andThen}
+use Rattle.format.specs.Blocks.{Standing, aBlock, blockSize, blockTests, blockStep, follow, blocksFrom, blocks}
 use Rattle.format.specs.Shortcut.{sum}
 use Rattle.format.specs.Writing.{blocksBytes, takes, writableBlocks}
 use Rattle.format.proofs.Bools.{by-order}
@@ -31,6 +31,16 @@ pub none-left : (p : ℕ) (s : List ℕ) → length s < 4 → blocks p s ≡ ref
 unfolding blocksFrom
 none-left p [] h = refl
 none-left p (a ∷ s) h = rw (lt-leb 4 (length (a ∷ s)) h)
+
+-- what follows a step follows its tests
+follow-tests : (p : ℕ) (ts : List Test) (o : Outcome Standing) (rest : Outcome (List ℕ)) → follow (tests p ts o) rest ≡ tests p ts (follow o rest)
+follow-tests p [] o rest = refl
+follow-tests p (t ∷ ts) o rest = go (t .holds) (follow-tests p ts o rest)
+  where
+    go : (b : Bool) → follow (tests p ts o) rest ≡ tests p ts (follow o rest)
+        → follow (cond b (tests p ts o) (refused (t .fault) p)) rest ≡ cond b (tests p ts (follow o rest)) (refused (t .fault) p)
+    go true e = e
+    go false e = refl
 
 pub the-end : (p : ℕ) (s : List ℕ) → 4 ≤ length s → blockSize s < 4 → blocks p s ≡ got [] 4
 unfolding blocksFrom
@@ -50,11 +60,22 @@ one-more p [] h t = absurd (omega arith)
 one-more p (a ∷ s) h t =
     let n : ℕ = blockSize (a ∷ s) in
     let d : drop n (a ∷ s) ≡ drop (n - 1) s = rest n (omega arith) in
-    rw (le-leb 4 (length (a ∷ s)) h, le-ltb n 4 t, skip (p + n) (n - 1) s, d)
+    rw (le-leb 4 (length (a ∷ s)) h, le-ltb n 4 t, skip (p + n) (n - 1) s, d) (follow-tests p (blockTests (a ∷ s)) (got aBlock n) (blocks (p + n) (drop (n - 1) s)))
   where
     rest : (n : ℕ) → 0 < n → drop n (a ∷ s) ≡ drop (n - 1) s
     rest zero h = absurd (omega arith)
     rest (suc n) h = let e : suc n - 1 ≡ n = omega arith in rw e
+
+-- the walk is a fold of the step
+pub blocks-step : (p : ℕ) (s : List ℕ) → blocks p s ≡ follow (blockStep p s) (blocks (p + blockSize s) (drop (blockSize s) s))
+blocks-step p s =
+    let rest : Outcome (List ℕ) = blocks (p + blockSize s) (drop (blockSize s) s) in
+    by-order 4 (length s)
+    (λ h.
+    by-order 4 (blockSize s)
+    (λ t. one-more p s h t ∙ rw (le-leb 4 (length s) h, le-ltb (blockSize s) 4 t) (sym (follow-tests p (blockTests s) (got aBlock (blockSize s)) rest)))
+    (λ t. the-end p s h t ∙ rw (le-leb 4 (length s) h, lt-ltb (blockSize s) 4 t)))
+    (λ h. none-left p s h ∙ rw (lt-leb 4 (length s) h))
 
 -- the terminal block, or a block that passes its tests
 pub step-elim {ℓ} : (p : ℕ) (s : List ℕ) (X : List ℕ → ℕ → Type ℓ)
@@ -117,7 +138,7 @@ same-blocks (suc k) p s lengths n l e q t =
     let z : take (m - 4) (drop n t) ≡ take (m - 4) (drop n s) = sym (drop-take n (m - 4) t) ∙ ap (drop n) x ∙ drop-take n (m - 4) s in
     let f : blockSize t ≡ n = number-same 4 n t s 0 y (omega arith) in
     let v : blockSize (drop (m - 4) (drop n t)) < 4 = rw (drop-drop (m - 4) n t, ← a) o in
-    let d : Pass (blockTests t) = rw (f, y) (c .0, (le-leb n (length t) (omega arith), (c .1 .1 .0, tt))) in
+    let d : Pass (blockTests t) = rw (f, y) (c .0, (le-leb n (length t) (omega arith), c .1 .1)) in
     let h = same-blocks k (p + n) (drop n s) ls m (omega (arith, length-drop n s)) i (q + n) (drop n t) z (omega (arith, length-drop n t)) v in
     one-more q t (omega arith) (omega arith) ∙ pass q (blockTests t) (more q (blockSize t) t) d ∙ rw (f, h))
     lengths n e
@@ -163,7 +184,7 @@ cut-blocks (suc k) p s lengths n h e l =
     (λ v.
     let y : take n t ≡ take n s = take-take n l s v in
     let d : drop n t ≡ take (l - n) (drop n s) = rw add-sub-of-le at (drop-take n (l - n) s) in
-    let a : Pass (blockTests t) = rw (f, y) (c .0, (le-leb n (length t) (omega arith), (c .1 .1 .0, tt))) in
+    let a : Pass (blockTests t) = rw (f, y) (c .0, (le-leb n (length t) (omega arith), c .1 .1)) in
     let q = cut-blocks k (p + n) (drop n s) ls m (omega (arith, length-drop n s)) i (l - n) (omega arith) in
     record {
       position = q .position;

@@ -9,7 +9,7 @@ use Rattle.format.specs.declared.Fault.the-variants.{Cut as CUT, Room as
 use Rattle.format.specs.Tests.{got, refused}
 use Rattle.format.specs.Header.{identifierOk, signed}
 use Rattle.format.specs.Items.{walk}
-use Rattle.format.specs.Blocks.{blockOk, blocksFrom}
+use Rattle.format.specs.Blocks.{slotOf, sizeFits, insideFits, blocksFrom}
 use Rattle.format.specs.Shortcut.{sections, shortcut}
 use Rattle.format.specs.Key.{keyOf, keyBytes, key}
 use Rattle.format.specs.Probes.{zeros, withSection, Z, dashG1}
@@ -33,5 +33,5 @@ pub key-rows : key Z 21
     ∷ got (zeros 16 ++ 1 ∷ 1 ∷ zeros 3 ++ 0x61 ∷ []) 22
     ∷ refused CUT 76
     ∷ []
-unfolding number numberAt little units beforeZero identifierOk signed walk blockOk blocksFrom sections shortcut keyOf keyBytes key
+unfolding number numberAt little units beforeZero identifierOk signed walk slotOf sizeFits insideFits blocksFrom sections shortcut keyOf keyBytes key
 key-rows = refl

@@ -11,30 +11,73 @@ use Rattle.format.specs.Tests.{Test, _else_, tests, Outcome, got, refuse
 use Rattle.format.specs.Items.{itemList}
 use Rattle.format.specs.Pieces.{textEnds}
 
+-- ---- the table of signatures
+
+-- one size alone, or that and every greater one
+pub data SizeRule : Type 0 where
+  exactly : ℕ → SizeRule
+  atLeast : ℕ → SizeRule
+
+abbrev pub obeys : SizeRule → ℕ → Bool
+obeys (exactly m) n = eqb n m
+obeys (atLeast m) n = leb m n
+
+-- Signature | Size
+abbrev pub signatures : List (ℕ × SizeRule)
+signatures =
+    (0xA0000001, exactly 0x314)
+    ∷ (0xA0000002, exactly 0xCC)
+    ∷ (0xA0000003, exactly 0x60)
+    ∷ (0xA0000004, exactly 0x0C)
+    ∷ (0xA0000005, exactly 0x10)
+    ∷ (0xA0000006, exactly 0x314)
+    ∷ (0xA0000007, exactly 0x314)
+    ∷ (0xA0000008, atLeast 0x88)
+    ∷ (0xA0000009, atLeast 0x0C)
+    ∷ (0xA000000B, exactly 0x1C)
+    ∷ (0xA000000C, atLeast 0x0A)
+    ∷ []
+
+-- how many rows stand before that of the signature x; all of them where it has none
+abbrev pub slotIn : List (ℕ × SizeRule) → ℕ → ℕ
+slotIn [] x = 0
+slotIn (r ∷ rs) x = cond (eqb x (r .0)) 0 (suc (slotIn rs x))
+
+-- 0 to 10 by the table; 11: another signature
+unfoldable pub slotOf : ℕ → ℕ
+slotOf x = slotIn signatures x
+
+abbrev pub sizeIn : List (ℕ × SizeRule) → ℕ → ℕ → Bool
+sizeIn [] k n = true
+sizeIn (r ∷ rs) zero n = obeys (r .1) n
+sizeIn (r ∷ rs) (suc k) n = sizeIn rs k n
+
+-- Other signatures pass and may repeat; so may known ones
+unfoldable pub sizeFits : ℕ → ℕ → Bool
+sizeFits slot n = sizeIn signatures slot n
+
+-- ---- one block
+
 -- The three of 0x314 hold a zero byte among the 260 from byte 8 and a zero unit among the 260 units from byte 268; bytes after these are kept
 abbrev pub pathTexts : List ℕ → Bool
 pathTexts b = textEnds false (take 260 (drop 8 b)) && textEnds true (take 520 (drop 268 b))
 
--- Signature | Size. Of those that have a rule beyond their size it is given what that says: of the three of 0x314, and of the item list.
--- Other signatures pass and may repeat; so may known ones
-abbrev pub blockTable : ℕ → ℕ → Bool → Bool → Bool
-blockTable signature n paths list =
-    cond (eqb signature 0xA0000001 || eqb signature 0xA0000006 || eqb signature 0xA0000007) paths
-    (cond (eqb signature 0xA0000002) (eqb n 0xCC)
-    (cond (eqb signature 0xA0000003) (eqb n 0x60)
-    (cond (eqb signature 0xA0000004) (eqb n 0x0C)
-    (cond (eqb signature 0xA0000005) (eqb n 0x10)
-    (cond (eqb signature 0xA0000008) (leb 0x88 n)
-    (cond (eqb signature 0xA0000009) (leb 0x0C n)
-    (cond (eqb signature 0xA000000B) (eqb n 0x1C)
-    (cond (eqb signature 0xA000000C) list
-    true))))))))
+-- what a block b holds: the three of 0x314 their texts, A000000C from byte 8 an item list without its size field
+unfoldable pub insideFits : ℕ → List ℕ → Bool
+insideFits slot b =
+    cond (eqb slot 0 || eqb slot 5 || eqb slot 6) (pathTexts b)
+    (cond (eqb slot 10) (itemList (drop 8 b))
+    true)
 
--- b is one block; at least 0x0A, and from byte 8 an item list without its size field
-unfoldable pub blockOk : List ℕ → Bool
-blockOk b =
-    let n = length b in
-    blockTable (u32At b 4) n (eqb n 0x314 && pathTexts b) (leb 0x0A n && itemList (drop 8 b))
+abbrev pub slotAt : List ℕ → ℕ
+slotAt b = slotOf (u32At b 4)
+
+-- by signature at 4: its size, then what it holds
+abbrev pub blockRules : List ℕ → List Test
+blockRules b =
+    sizeFits (slotAt b) (length b) else BLOCK
+    ∷ insideFits (slotAt b) b else BLOCK
+    ∷ []
 
 abbrev pub blockSize : List ℕ → ℕ
 blockSize s = u32At s 0
@@ -44,19 +87,34 @@ abbrev pub blockTests : List ℕ → List Test
 blockTests s =
     leb 8 (blockSize s) else BLOCK
     ∷ leb (blockSize s) (length s) else CUT
-    ∷ blockOk (take (blockSize s) s) else BLOCK
-    ∷ []
+    ∷ blockRules (take (blockSize s) s)
 
--- the lengths of the blocks before the terminal. p is where the next block starts; k bytes of the one before it are still to come.
+-- ---- the step: what stands where a block is due, and how many bytes it has
+
+pub data Standing : Type 0 where
+  aBlock : Standing
+  aTerminal : Standing
+
 -- A block: four bytes of size (else CUT). A size below 4 is the terminal block, of four bytes
+abbrev pub blockStep : Reader Standing
+blockStep p s =
+    tests p (leb 4 (length s) else CUT ∷ [])
+    (cond (ltb (blockSize s) 4) (got aTerminal 4) (tests p (blockTests s) (got aBlock (blockSize s))))
+
+-- ---- the walk: the lengths of the blocks before the terminal
+
+-- a step, and what is read after it if it is a block
+abbrev pub follow : Outcome Standing → Outcome (List ℕ) → Outcome (List ℕ)
+follow (got aTerminal n) rest = got [] n
+follow (got aBlock n) rest = andThen rest (λ lengths m. got (n ∷ lengths) (n + m))
+follow (refused f q) rest = refused f q
+
+-- p is where the next block starts; k bytes of the one before it are still to come
 unfoldable pub blocksFrom : ℕ → ℕ → List ℕ → Outcome (List ℕ)
 blocksFrom p zero [] = refused CUT p
 blocksFrom p zero (a ∷ l) =
-    let s = a ∷ l in
-    let n = blockSize s in
-    let rest = blocksFrom (p + n) (n - 1) l in
-    let more = tests p (blockTests s) (andThen rest (λ lengths m. got (n ∷ lengths) (n + m))) in
-    tests p (leb 4 (length s) else CUT ∷ []) (cond (ltb n 4) (got [] 4) more)
+    let n = blockSize (a ∷ l) in
+    follow (blockStep p (a ∷ l)) (blocksFrom (p + n) (n - 1) l)
 -- never met: a block's size was tested against what is left
 blocksFrom p (suc k) [] = refused CUT p
 blocksFrom p (suc k) (a ∷ l) = blocksFrom p k l
@@ -64,7 +122,22 @@ blocksFrom p (suc k) (a ∷ l) = blocksFrom p k l
 abbrev pub blocks : Reader (List ℕ)
 blocks p s = blocksFrom p 0 s
 
+-- ---- the first block of each kind
+
 -- the first block with this signature, of blocks of these lengths from p on; the empty place where there is none
 abbrev pub firstPlace : List ℕ → ℕ → ℕ → List ℕ → Place
 firstPlace s signature p [] = noPlace
 firstPlace s signature p (n ∷ ns) = cond (eqb (u32At s (p + 4)) signature) (place p n) (firstPlace s signature (p + n) ns)
+
+-- where this signature first stands, of blocks of these lengths from p on; 0 where it does not
+abbrev pub firstField : List ℕ → ℕ → ℕ → List ℕ → ℕ
+firstField s signature p [] = 0
+firstField s signature p (n ∷ ns) = cond (eqb (u32At s (p + 4)) signature) (p + 4) (firstField s signature (p + n) ns)
+
+abbrev pub firstsIn : List (ℕ × SizeRule) → List ℕ → ℕ → List ℕ → List ℕ
+firstsIn [] s p lengths = []
+firstsIn (r ∷ rs) s p lengths = firstField s (r .0) p lengths ∷ firstsIn rs s p lengths
+
+-- the same of each signature of the table, by its slot
+unfoldable pub firsts : List ℕ → ℕ → List ℕ → List ℕ
+firsts s p lengths = firstsIn signatures s p lengths

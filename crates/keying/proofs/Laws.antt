@@ -4,7 +4,7 @@ use mathlib.Core.List.{List, [], _∷_, _++_, append-nil, append-assoc}
 use mathlib.Core.Bool.{Bool, true, false, cond}
 use Prim.Native.Nat.{ℕ, _+_, _-_, _≤_, _<_}
 use native.Mathlib.Omega.{arith}
-use lib.ListN.{length, take, drop, set, drop-of-length-le, length-append, length-take, length-drop}
+use lib.ListN.{length, take, drop, getD, set, drop-of-length-le, length-append, length-take, length-drop}
 use lib.Seq.{take-take, drop-drop}
 use lib.Dec.{leb}
 use borrow.Author.Tests.{le-leb, lt-leb, ltb-false}
@@ -25,7 +25,7 @@ use Rattle.format.specs.declared.Fault.{Fault}
 use Rattle.format.specs.declared.Fault.the-variants.{Room as ROOM}
 use Rattle.format.specs.declared.Verdict.the-variants.{Accepted, Refused}
 use Rattle.format.specs.Tests.{got, refused, _else_, tests, bit, oneOr0, place, noPlace}
-use Rattle.format.specs.Blocks.{blocks}
+use Rattle.format.specs.Blocks.{blocks, firstField, firsts}
 use Rattle.format.specs.Shortcut.{most, shortcut, reading}
 use Rattle.format.specs.Contents.{bytesAt}
 use Rattle.format.specs.Writing.{outputOf}
@@ -39,13 +39,15 @@ use Rattle.format.proofs.Demands.{accepted-whole}
 use Rattle.format.proofs.KeyDemands.{record-tells}
 use Rattle.format.proofs.KeyRoom.{made}
 use Rattle.format.proofs.KeyLaws.{flag-small}
-use Rattle.blocks.specs.Walk.{FirstOf}
+use Rattle.blocks.specs.Walk.{blockFrom}
+use Rattle.blocks.proofs.FirstLaws.{first-block}
+use Rattle.reader.specs.Finish.{FirstsOf}
 use Rattle.target.specs.declared.Texts.{Texts}
 use Rattle.target.specs.Texts.{Stands, textsLength, textsBytes, textsOf}
 use Rattle.target.proofs.Laws.{Inside, texts-inside, texts-stand, texts-are, texts-long}
 use Rattle.keying.specs.declared.KeyPart.{KeyPart}
 use Rattle.keying.specs.declared.KeyParts.{KeyParts}
-use Rattle.keying.specs.Shown.{only, keyPart, partShown, partLength, PartStands, TextOf, EnvironmentOf, keyShown, keyLength, KeyStands}
+use Rattle.keying.specs.Shown.{only, keyPart, partShown, partLength, PartStands, TextOf, BlockAt, EnvironmentOf, keyShown, keyLength, KeyStands}
 
 -- ---- one part
 
@@ -119,19 +121,27 @@ no-block s b e = rw e
 a-block : (s : List ℕ) (b : Place) → (b .len ≡ 0 → ⊥) → somePart (blockText s b) ≡ environment s b
 a-block s b e = rw (le-leb 1 (b .len) (omega arith))
 
-module _ (s : List ℕ) (from : ℕ) (small : length s ≤ most) {b : Place} (f : FirstOf s from 0xA0000001 b) where
-  shown-by : {p : KeyPart} → PartStands s p → partShown s p ≡ environment s b → EnvironmentOf s from p
-  shown-by h e = record { stands = h; is = λ lengths n i. e ∙ ap (environment s) (f .is lengths n i) }
-
-  pub environment-absent : {t : Texts} {p : KeyPart} → b .len ≡ 0 → t ≡ only b → p ≡ keyPart false t → EnvironmentOf s from p
+module _ (s : List ℕ) {field : ℕ} (B : BlockAt s field) {b : Place} (f : b ≡ blockFrom s field) where
+  pub environment-absent : {t : Texts} {p : KeyPart} → b .len ≡ 0 → t ≡ only b → p ≡ keyPart false t → EnvironmentOf s (blockFrom s field) p
   environment-absent {t} {p} z e i =
-      rw (i, e) (shown-by (part-stands s false (only b) small (f .inside, omega arith, omega arith)) (part-shown s false (only b) ∙ no-block s b z))
+      let inside : b .at + b .len ≤ length s = rw f (B .inside) in
+      rw (i, e, ← f)
+      (record {
+        stands = part-stands s false (only b) (B .small) (inside, omega arith, omega arith);
+        is = part-shown s false (only b) ∙ no-block s b z;
+      })
 
-  pub environment-there : {a : Place} {t : Texts} {p : KeyPart} → (b .len ≡ 0 → ⊥) → TextOf s b a → t ≡ only a → p ≡ keyPart true t → EnvironmentOf s from p
+  pub environment-there : {a : Place} {t : Texts} {p : KeyPart} → (b .len ≡ 0 → ⊥) → TextOf s b a → t ≡ only a → p ≡ keyPart true t → EnvironmentOf s (blockFrom s field) p
   environment-there {a} {t} {p} z x e i =
-      rw (i, e)
-      (shown-by (part-stands s true (only a) small (x .inside, omega arith, omega arith))
-      (part-shown s true (only a) ∙ ap somePart (only-bytes s a ∙ x .is) ∙ a-block s b z))
+      rw (i, e, ← f)
+      (record {
+        stands = part-stands s true (only a) (B .small) (x .inside, omega arith, omega arith);
+        is = part-shown s true (only a) ∙ ap somePart (only-bytes s a ∙ x .is) ∙ a-block s b z;
+      })
+
+  -- what the text of the block asks
+  pub text-stands : (b .len ≡ 0 → ⊥) → (b .at + b .len ≤ length s) × (8 ≤ b .len)
+  text-stands z = (rw f (B .inside), rw f (B .sized (λ e. z (ap (λ (c : Place). c .len) f ∙ e))))
 
 -- ---- the bytes of a part
 
@@ -187,10 +197,39 @@ flag-put out at b e h = wrote-number 1 out at (oneOr0 b) (rw e (put-byte out at 
 
 -- ---- what is in the key of an accepted shortcut
 
+first-slot : (s : List ℕ) {row : List ℕ} (a start : ℕ) (lengths : List ℕ) (n : ℕ) → a ≡ start → ((ls : List ℕ) (m : ℕ) → blocks a (drop a s) ≡ got ls m → row ≡ firsts s a ls)
+    → blocks start (drop start s) ≡ got lengths n → getD row 0 0 ≡ firstField s 0xA0000001 start lengths
+unfolding firsts
+first-slot s {row} a start lengths n q h w =
+    let k : (ls : List ℕ) (m : ℕ) → blocks start (drop start s) ≡ got ls m → row ≡ firsts s start ls = rw q at h in
+    ap (λ (l : List ℕ). getD l 0 0) (k lengths n w)
+
+-- the row leads to the first block of its first slot
+pub record Leads (s : List ℕ) (field : ℕ) : Type 0 where
+  pub block : BlockAt s field
+  pub is : environment s (blockFrom s field) ≡ keyIn s .environment
+
 module _ (s : List ℕ) (r : Record) (e : Accepts s r) where
-  pub accepted-small : length s ≤ most
+  accepted-small : length s ≤ most
   unfolding Accepts
   accepted-small = accepted-limit s r (length s) e
+
+  pub row-block : {row : List ℕ} → FirstsOf s r row → Leads s (getD row 0 0)
+  row-block {row} h =
+      let m = made s r e in
+      let start = m .start in
+      let field = first-slot s (r .blocks .at) start (m .lengths) (m .count) (m .at) h (m .walk) in
+      let F = first-block s 0xA0000001 start (m .lengths) (m .count) (m .walk) in
+      rw field
+      (record {
+        block = record {
+          small = accepted-small;
+          reached = F .field;
+          inside = rw (F .block) (F .inside);
+          sized = rw (F .block) (F .sized);
+        };
+        is = ap (environment s) (F .block) ∙ ap (λ (y : Key). y .environment) (sym (m .is));
+      })
 
   pub accepted-texts : Inside s r
   unfolding Accepts
@@ -198,7 +237,7 @@ module _ (s : List ℕ) (r : Record) (e : Accepts s r) where
 
   module _ {k : KeyParts} (unicode : k .unicode ≡ bit 7 (r .header .flags)) {h : Bool} {t : Texts} (has : h ≡ hasTarget r) (texts : t ≡ textsOf s r) (target : k .target ≡ keyPart h t)
       {a w : Texts} (ea : a ≡ only (r .arguments)) (arguments : k .arguments ≡ keyPart (bit 5 (r .header .flags)) a) (ew : w ≡ only (r .workdir)) (workdir : k .workdir ≡ keyPart (bit 4 (r .header .flags)) w)
-      (environment : EnvironmentOf s (r .blocks .at) (k .environment)) where
+      {row : List ℕ} (noted : FirstsOf s r row) (environment : EnvironmentOf s (blockFrom s (getD row 0 0)) (k .environment)) where
     string-shown : (b : Bool) (p : Place) → partShown s (keyPart b (only p)) ≡ partIf b (bytesAt s p)
     string-shown b p = part-shown s b (only p) ∙ ap (partIf b) (only-bytes s p)
 
@@ -206,15 +245,13 @@ module _ (s : List ℕ) (r : Record) (e : Accepts s r) where
     unfolding keyShown
     parts-shown =
         let x = record-tells s r e in
-        let m = made s r e in
         let f = r .header .flags in
         let a₁ = unicode ∙ sym (x .unicode) in
         let a₂ : partShown s (k .target) ≡ keyIn s .target
         = rw (target, has, texts) (part-shown s (hasTarget r) (textsOf s r) ∙ ap (partIf (hasTarget r)) (sym (texts-are s r)) ∙ sym (x .target)) in
         let a₃ : partShown s (k .arguments) ≡ keyIn s .arguments = rw (arguments, ea) (string-shown (bit 5 f) (r .arguments) ∙ sym (x .arguments)) in
         let a₄ : partShown s (k .workdir) ≡ keyIn s .workdir = rw (workdir, ew) (string-shown (bit 4 f) (r .workdir) ∙ sym (x .workdir)) in
-        let a₅ : partShown s (k .environment) ≡ keyIn s .environment
-        = rw (m .at) at (environment .is) (m .lengths) (m .count) (m .walk) ∙ ap (λ (y : Key). y .environment) (sym (m .is)) in
+        let a₅ : partShown s (k .environment) ≡ keyIn s .environment = environment .is ∙ (row-block noted) .is in
         rw (a₁, a₂, a₃, a₄, a₅)
 
     pub parts-stand : KeyStands s k

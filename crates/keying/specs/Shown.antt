@@ -3,13 +3,13 @@ use Prim.Native.Nat.{ℕ, _+_, _≤_}
 use mathlib.Core.Path.{_≡_}
 use mathlib.Core.List.{List}
 use mathlib.Core.Bool.{Bool, false, cond}
-use lib.ListN.{length, drop}
+use lib.ListN.{length}
 use Rattle.format.specs.declared.Place.{Place}
-use Rattle.format.specs.Tests.{got, noPlace}
-use Rattle.format.specs.Blocks.{blocks, firstPlace}
+use Rattle.format.specs.Tests.{noPlace}
 use Rattle.format.specs.Shortcut.{most}
 use Rattle.format.specs.Contents.{bytesAt}
 use Rattle.format.specs.Key.{Part, partIf, Key, blockText, environment}
+use Rattle.blocks.specs.Walk.{blockFrom}
 use Rattle.target.specs.declared.Texts.{Texts}
 use Rattle.target.specs.Texts.{Stands, textsLength, textsBytes}
 use Rattle.keying.specs.declared.KeyPart.{KeyPart}
@@ -42,10 +42,17 @@ pub record TextOf (s : List ℕ) (a b : Place) : Type 0 where
   pub inside : b .at + b .len ≤ length s
   pub is : bytesAt s b ≡ blockText s a
 
--- p shows the environment of the blocks from the place from on
-pub record EnvironmentOf (s : List ℕ) (from : ℕ) (p : KeyPart) : Type 0 where
+-- a field of the row of signatures leads to a block, or is 0
+pub record BlockAt (s : List ℕ) (field : ℕ) : Type 0 where
+  pub small : length s ≤ most
+  pub reached : field ≤ length s
+  pub inside : blockFrom s field .at + blockFrom s field .len ≤ length s
+  pub sized : (blockFrom s field .len ≡ 0 → ⊥) → 8 ≤ blockFrom s field .len
+
+-- p shows the environment that the block b holds
+pub record EnvironmentOf (s : List ℕ) (b : Place) (p : KeyPart) : Type 0 where
   pub stands : PartStands s p
-  pub is : (lengths : List ℕ) (n : ℕ) → blocks from (drop from s) ≡ got lengths n → partShown s p ≡ environment s (firstPlace s 0xA0000001 from lengths)
+  pub is : partShown s p ≡ environment s b
 
 -- ---- the whole key
 

@@ -11,10 +11,11 @@ ghost use lib.ListN.{length};
 ghost use Rattle.octets.specs.Numbers.{little};
 ghost use Rattle.octets.specs.Parts.{Wrote};
 ghost use Rattle.format.specs.Tests.{oneOr0};
-ghost use Rattle.format.specs.Shortcut.{most};
 ghost use Rattle.format.specs.Key.{partBytes, keyBytes, keyIn, keyAnswer, keyOutput};
 ghost use Rattle.format.specs.Demands.{Accepts};
-ghost use Rattle.keying.specs.Shown.{only, keyPart, partShown, partLength, PartStands, TextOf, EnvironmentOf, keyShown, keyLength, KeyStands};
+ghost use Rattle.blocks.specs.Walk.{blockFrom};
+ghost use Rattle.reader.specs.Finish.{FirstsOf};
+ghost use Rattle.keying.specs.Shown.{only, keyPart, partShown, partLength, PartStands, TextOf, BlockAt, EnvironmentOf, keyShown, keyLength, KeyStands};
 
 // One of the four parts: whether it is there, and where its texts stand.
 struct KeyPart {
@@ -68,20 +69,20 @@ fn block_text(s: &[u8], b: Place) -> Place
     Place { at, len }
 }
 
-// By the block, whatever flag bit 9 says.
-fn environment(s: &[u8], from: usize) -> KeyPart
-    requires { ⌜ length (now s) ≤ most ⌝ }
-    ensures { λ p. ⌜ EnvironmentOf (now (s .entry)) from p ⌝ }
+// By the block, whatever flag bit 9 says. Its signature stands at the field; 0 where there is none.
+fn environment(s: &[u8], field: u32) -> KeyPart
+    requires { ⌜ BlockAt (now s) field ⌝ }
+    ensures { λ p. ⌜ EnvironmentOf (now (s .entry)) (blockFrom (now (s .entry)) field) p ⌝ }
 {
-    let b = blocks::first_block(s, from, 0xA000_0001);
+    let b = blocks::block_from(s, field);
     if b.len == 0 {
         return part_if(false, only(b));
     }
     part_if(true, only(block_text(s, b)))
 }
 
-fn parts_of(s: &[u8], r: Record) -> KeyParts
-    requires { ⌜ Accepts (now s) r ⌝ }
+fn parts_of(s: &[u8], r: Record, firsts: [u32; 11]) -> KeyParts
+    requires { ⌜ Accepts (now s) r × FirstsOf (now s) r firsts ⌝ }
     ensures shown { λ k. ⌜ keyShown (now (s .entry)) k ≡ keyIn (now (s .entry)) ⌝ }
     ensures stands { λ k. ⌜ KeyStands (now (s .entry)) k ⌝ }
 {
@@ -91,7 +92,7 @@ fn parts_of(s: &[u8], r: Record) -> KeyParts
         target: part_if(target::has_target(r), target::texts_of(s, r)),
         arguments: part_if(f / 32 % 2 == 1, only(r.arguments)),
         workdir: part_if(f / 16 % 2 == 1, only(r.workdir)),
-        environment: environment(s, r.blocks.at),
+        environment: environment(s, firsts[0]),
     }
 }
 
@@ -154,12 +155,16 @@ pub fn key(s: &[u8], out: &mut [u8]) -> Verdict
     ensures answer { λ r. ⌜ r ≡ keyAnswer (now (s .entry)) (now (out .entry)) ⌝ }
     ensures output { λ _. ⌜ now (out .exit) ≡ keyOutput (now (s .entry)) (now (out .entry)) ⌝ }
 {
-    let g = reader::read(s);
+    let o = reader::outline_of(s);
+    let next = o.next;
+    let held = o.held;
+    let firsts = o.firsts;
+    let g = reader::finish(s.len(), next, held);
     let v = g.verdict;
     let Verdict::Accepted(_) = v else {
         return v;
     };
-    let k = parts_of(s, g.held);
+    let k = parts_of(s, g.held, firsts);
     if out.len() < key_length(k) {
         return Verdict::Refused(Fault::Room, 0);
     }

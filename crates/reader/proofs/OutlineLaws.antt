@@ -15,11 +15,13 @@ use Rattle.format.specs.declared.Record.{Record}
 use Rattle.format.specs.declared.Reading.{Reading}
 use Rattle.format.specs.declared.Place.{Place}
 use Rattle.format.specs.declared.Info.{Info}
-use Rattle.format.specs.declared.Verdict.the-variants.{Accepted}
+use Rattle.format.specs.declared.Verdict.{Verdict}
+use Rattle.format.specs.declared.Verdict.the-variants.{Accepted, Refused as Stopped}
 use Rattle.format.specs.Tests.{Outcome, got, refused, Test, _else_, tests, bit, place}
 use Rattle.format.specs.Header.{headerRules, headerFields, header}
+use Rattle.format.specs.Blocks.{firsts}
 use Rattle.format.specs.Shortcut.{Section, Tail, Sections, most, tail, sections, shortcut, recordOf, reading, sum}
-use Rattle.format.proofs.Chains.{tests-elim}
+use Rattle.format.proofs.Chains.{tests-elim, got-elim}
 use Rattle.header.specs.Taken.{headerTaken, headerAt}
 use Rattle.header.specs.declared.HeaderTaken.{HeaderTaken}
 use Rattle.header.specs.declared.HeaderTaken.the-variants.{Got, Refused}
@@ -29,9 +31,10 @@ use Rattle.reader.specs.declared.Outline.{Outline}
 use Rattle.reader.specs.declared.SectionEnds.{SectionEnds}
 use Rattle.reader.specs.declared.Step.{Step}
 use Rattle.reader.specs.declared.InfoStep.{InfoStep}
+use Rattle.reader.specs.declared.BlocksStep.{BlocksStep}
 use Rattle.reader.specs.Steps.{itemsStep, stringStep, infoStep, blocksStep, atOf, endsOf, outlineFrom}
-use Rattle.reader.specs.Finish.{refusedAt, finished, outlineOff, outlineAfter, outlineOf}
-use Rattle.reader.proofs.Runs.{Reached, Runs, sectionOf, then-from}
+use Rattle.reader.specs.Finish.{refusedAt, finished, outlineOff, outlineAfter, outlineOf, FirstsOf}
+use Rattle.reader.proofs.Runs.{Reached, Runs, sectionOf, then-from, on-not-off}
 use Rattle.reader.proofs.StepLaws.{items-from, string-from, info-from, BlocksFact, blocks-from}
 
 -- ---- the header
@@ -84,7 +87,7 @@ pub record Outlined (s : List ℕ) (h : Header) (o : Outline) (v : Tail) : Type 
   pub workdir : v .1 .1 .1 .1 .0 ≡ sectionOf (bit 4 (h .flags)) (o .ends .relative) (o .ends .workdir) (o .held .workdir)
   pub arguments : v .1 .1 .1 .1 .1 .0 ≡ sectionOf (bit 5 (h .flags)) (o .ends .workdir) (o .ends .arguments) (o .held .arguments)
   pub icon : v .1 .1 .1 .1 .1 .1 .0 ≡ sectionOf (bit 6 (h .flags)) (o .ends .arguments) (o .ends .icon) (o .held .icon)
-  pub blocks : BlocksFact s (o .ends .icon) (o .next) (o .held .blocks) (v .1 .1 .1 .1 .1 .1 .1)
+  pub blocks : BlocksFact s (o .ends .icon) (o .next) (o .held .blocks) (o .firsts) (v .1 .1 .1 .1 .1 .1 .1)
 
 pub outline-runs : (s : List ℕ) (h : Header) → Runs s (tail (h .flags)) 76 (outlineFrom s h (record { at = 76 }) .next) (Outlined s h (outlineFrom s h (record { at = 76 })))
 unfolding outlineFrom atOf endsOf
@@ -237,7 +240,7 @@ long-reading s h = rw (long-shortcut s h)
 -- ---- for the code
 
 -- the outline from its steps
-pub outline-is : (s : List ℕ) (h : Header) (c : Cursor) {items name relative workdir arguments icon blocks : Step} {info : InfoStep} {e : SectionEnds} {there : Bool}
+pub outline-is : (s : List ℕ) (h : Header) (c : Cursor) {items name relative workdir arguments icon : Step} {info : InfoStep} {blocks : BlocksStep} {e : SectionEnds} {there : Bool}
     → there ≡ bit 0 (h .flags)
     → items ≡ itemsStep s there (On c)
     → info ≡ infoStep s (bit 1 (h .flags)) (items .next)
@@ -262,10 +265,21 @@ pub outline-is : (s : List ℕ) (h : Header) (c : Cursor) {items name relative w
         blocks = blocks .held;
       };
       ends = e;
+      firsts = blocks .firsts;
     }
     ≡ outlineFrom s h c
 unfolding outlineFrom
 outline-is s h c p₀ p₁ p₂ p₃ p₄ p₅ p₆ p₇ p₈ q = rw (q, p₈, p₇, p₆, p₅, p₄, p₃, p₂, p₁, p₀)
+
+refused-not : {f : Fault} {p n : ℕ} → _≡_ {A = Verdict} (Stopped f p) (Accepted n) → ⊥
+refused-not e = let z : _≡_ {A = ℕ} 0 1 = cc in omega arith
+
+outline-first : (s : List ℕ) (h : Header) (c : Cursor) → outline s h .next ≡ On c → FirstsOf s (outline s h .held) (outline s h .firsts)
+outline-first s h c k lengths n e =
+    let o : Outline = outline s h in
+    let F = ((outline-runs s h) .on c k) .fact .blocks in
+    let at : o .held .blocks .at ≡ o .ends .icon = ap (λ (b : Place). b .at) (F .body) in
+    rw at (got-elim (λ ls n. o .firsts ≡ firsts s (o .ends .icon) ls) (sym (F .is) ∙ (rw at at e)) (F .first))
 
 module _ (s : List ℕ) where
   pub outline-long : {o : Outline} → most < length s → o ≡ outlineOff LONG 65536 → o ≡ outlineOf s
@@ -295,3 +309,30 @@ module _ (s : List ℕ) where
       go : (b : Bool) → leb (length s) most ≡ b → o ≡ cond b (outlineAfter s (headerAt s)) (outlineOff LONG 65536) → r ≡ reading s
       go true k x = after (leb-true (length s) most k) (headerAt s) refl x
       go false k x = q ∙ rw x (long-reading s (leb-false (length s) most k))
+
+  -- the row of an accepted shortcut is that of its blocks
+  pub first-accepted : {o : Outline} {r : Reading} {n : ℕ} → o ≡ outlineOf s → r ≡ finished (length s) (o .next) (o .held) → r .verdict ≡ Accepted n → FirstsOf s (r .held) (o .firsts)
+  unfolding outlineOf outlineOff finished refusedAt
+  first-accepted {o} {r} {n} e q v = ended (o .next) refl q
+    where
+      noted : (c : Cursor) → o .next ≡ On c → FirstsOf s (o .held) (o .firsts)
+      noted c k = go (leb (length s) most) e
+        where
+          after : (t : HeaderTaken) → t ≡ headerAt s → o ≡ outlineAfter s t → FirstsOf s (o .held) (o .firsts)
+          after (Got h d) i x =
+              let g = header-got s i refl in
+              let y : o ≡ outline s h = x ∙ ap (outlineFrom s h) (g .at) in
+              rw y (outline-first s h c (ap (λ (z : Outline). z .next) (sym y) ∙ k))
+          after (Refused f) i x = absurd (on-not-off k (ap (λ (z : Outline). z .next) x))
+
+          go : (b : Bool) → o ≡ cond b (outlineAfter s (headerAt s)) (outlineOff LONG 65536) → FirstsOf s (o .held) (o .firsts)
+          go true x = after (headerAt s) refl x
+          go false x = absurd (on-not-off k (ap (λ (z : Outline). z .next) x))
+
+      ended : (t : Next) → o .next ≡ t → r ≡ finished (length s) t (o .held) → FirstsOf s (r .held) (o .firsts)
+      ended (On c) k x = whole (eqb (c .at) (length s)) x
+        where
+          whole : (b : Bool) → r ≡ cond b (record { verdict = Accepted (c .at); held = o .held }) (refusedAt TRAIL (c .at)) → FirstsOf s (r .held) (o .firsts)
+          whole true y = rw y (noted c k)
+          whole false y = absurd (refused-not (ap (λ (z : Reading). z .verdict) (sym y) ∙ v))
+      ended (Off f p) k x = absurd (refused-not (ap (λ (z : Reading). z .verdict) (sym x) ∙ v))

@@ -12,14 +12,14 @@ use Rattle.format.specs.Tests.{Outcome, got, refused, place, noPlace, Reader}
 use Rattle.format.specs.Items.{items}
 use Rattle.format.specs.Info.{info, noInfo}
 use Rattle.format.specs.Strings.{string}
-use Rattle.format.specs.Blocks.{blocks}
+use Rattle.format.specs.Blocks.{blocks, firsts}
 use Rattle.format.specs.Shortcut.{Section, found, sectionIf, sum}
 use Rattle.sections.specs.Taken.{placeTaken, stringAt, itemsAt}
 use Rattle.info.specs.Taken.{infoTaken, infoAt}
-use Rattle.blocks.specs.Walk.{walkedFrom, blocksAt}
+use Rattle.blocks.specs.Walk.{blocksTaken, firstsBy, blocksRead}
 use Rattle.reader.specs.declared.Next.{Next}
 use Rattle.reader.specs.declared.Next.the-variants.{On, Off}
-use Rattle.reader.specs.declared.Step.{Step}
+use Rattle.reader.specs.declared.BlocksStep.{BlocksStep}
 use Rattle.reader.specs.Steps.{step, stepInfo, settled, itemsOn, itemsStep, stringOn, stringStep, settledInfo, infoOn, infoStep, settledBlocks, blocksOn, blocksStep, atOf}
 use Rattle.reader.proofs.Runs.{Runs, on-not-off, sectionOf, Stepped, section-runs, From}
 
@@ -114,41 +114,49 @@ info-from s b t =
 -- ---- blocks
 
 -- the blocks' section, and its body's place
-pub record BlocksFact (s : List ℕ) (p : ℕ) (t : Next) (b : Place) (c : Section (List ℕ)) : Type 0 where
+pub record BlocksFact (s : List ℕ) (p : ℕ) (t : Next) (b : Place) (row : List ℕ) (c : Section (List ℕ)) : Type 0 where
   pub start : c .start ≡ p
   pub body : b ≡ place p (sum (c .read))
   pub is : blocks p (drop p s) ≡ got (c .read) (c .len)
   pub last : p + c .len ≡ atOf t
+  pub first : row ≡ firsts s p (c .read)
 
-blocks-runs : (s : List ℕ) (p : ℕ) (r : Step) → r ≡ settledBlocks (walkedFrom p (blocks p (drop p s))) → Runs s (found blocks) p (r .next) (BlocksFact s p (r .next) (r .held))
+blocks-runs : (s : List ℕ) (p : ℕ) (r : BlocksStep) → r ≡ settledBlocks (blocksTaken p (blocks p (drop p s))) (firstsBy s p (blocks p (drop p s)))
+    → Runs s (found blocks) p (r .next) (BlocksFact s p (r .next) (r .held) (r .firsts))
 unfolding settledBlocks atOf
 blocks-runs s p r e = go (blocks p (drop p s)) refl e
   where
-    go : (o : Outcome (List ℕ)) → blocks p (drop p s) ≡ o → r ≡ settledBlocks (walkedFrom p o) → Runs s (found blocks) p (r .next) (BlocksFact s p (r .next) (r .held))
+    go : (o : Outcome (List ℕ)) → blocks p (drop p s) ≡ o → r ≡ settledBlocks (blocksTaken p o) (firstsBy s p o) → Runs s (found blocks) p (r .next) (BlocksFact s p (r .next) (r .held) (r .firsts))
     go (got ls n) i h = record {
       on = λ c k.
-          let x : On (record { at = p + n }) ≡ On c = sym (ap (λ (y : Step). y .next) h) ∙ k in
+          let x : On (record { at = p + n }) ≡ On c = sym (ap (λ (y : BlocksStep). y .next) h) ∙ k in
           let y : _≡_ {A = Cursor} (record { at = p + n }) c = cc in
           record {
             value = record { there = true; start = p; len = n; read = ls };
             count = n;
             is = rw i;
             ends = ap (λ (z : Cursor). z .at) y;
-            fact = record { start = refl; body = ap (λ (y : Step). y .held) h; is = i; last = ap atOf (sym (ap (λ (y : Step). y .next) h)) };
+            fact = record {
+              start = refl;
+              body = ap (λ (y : BlocksStep). y .held) h;
+              is = i;
+              last = ap atOf (sym (ap (λ (y : BlocksStep). y .next) h));
+              first = ap (λ (y : BlocksStep). y .firsts) h;
+            };
           };
-      off = λ f q k. absurd (on-not-off (ap (λ (y : Step). y .next) h) k);
+      off = λ f q k. absurd (on-not-off (ap (λ (y : BlocksStep). y .next) h) k);
     }
     go (refused f q) i h = record {
-      on = λ c k. absurd (on-not-off k (ap (λ (y : Step). y .next) h));
+      on = λ c k. absurd (on-not-off k (ap (λ (y : BlocksStep). y .next) h));
       off = λ g z k.
-          let x : Off f q ≡ Off g z = sym (ap (λ (y : Step). y .next) h) ∙ k in
+          let x : Off f q ≡ Off g z = sym (ap (λ (y : BlocksStep). y .next) h) ∙ k in
           let a : f ≡ g = cc in
           let b : q ≡ z = cc in
           rw (i, a, b);
     }
 
-pub blocks-from : (s : List ℕ) (t : Next) → From s (found blocks) t (blocksStep s t .next) (BlocksFact s (atOf t) (blocksStep s t .next) (blocksStep s t .held))
-unfolding blocksStep blocksOn blocksAt atOf
+pub blocks-from : (s : List ℕ) (t : Next) → From s (found blocks) t (blocksStep s t .next) (BlocksFact s (atOf t) (blocksStep s t .next) (blocksStep s t .held) (blocksStep s t .firsts))
+unfolding blocksStep blocksOn blocksRead atOf
 blocks-from s t = record {
   runs = λ c e.
       let at : atOf t ≡ c .at = ap atOf e in

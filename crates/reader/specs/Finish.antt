@@ -1,18 +1,22 @@
 -- How reading ends: all of the shortcut was read, or bytes are left, or a section was refused.
 use Prim.Native.Nat.{ℕ}
+use mathlib.Core.Path.{_≡_}
 use mathlib.Core.List.{List}
 use mathlib.Core.Bool.{cond}
-use lib.ListN.{length}
+use lib.ListN.{length, drop}
 use lib.Dec.{leb, eqb}
 use Rattle.format.specs.declared.Fault.{Fault}
 use Rattle.format.specs.declared.Fault.the-variants.{Long as LONG, Trail as TRAIL}
 use Rattle.format.specs.declared.Record.{Record}
 use Rattle.format.specs.declared.Reading.{Reading}
 use Rattle.format.specs.declared.Verdict.the-variants.{Accepted, Refused}
+use Rattle.format.specs.Tests.{got}
+use Rattle.format.specs.Blocks.{blocks, firsts}
 use Rattle.format.specs.Shortcut.{most, noRecord}
 use Rattle.header.specs.declared.HeaderTaken.{HeaderTaken}
 use Rattle.header.specs.declared.HeaderTaken.the-variants.{Got, Refused as Stopped}
 use Rattle.header.specs.Taken.{headerAt}
+use Rattle.blocks.specs.Walk.{noFirsts}
 use Rattle.reader.specs.declared.Outline.{Outline}
 use Rattle.reader.specs.Steps.{outlineFrom}
 use Rattle.reader.specs.declared.Next.{Next}
@@ -24,6 +28,7 @@ outlineOff f p = record {
   next = Off f p;
   held = noRecord;
   ends = record { items = 0; info = 0; name = 0; relative = 0; workdir = 0; arguments = 0; icon = 0 };
+  firsts = noFirsts;
 }
 
 abbrev pub outlineAfter : List ℕ → HeaderTaken → Outline
@@ -43,3 +48,7 @@ unfoldable pub finished : ℕ → Next → Record → Reading
 unfolding refusedAt
 finished n (On c) r = cond (eqb (c .at) n) (record { verdict = Accepted (c .at); held = r }) (refusedAt TRAIL (c .at))
 finished n (Off f p) r = refusedAt f p
+
+-- the row is that of the blocks which the record r holds
+abbrev pub FirstsOf : List ℕ → Record → List ℕ → Type 0
+FirstsOf s r row = (lengths : List ℕ) (n : ℕ) → blocks (r .blocks .at) (drop (r .blocks .at) s) ≡ got lengths n → row ≡ firsts s (r .blocks .at) lengths

@@ -11,9 +11,7 @@ use Rattle.format.specs.declared.Taken.the-variants.{Got, Refused}
 use Rattle.format.specs.Tests.{bit, noPlace}
 use Rattle.format.specs.Info.{noInfo}
 use Rattle.sections.specs.Taken.{stringAt, itemsAt}
-use Rattle.blocks.specs.declared.Walked.{Walked}
-use Rattle.blocks.specs.declared.Walked.the-variants.{Body, Refused as Stopped}
-use Rattle.blocks.specs.Walk.{blocksAt}
+use Rattle.blocks.specs.Walk.{noFirsts, blocksRead}
 use Rattle.info.specs.declared.InfoTaken.{InfoTaken}
 use Rattle.info.specs.declared.InfoTaken.the-variants.{Got as GotInfo, Refused as RefusedInfo}
 use Rattle.info.specs.Taken.{infoAt}
@@ -22,6 +20,7 @@ use Rattle.reader.specs.declared.Next.the-variants.{On, Off}
 use Rattle.reader.specs.declared.Step.{Step}
 use Rattle.reader.specs.declared.InfoStep.{InfoStep}
 use Rattle.reader.specs.declared.SectionEnds.{SectionEnds}
+use Rattle.reader.specs.declared.BlocksStep.{BlocksStep}
 use Rattle.reader.specs.declared.Outline.{Outline}
 
 abbrev pub step : Next → Place → Step
@@ -29,6 +28,9 @@ step next b = record { next = next; held = b }
 
 abbrev pub stepInfo : Next → Info → InfoStep
 stepInfo next i = record { next = next; held = i }
+
+abbrev pub stepBlocks : Next → Place → List ℕ → BlocksStep
+stepBlocks next b row = record { next = next; held = b; firsts = row }
 
 -- a section that is there
 unfoldable pub settled : Taken → Step
@@ -43,6 +45,10 @@ onwards (Off f p) g = step (Off f p) noPlace
 abbrev pub onwardsInfo : Next → (Cursor → InfoStep) → InfoStep
 onwardsInfo (On c) g = g c
 onwardsInfo (Off f p) g = stepInfo (Off f p) noInfo
+
+abbrev pub onwardsBlocks : Next → (Cursor → BlocksStep) → BlocksStep
+onwardsBlocks (On c) g = g c
+onwardsBlocks (Off f p) g = stepBlocks (Off f p) noPlace noFirsts
 
 unfoldable pub itemsOn : List ℕ → Bool → Cursor → Step
 unfolding settled
@@ -72,17 +78,18 @@ unfoldable pub infoStep : List ℕ → Bool → Next → InfoStep
 unfolding infoOn
 infoStep s present next = onwardsInfo next (infoOn s present)
 
-unfoldable pub settledBlocks : Walked → Step
-settledBlocks (Body b c) = step (On c) b
-settledBlocks (Stopped f p) = step (Off f p) noPlace
+-- after a refusal nothing is noted
+unfoldable pub settledBlocks : Taken → List ℕ → BlocksStep
+settledBlocks (Got b c) row = stepBlocks (On c) b row
+settledBlocks (Refused f p) row = stepBlocks (Off f p) noPlace noFirsts
 
-unfoldable pub blocksOn : List ℕ → Cursor → Step
+unfoldable pub blocksOn : List ℕ → Cursor → BlocksStep
 unfolding settledBlocks
-blocksOn s c = settledBlocks (blocksAt s (c .at))
+blocksOn s c = let r = blocksRead s (c .at) in settledBlocks (r .taken) (r .firsts)
 
-unfoldable pub blocksStep : List ℕ → Next → Step
+unfoldable pub blocksStep : List ℕ → Next → BlocksStep
 unfolding blocksOn
-blocksStep s next = onwards next (blocksOn s)
+blocksStep s next = onwardsBlocks next (blocksOn s)
 
 unfoldable pub atOf : Next → ℕ
 atOf (On c) = c .at
@@ -128,4 +135,5 @@ outlineFrom s h c =
         blocks = blocks .held;
       };
       ends = endsOf (items .next) (info .next) (name .next) (relative .next) (workdir .next) (arguments .next) (icon .next);
+      firsts = blocks .firsts;
     }

@@ -1,5 +1,4 @@
 // Reading a shortcut: its sections one after another, by a cursor that goes on or has been refused.
-use blocks::Walked;
 use format::Fault;
 use format::Header;
 use format::Info;
@@ -17,7 +16,8 @@ ghost use lib.ListN.{length};
 ghost use Rattle.format.specs.Info.{noInfo};
 ghost use Rattle.format.specs.Shortcut.{reading};
 ghost use Rattle.format.specs.Tests.{noPlace};
-ghost use Rattle.reader.specs.Steps.{step, stepInfo, settled, itemsOn, itemsStep, stringOn, stringStep, infoOn, infoStep, blocksOn, blocksStep, atOf, endsOf, outlineFrom};
+ghost use Rattle.blocks.specs.Walk.{noFirsts};
+ghost use Rattle.reader.specs.Steps.{step, stepInfo, settled, itemsOn, itemsStep, stringOn, stringStep, infoOn, infoStep, stepBlocks, blocksOn, blocksStep, atOf, endsOf, outlineFrom};
 ghost use Rattle.reader.specs.Finish.{refusedAt, finished, outlineOff, outlineOf};
 
 // Going on from the cursor, or refused with a fault at a position.
@@ -37,6 +37,13 @@ pub struct InfoStep {
     pub held: Info,
 }
 
+// The blocks, with where each known signature first stands.
+pub struct BlocksStep {
+    pub next: Next,
+    pub held: Place,
+    pub firsts: [u32; 11],
+}
+
 // Where each section after the header ends.
 pub struct SectionEnds {
     pub items: usize,
@@ -52,6 +59,7 @@ pub struct Outline {
     pub next: Next,
     pub held: Record,
     pub ends: SectionEnds,
+    pub firsts: [u32; 11],
 }
 
 // A section that is there.
@@ -160,24 +168,40 @@ fn info_step(s: &[u8], present: bool, next: Next) -> InfoStep
     }
 }
 
-fn blocks_on(s: &[u8], c: Cursor) -> Step
-    ensures { λ r. ⌜ r ≡ blocksOn (now (s .entry)) c ⌝ }
+fn blocks_off(f: Fault, at: usize) -> BlocksStep
+    ensures { λ r. ⌜ r ≡ stepBlocks (Next.Off f at) noPlace noFirsts ⌝ }
 {
-    match blocks::blocks(s, c) {
-        Walked::Body(b, d) => Step {
-            next: Next::On(d),
-            held: b,
-        },
-        Walked::Refused(f, p) => off(f, p),
+    BlocksStep {
+        next: Next::Off(f, at),
+        held: format::NO_PLACE,
+        firsts: [0u32; 11],
     }
 }
 
-fn blocks_step(s: &[u8], next: Next) -> Step
+fn blocks_on(s: &[u8], c: Cursor) -> BlocksStep
+    requires { ⌜ length (now s) ≤ 65536 ⌝ }
+    ensures { λ r. ⌜ r ≡ blocksOn (now (s .entry)) c ⌝ }
+{
+    let w = blocks::blocks(s, c);
+    let taken = w.taken;
+    let firsts = w.firsts;
+    match taken {
+        Taken::Got(b, d) => BlocksStep {
+            next: Next::On(d),
+            held: b,
+            firsts,
+        },
+        Taken::Refused(f, p) => blocks_off(f, p),
+    }
+}
+
+fn blocks_step(s: &[u8], next: Next) -> BlocksStep
+    requires { ⌜ length (now s) ≤ 65536 ⌝ }
     ensures { λ r. ⌜ r ≡ blocksStep (now (s .entry)) next ⌝ }
 {
     match next {
         Next::On(c) => blocks_on(s, c),
-        Next::Off(f, p) => off(f, p),
+        Next::Off(f, p) => blocks_off(f, p),
     }
 }
 
@@ -248,7 +272,11 @@ fn outline_from(s: &[u8], h: Header, c: Cursor) -> Outline
         next: icon,
         held: b7,
     } = string_step(s, f / 64 % 2 == 1, u, arguments);
-    let Step { next, held: b8 } = blocks_step(s, icon);
+    let BlocksStep {
+        next,
+        held: b8,
+        firsts,
+    } = blocks_step(s, icon);
     Outline {
         next,
         held: Record {
@@ -263,6 +291,7 @@ fn outline_from(s: &[u8], h: Header, c: Cursor) -> Outline
             blocks: b8,
         },
         ends: ends_of(items, info, name, relative, workdir, arguments, icon),
+        firsts,
     }
 }
 
@@ -282,6 +311,7 @@ fn outline_off(f: Fault, at: usize) -> Outline
             arguments: 0,
             icon: 0,
         },
+        firsts: [0u32; 11],
     }
 }
 

@@ -1,26 +1,25 @@
 -- Bodies that are walked to their end: items and blocks, each with what a written file has after them.
 use mathlib.Core.Path.{_≡_, refl, sym, ap, _∙_}
 use mathlib.Core.List.{List, [], _∷_, _++_}
-use mathlib.Core.Bool.{Bool, true, false, not}
+use mathlib.Core.Bool.{Bool, false}
 use Prim.Native.Nat.{ℕ, _+_, _-_, _≤_, _<_}
 use native.Mathlib.Omega.{arith}
-use native.Mathlib.Nat.{zero-add}
 use lib.ListN.{length, take, drop, length-append, length-drop}
 use lib.Seq.{take-length, take-append-seam, take-append-le, drop-append-le, drop-at}
 use lib.Dec.{eqb}
-use borrow.Author.Tests.{ne-eqb, lt-ltb, le-ltb}
+use borrow.Author.Tests.{ne-eqb, leb-true, le-leb, lt-ltb, le-ltb}
 use Rattle.octets.specs.Numbers.{number, numberAt, little, u16At, u32At}
 use Rattle.octets.proofs.NumberLaws.{number-same, number-drop, length-little}
 use Rattle.format.specs.Tests.{Outcome, got, refused}
-use Rattle.format.specs.Blocks.{blockOk, blocks}
+use Rattle.format.specs.Blocks.{blockRules, blockSize, blockTests, aBlock, blockStep, blocks}
+use Rattle.format.specs.Shortcut.{sum}
 use Rattle.format.specs.Writing.{writableItems, takes, writableBlocks}
 use Rattle.format.proofs.Bools.{by-order}
+use Rattle.format.proofs.Chains.{Pass, pass, no-value}
+use Rattle.format.proofs.BlockLaws.{the-end, step-elim, blocks-walked}
 use Rattle.items.proofs.Laws.{itemsAt, items-start, items-cut, items-end, items-small, items-more}
-use Rattle.blocks.specs.Walk.{walkedFrom, blocksAt}
-use Rattle.blocks.specs.declared.Walked.{Walked}
-use Rattle.blocks.specs.declared.Walked.the-variants.{Body, Refused}
+use Rattle.blocks.specs.Walk.{NoBlock, after, Passed}
 use Rattle.writable.proofs.TestLaws.{same-test}
-use Rattle.blocks.proofs.Laws.{walkAt, walk-start, walk-cut, walk-end, walk-small, walk-past, walk-wrong, walk-more}
 
 -- ---- numbers and parts of a body are those of the body with something after it
 
@@ -32,11 +31,6 @@ module _ (x y : List ℕ) where
   number-end w p e =
       let q : p + 0 ≡ p = omega arith in
       sym (rw q at (number-drop w p (x ++ y) 0)) ∙ ap (λ (l : List ℕ). numberAt w l 0) (drop-at x y p (sym e))
-
-  part-front : (p n : ℕ) → p + n ≤ length x → take n (drop p x) ≡ take n (drop p (x ++ y))
-  part-front p n h =
-      let l = length-drop p x in
-      sym (ap (take n) (drop-append-le p x y (omega arith)) ∙ take-append-le n (drop p x) y (omega arith))
 
 -- ---- items
 
@@ -101,89 +95,48 @@ zero-block : u32At (little 4 0) 0 ≡ 0
 unfolding numberAt number little
 zero-block = refl
 
--- whether a walk ended after n bytes
-abbrev endedAfter : ℕ → Walked → Bool
-endedAfter n (Body b c) = eqb (c .at) n
-endedAfter n (Refused f q) = false
+-- the tests of a block pass: so it stands there
+block-stands : (p : ℕ) (s : List ℕ) → 4 ≤ length s → 8 ≤ blockSize s → Pass (blockTests s) → blockStep p s ≡ got aBlock (blockSize s)
+block-stands p s h b c = rw (le-leb 4 (length s) h, le-ltb (blockSize s) 4 (omega arith)) (pass p (blockTests s) (got aBlock (blockSize s)) c)
 
--- the blocks from the place p on; kept closed, so that a citation need not name x and p
-unfoldable pub onBlocks : List ℕ → ℕ → Bool
-onBlocks x p = endedAfter (length x + 4) (walkAt (x ++ little 4 0) 0 p)
+-- a walk over the body that has come to p, where no block of the body stands: the terminal block is written there, or the body cannot be
+module _ (x : List ℕ) {p : ℕ} {row : List ℕ} (P : Passed x 0 p row) (none : NoBlock x p) where
+  abbrev t : List ℕ
+  t = x ++ little 4 0
 
-module _ (x : List ℕ) where
-  pub blocks-begin : onBlocks x 0 ≡ writableBlocks x
-  unfolding onBlocks blocksAt
-  blocks-begin = ap (endedAfter (length x + 4)) (walk-start (x ++ little 4 0) 0) ∙ same (blocks 0 (x ++ little 4 0))
+  at-end : p ≡ length x → blocks p (drop p t) ≡ got [] 4
+  at-end e =
+      let d : drop p t ≡ little 4 0 = drop-at x (little 4 0) p (sym e) in
+      rw d (the-end p (little 4 0) (omega (arith, length-little 4 0)) (omega (arith, zero-block)))
+
+  -- a block that stands in the body
+  in-body : (n : ℕ) → n ≡ blockSize (drop p t) → p + n ≤ length x → Pass (blockTests (drop p t)) → ⊥
+  in-body n e w c =
+      let r : List ℕ = drop p x in
+      let d : drop p t ≡ r ++ little 4 0 = drop-append-le p x (little 4 0) (P .inside) in
+      let l : n ≤ length r = omega (arith, length-drop p x) in
+      let b : 8 ≤ n = rw e (leb-true 8 (blockSize (drop p t)) (c .0)) in
+      let f : take n (drop p t) ≡ take n r = ap (take n) d ∙ take-append-le n r (little 4 0) l in
+      let size : blockSize r ≡ n = number-same 4 n r (drop p t) 0 (sym f) (omega arith) ∙ sym e in
+      let k : Pass (blockRules (take n (drop p t))) = rw e (c .1 .1) in
+      let g : Pass (blockTests r) = rw size (le-leb 8 n b, (le-leb n (length r) l, rw (← f) k)) in
+      none (blockSize r) (block-stands p r (omega arith) (omega arith) g)
+
+  pub blocks-run : eqb p (length x) ≡ writableBlocks x
+  blocks-run = rw (P .is (little 4 0)) (go (blocks p (drop p t)) refl)
     where
-      same : (o : Outcome (List ℕ)) → endedAfter (length x + 4) (walkedFrom 0 o) ≡ takes (length x + 4) o
-      same (got lengths n) = rw (zero-add n)
-      same (refused f q) = refl
-
-  all-blocks : length (x ++ little 4 0) ≡ length x + 4
-  all-blocks = length-append x (little 4 0) ∙ ap (λ (n : ℕ). length x + n) (length-little 4 0)
-
-  module _ (p : ℕ) where
-    -- what a step of the walk says
-    answer : {w : Walked} → w ≡ walkAt (x ++ little 4 0) 0 p → endedAfter (length x + 4) w ≡ onBlocks x p
-    unfolding onBlocks
-    answer e = ap (endedAfter (length x + 4)) e
-
-    -- a block that is not the body's own is cut
-    swallowed : {n : ℕ} → p + 4 ≤ length x + 4 → n ≡ u32At (x ++ little 4 0) p → 8 ≤ n → length x < p + n → false ≡ onBlocks x p
-    swallowed {n} f e b h =
-        let s : List ℕ = x ++ little 4 0 in
-        let l = all-blocks in
-        by-order (p + n) (length s)
-        (λ i. go i (blockOk (take (p + n - p) (drop p s))) refl)
-        (λ i. answer (walk-past s 0 p refl (omega arith) e b (omega arith)))
-      where
-        go : p + n ≤ length (x ++ little 4 0) → (k : Bool) → k ≡ blockOk (take (p + n - p) (drop p (x ++ little 4 0))) → false ≡ onBlocks x p
-        go i false ek = answer (walk-wrong (x ++ little 4 0) 0 p refl (omega (arith, all-blocks)) e b i ek refl)
-        go i true ek =
-            answer (walk-cut (x ++ little 4 0) 0 (p + n) (walk-more (x ++ little 4 0) 0 p refl (omega (arith, all-blocks)) e b i ek refl (omega arith)) (omega (arith, all-blocks)))
-
-    -- every step keeps r, the answer of the whole walk
-    module _ {r : Bool} (inv : onBlocks x p ≡ r) where
-      module _ {n : ℕ} (fits : p + 4 ≤ length x) (e : n ≡ u32At x p) where
-        block-size : n ≡ u32At (x ++ little 4 0) p
-        block-size = e ∙ number-front x (little 4 0) 4 p fits
-
-        -- a size below 4 is a terminal block inside
-        pub on-small-block : n < 8 → false ≡ r
-        on-small-block h =
-            let l = all-blocks in
-            by-order 4 n
-            (λ g. answer (walk-small (x ++ little 4 0) 0 p refl (omega arith) block-size g h) ∙ inv)
-            (λ g. sym (ne-eqb (p + 4) (length x + 4) (λ q. omega arith)) ∙ answer (walk-end (x ++ little 4 0) 0 p refl (omega arith) block-size g) ∙ inv)
-
-        module _ (big : 8 ≤ n) where
-          pub on-long-block : length x < p + n → false ≡ r
-          on-long-block h = swallowed (omega arith) block-size big h ∙ inv
-
-          module _ (inside : p + n ≤ length x) {k : Bool} (ek : k ≡ blockOk (take (p + n - p) (drop p x))) where
-            judged : k ≡ blockOk (take (p + n - p) (drop p (x ++ little 4 0)))
-            judged = ek ∙ ap blockOk (part-front x (little 4 0) p (p + n - p) (omega arith))
-
-            pub on-wrong-block : not k ≡ true → false ≡ r
-            on-wrong-block t = let l = all-blocks in answer (walk-wrong (x ++ little 4 0) 0 p refl (omega arith) block-size big (omega arith) judged t) ∙ inv
-
-            pub on-more-blocks : not k ≡ false → onBlocks x (p + n) ≡ r
-            unfolding onBlocks
-            on-more-blocks t =
-                let l = all-blocks in
-                ap (endedAfter (length x + 4)) (walk-more (x ++ little 4 0) 0 p refl (omega arith) block-size big (omega arith) judged t (omega arith)) ∙ inv
-
-      -- fewer than four bytes left over are no block
-      pub on-last-block : p ≤ length x → length x < p + 4 → eqb p (length x) ≡ r
-      on-last-block g h =
-          let l = all-blocks in
-          let s : List ℕ = x ++ little 4 0 in
-          by-order 4 (u32At s p)
-          (λ i.
-          let no : p ≡ length x → ⊥ = λ q. omega (arith, number-end x (little 4 0) 4 p q, zero-block) in
-          ne-eqb p (length x) no
-          ∙ by-order 8 (u32At s p)
-          (λ j. swallowed (omega arith) refl j (omega arith))
-          (λ j. answer (walk-small s 0 p refl (omega arith) refl i j))
-          ∙ inv)
-          (λ i. same-test p (length x) (p + 4) (length x + 4) (λ q. omega arith) (λ q. omega arith) ∙ answer (walk-end s 0 p refl (omega arith) refl i) ∙ inv)
+      go : (o : Outcome (List ℕ)) → blocks p (drop p t) ≡ o → eqb p (length x) ≡ takes (length x + 4) (after (P .lengths) o)
+      go (refused f q) i = ne-eqb p (length x) (λ e. no-value (sym i ∙ at-end e))
+      go (got ms m) i =
+          let a = P .adds in
+          step-elim p (drop p t) (λ ms m. eqb p (length x) ≡ eqb (sum (P .lengths) + m) (length x + 4))
+          (λ h u. same-test p (length x) (sum (P .lengths) + 4) (length x + 4) (λ q. omega arith) (λ q. omega arith))
+          (λ c ls n j.
+          let k = blocks-walked (p + blockSize (drop p t)) (drop (blockSize (drop p t)) (drop p t)) ls n j in
+          let w = leb-true (blockSize (drop p t)) (length (drop p t)) (c .1 .0) in
+          let d = length-drop (blockSize (drop p t)) (drop p t) in
+          let u = length-drop p t in
+          let l = length-append x (little 4 0) in
+          let v = length-little 4 0 in
+          absurd (in-body (blockSize (drop p t)) refl (omega (arith, k .adds, k .inside)) c))
+          ms m i

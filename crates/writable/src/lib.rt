@@ -225,29 +225,12 @@ fn items_ok(x: &[u8]) -> bool
     p == n
 }
 
-// Blocks up to the end, with no terminal block among them.
+// Blocks up to the end, with no terminal block among them. What the walk notes on its way serves nobody here.
 fn blocks_ok(x: &[u8]) -> bool
     ensures { λ r. ⌜ r ≡ writableBlocks (now (x .entry)) ⌝ }
 {
-    let n = x.len();
-    let mut p: usize = 0;
-    while 4 <= n - p {
-        let size = octets::u32_at(x, p) as usize;
-        if size < 8 {
-            return false;
-        }
-        if n - p < size {
-            return false;
-        }
-        let e = p + size;
-        if !blocks::plain_ok(octets::u32_at(x, p + 4), size) {
-            if !blocks::block_ok(&x[p..e]) {
-                return false;
-            }
-        }
-        p = e;
-    }
-    p == n
+    let mut firsts = [0u32; 11];
+    blocks::run(x, 0, &mut firsts) == x.len()
 }
 
 // ---- whether a section can be written

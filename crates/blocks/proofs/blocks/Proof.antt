@@ -1,139 +1,117 @@
-use native.Mathlib.Omega.{arith}
-use borrow.Author.Tests.{not-false}
+use mathlib.Core.Path.{_∙_}
+use Rattle.blocks.proofs.StepLaws.{tail-part, by-block, by-end, by-fault}
+use Rattle.blocks.proofs.WalkLaws.{passed-start, read-nowhere, read-end, read-stopped, read-wrong}
 use borrow.Author.Needs.{needs}
-use Prim.Native.Nat.{_≤_, _-_}
-use mathlib.Core.Path.{_≡_, refl}
-use lib.ListN.{length, length-take, length-drop}
-use Rattle.blocks.specs.Walk.{blocksAt}
-use Rattle.blocks.proofs.Laws.{walkAt, walk-start, walk-cut, walk-end, walk-small, walk-past, walk-wrong, walk-more, plain-part}
 use Rattle.blocks.proofs.blocks.Statement.{statement}
 use Rattle.blocks.proofs.blocks.Tie as tie
 
--- the walk from p on, after what was passed, is the whole walk
-abbrev Inv-loop : tie.InvT-loop
-Inv-loop s start n p₀ p = (start ≤ p) × (p ≤ length s) × (walkAt s start p ≡ blocksAt s start)
+stopped-requires : tie.Need-stopped-requires
+stopped-requires c κs = search needs
 
-abbrev μ-loop : tie.MeasureT-loop
-μ-loop s start n p₀ p = length s - p
+returns : tie.Need-returns
+returns c = c .stopped .ensures ∙ read-nowhere _ _ (c .before .if1 .taken)
 
-returns : tie.Need-returns Inv-loop μ-loop
-returns c = walk-cut _ _ _ (walk-start _ _) (omega arith)
+sub-step : tie.Need-sub-step
+sub-step c = search needs
 
-loop-holds : tie.Need-loop-holds Inv-loop μ-loop
-loop-holds c = (omega arith, omega arith, walk-start _ _)
+part-step-start : tie.Need-part-step-start
+part-step-start c = search needs
 
-sub-loop : tie.Need-sub-loop Inv-loop μ-loop
-sub-loop c = omega arith
+part-step-end : tie.Need-part-step-end
+part-step-end c = search needs
 
-u32-at-requires : tie.Need-u32-at-requires Inv-loop μ-loop
-u32-at-requires c κs = omega arith
+step-requires : tie.Need-step-requires
+step-requires c κs = search needs
 
-cast-size : tie.Need-cast-size Inv-loop μ-loop
-cast-size c = search needs
+enum-told : tie.Need-enum-told
+enum-told c = search needs
 
-sub-t15 : tie.Need-sub-t15 Inv-loop μ-loop
-sub-t15 c = omega arith
+no-firsts-requires : tie.Need-no-firsts-requires
+no-firsts-requires c κs = search needs
 
-add-t15 : tie.Need-add-t15 Inv-loop μ-loop
-add-t15 c = omega arith
+read-to-requires : tie.Need-read-to-requires
+read-to-requires c κs = search needs
 
-returns-2 : tie.Need-returns-2 Inv-loop μ-loop
-returns-2 c =
-    let u = c .before .before in
-    walk-end _ _ _ (u .before .before .loop .inv .2) (omega arith) (u .u32-at .ensures) (omega arith)
+returns-2 : tie.Need-returns-2
+returns-2 c = c .read-to .ensures ∙ read-end _ _ (passed-start _ _ (c .before .before .before .before .before .before .if1 .left) (c .before .no-firsts .ensures)) (c .before .before .before .before .before .before .before .before .pre) (by-end _ (rw tail-part at (c .before .before .before .before .step .ensures)) (c .before .before .enum-told .given .1))
 
-returns-3 : tie.Need-returns-3 Inv-loop μ-loop
+no-firsts-requires-2 : tie.Need-no-firsts-requires-2
+no-firsts-requires-2 c κs = search needs
+
+run-requires : tie.Need-run-requires
+run-requires c κs = search needs
+
+sub-step-2 : tie.Need-sub-step-2
+sub-step-2 c = search needs
+
+part-step-start-2 : tie.Need-part-step-start-2
+part-step-start-2 c = search needs
+
+part-step-end-2 : tie.Need-part-step-end-2
+part-step-end-2 c = search needs
+
+step-requires-2 : tie.Need-step-requires-2
+step-requires-2 c κs = search needs
+
+enum-told-2 : tie.Need-enum-told-2
+enum-told-2 c = search needs
+
+read-to-requires-2 : tie.Need-read-to-requires-2
+read-to-requires-2 c κs = search needs
+
+enum-known-f : tie.Need-enum-known-f
+enum-known-f c = search needs
+
+stopped-requires-2 : tie.Need-stopped-requires-2
+stopped-requires-2 c κs = search needs
+
+enum-told-3 : tie.Need-enum-told-3
+enum-told-3 c = search needs
+
+stopped-requires-3 : tie.Need-stopped-requires-3
+stopped-requires-3 c κs = search needs
+
+returns-3 : tie.Need-returns-3
 returns-3 c =
-    let u = c .before .before in
-    walk-small _ _ _ (u .before .before .loop .inv .2) (omega arith) (u .u32-at .ensures) (omega arith) (omega arith)
+    let r = c .before .before .before .before .before .run .ensures in
+    c .read-to2 .ensures ∙ read-end _ _ (r .0) (c .before .before .before .before .before .before .before .before .before .before .before .before .before .pre) (by-end _ (rw tail-part at (c .before .before .before .step2 .ensures)) (c .before .enum-told2 .given .1))
 
-sub-if4 : tie.Need-sub-if4 Inv-loop μ-loop
-sub-if4 c = omega arith
-
-returns-4 : tie.Need-returns-4 Inv-loop μ-loop
+returns-4 : tie.Need-returns-4
 returns-4 c =
-    let u = c .before .before in
-    walk-past _ _ _ (u .before .before .loop .inv .2) (omega arith) (u .u32-at .ensures) (omega arith) (omega arith)
+    let r = c .before .before .before .before .before .before .run .ensures in
+    c .stopped2 .ensures ∙ read-stopped _ _ (r .0) (by-fault _ (rw tail-part at (c .before .before .before .before .step2 .ensures)) (c .before .before .f .given .1))
 
-add-e : tie.Need-add-e Inv-loop μ-loop
-add-e c = omega arith
-
-add-u32-at : tie.Need-add-u32-at Inv-loop μ-loop
-add-u32-at c = omega arith
-
-u32-at-requires-2 : tie.Need-u32-at-requires-2 Inv-loop μ-loop
-u32-at-requires-2 c κs = omega arith
-
-plain-ok-requires : tie.Need-plain-ok-requires Inv-loop μ-loop
-plain-ok-requires c κs = search needs
-
-sub-block-ok : tie.Need-sub-block-ok Inv-loop μ-loop
-sub-block-ok c = omega arith
-
-part-block-ok-start : tie.Need-part-block-ok-start Inv-loop μ-loop
-part-block-ok-start c = omega arith
-
-part-block-ok-end : tie.Need-part-block-ok-end Inv-loop μ-loop
-part-block-ok-end c = omega arith
-
-block-ok-requires : tie.Need-block-ok-requires Inv-loop μ-loop
-block-ok-requires c κs = simp (length-take, length-drop) (omega arith)
-
-returns-5 : tie.Need-returns-5 Inv-loop μ-loop
+returns-5 : tie.Need-returns-5
 returns-5 c =
-    let u = c .before .before .before .before .before .before .before .before in
-    walk-wrong _ _ _ (u .before .before .loop .inv .2) (omega arith) (u .u32-at .ensures) (omega arith) (omega arith) (c .before .block-ok .ensures) (c .if6 .taken)
-
-loop-less : tie.Need-loop-less Inv-loop μ-loop
-loop-less c = omega arith
-
-loop-again : tie.Need-loop-again Inv-loop μ-loop
-loop-again c =
-    let u = c .before .before .before .before .before .before .before .before in
-    let i = walk-more _ _ _ (u .before .before .loop .inv .2) (omega arith) (u .u32-at .ensures) (omega arith) (omega arith) (c .before .block-ok .ensures) (c .if6 .left) (omega arith) in
-    (omega arith, omega arith, i)
-
-loop-less-2 : tie.Need-loop-less-2 Inv-loop μ-loop
-loop-less-2 c = omega arith
-
-loop-again-2 : tie.Need-loop-again-2 Inv-loop μ-loop
-loop-again-2 c =
-    let u = c .before .before .before .before .before in
-    let k = plain-part _ _ (omega arith) (omega arith) (c .before .before .u32-at2 .ensures) (c .before .plain-ok .ensures) (not-false _ (c .if5 .left)) in
-    let i = walk-more _ _ _ (u .before .before .loop .inv .2) (omega arith) (u .u32-at .ensures) (omega arith) (omega arith) k refl (omega arith) in
-    (omega arith, omega arith, i)
-
-returns-6 : tie.Need-returns-6 Inv-loop μ-loop
-returns-6 c = walk-cut _ _ _ (c .before .loop .inv .2) (omega arith)
+    let r = c .before .before .before .before .before .run .ensures in
+    c .stopped3 .ensures ∙ read-wrong _ _ (r .0) (r .1) (by-block _ (rw tail-part at (c .before .before .before .step2 .ensures)) (c .before .enum-told3 .given .1))
 
 pub blocks-spec : {M : Type 1} → statement M
 blocks-spec =
     tie.close
     (tie.spec
-    Inv-loop
-    μ-loop
+    stopped-requires
     returns
-    loop-holds
-    sub-loop
-    u32-at-requires
-    cast-size
-    sub-t15
-    add-t15
+    sub-step
+    part-step-start
+    part-step-end
+    step-requires
+    enum-told
+    no-firsts-requires
+    read-to-requires
     returns-2
+    no-firsts-requires-2
+    run-requires
+    sub-step-2
+    part-step-start-2
+    part-step-end-2
+    step-requires-2
+    enum-told-2
+    read-to-requires-2
+    enum-known-f
+    stopped-requires-2
+    enum-told-3
+    stopped-requires-3
     returns-3
-    sub-if4
     returns-4
-    add-e
-    add-u32-at
-    u32-at-requires-2
-    plain-ok-requires
-    sub-block-ok
-    part-block-ok-start
-    part-block-ok-end
-    block-ok-requires
-    returns-5
-    loop-less
-    loop-again
-    loop-less-2
-    loop-again-2
-    returns-6)
+    returns-5)

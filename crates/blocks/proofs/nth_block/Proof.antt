@@ -1,65 +1,67 @@
-use Rattle.blocks.proofs.Laws.{nth-none, nth-here, nth-next}
-use Rattle.blocks.specs.Walk.{NthOf}
-use Rattle.format.specs.declared.Place.{Place}
-use lib.ListN.{length}
-use Prim.Native.Nat.{_≤_, _-_}
-use borrow.Author.Needs.{needs}
 use native.Mathlib.Omega.{arith}
+use borrow.Author.Needs.{needs}
+use Prim.Native.Nat.{_≤_, _-_}
+use lib.ListN.{length}
+use Rattle.format.specs.declared.Place.{Place}
+use Rattle.blocks.specs.Walk.{NthOf}
+use Rattle.blocks.proofs.StepLaws.{tail-part, by-block, by-end, by-fault}
+use Rattle.blocks.proofs.NthLaws.{nth-outside, nth-ended, nth-refused, nth-fits, nth-here, nth-next}
 use Rattle.blocks.proofs.nth_block.Statement.{statement}
 use Rattle.blocks.proofs.nth_block.Tie as tie
 
--- the block that is asked for is number left from p on
 abbrev Inv-loop : tie.InvT-loop
-Inv-loop s from k none n p₀ left₀ p left = (p ≤ length s) × ((b : Place) → NthOf s p left b → NthOf s from k b)
+Inv-loop s from k p₀ left₀ p left = (p ≤ length s) × ((b : Place) → NthOf s p left b → NthOf s from k b)
 
 abbrev μ-loop : tie.MeasureT-loop
-μ-loop s from k none n p₀ left₀ p left = length s - p
+μ-loop s from k p₀ left₀ p left = length s - p
 
 returns : tie.Need-returns Inv-loop μ-loop
-returns c = nth-none _ _ _ (λ h t. omega arith)
+returns c = nth-outside _ _ _ (c .if1 .taken)
 
 loop-holds : tie.Need-loop-holds Inv-loop μ-loop
 loop-holds c = (omega arith, λ b h. h)
 
-sub-loop : tie.Need-sub-loop Inv-loop μ-loop
-sub-loop c = omega arith
+sub-step : tie.Need-sub-step Inv-loop μ-loop
+sub-step c = omega arith
 
-u32-at-requires : tie.Need-u32-at-requires Inv-loop μ-loop
-u32-at-requires c κs = omega arith
+part-step-start : tie.Need-part-step-start Inv-loop μ-loop
+part-step-start c = omega arith
 
-cast-size : tie.Need-cast-size Inv-loop μ-loop
-cast-size c = search needs
+part-step-end : tie.Need-part-step-end Inv-loop μ-loop
+part-step-end c = omega arith
+
+step-requires : tie.Need-step-requires Inv-loop μ-loop
+step-requires c κs = search needs
+
+enum-known-n : tie.Need-enum-known-n Inv-loop μ-loop
+enum-known-n c = search needs
 
 returns-2 : tie.Need-returns-2 Inv-loop μ-loop
-returns-2 c = c .before .before .before .loop .inv .1 _ (nth-none _ _ _ (λ h t. omega arith))
-
-sub-if3 : tie.Need-sub-if3 Inv-loop μ-loop
-sub-if3 c = omega arith
-
-returns-3 : tie.Need-returns-3 Inv-loop μ-loop
-returns-3 c = c .before .before .before .before .loop .inv .1 _ (nth-none _ _ _ (λ h t. omega arith))
-
-returns-4 : tie.Need-returns-4 Inv-loop μ-loop
-returns-4 c =
-    let u = c .before .before .before in
-    u .before .before .loop .inv .1 _ (nth-here _ _ (u .u32-at .ensures) (omega arith) _ (c .if4 .taken) (omega arith))
+returns-2 c = let z = by-block _ (rw tail-part at (c .before .before .before .before .step .ensures)) (c .before .before .n .given .1) in let I = c .before .before .before .before .before .before .loop .inv in I .1 _ (nth-here _ _ (I .0) z _ (c .if2 .taken))
 
 sub-left : tie.Need-sub-left Inv-loop μ-loop
 sub-left c = omega arith
 
 add-p : tie.Need-add-p Inv-loop μ-loop
-add-p c = omega arith
+add-p c = let z = by-block _ (rw tail-part at (c .before .before .before .before .step .ensures)) (c .before .before .n .given .1) in let I = c .before .before .before .before .before .before .loop .inv in omega (arith, nth-fits _ _ (I .0) z)
 
 loop-less : tie.Need-loop-less Inv-loop μ-loop
-loop-less c = omega arith
+loop-less c = let z = by-block _ (rw tail-part at (c .before .before .before .before .step .ensures)) (c .before .before .n .given .1) in let I = c .before .before .before .before .before .before .loop .inv in omega (arith, nth-fits _ _ (I .0) z, z .least)
 
 loop-again : tie.Need-loop-again Inv-loop μ-loop
-loop-again c =
-    let u = c .before .before .before in
-    (omega arith, λ b h. u .before .before .loop .inv .1 b (nth-next _ _ (u .u32-at .ensures) (omega arith) _ (c .if4 .left) h))
+loop-again c = let z = by-block _ (rw tail-part at (c .before .before .before .before .step .ensures)) (c .before .before .n .given .1) in let I = c .before .before .before .before .before .before .loop .inv in (nth-fits _ _ (I .0) z, λ b h. I .1 b (nth-next _ _ (I .0) z _ (c .if2 .left) h))
 
-returns-5 : tie.Need-returns-5 Inv-loop μ-loop
-returns-5 c = c .before .loop .inv .1 _ (nth-none _ _ _ (λ h t. omega arith))
+enum-told : tie.Need-enum-told Inv-loop μ-loop
+enum-told c = search needs
+
+returns-3 : tie.Need-returns-3 Inv-loop μ-loop
+returns-3 c = c .before .before .before .before .loop .inv .1 _ (nth-ended _ _ _ (by-end _ (rw tail-part at (c .before .before .step .ensures)) (c .enum-told .given .1)))
+
+enum-told-2 : tie.Need-enum-told-2 Inv-loop μ-loop
+enum-told-2 c = search needs
+
+returns-4 : tie.Need-returns-4 Inv-loop μ-loop
+returns-4 c = c .before .before .before .before .loop .inv .1 _ (nth-refused _ _ _ (by-fault _ (rw tail-part at (c .before .before .step .ensures)) (c .enum-told2 .given .1)))
 
 pub nth-block-spec : {M : Type 1} → statement M
 nth-block-spec =
@@ -69,15 +71,17 @@ nth-block-spec =
     μ-loop
     returns
     loop-holds
-    sub-loop
-    u32-at-requires
-    cast-size
+    sub-step
+    part-step-start
+    part-step-end
+    step-requires
+    enum-known-n
     returns-2
-    sub-if3
-    returns-3
-    returns-4
     sub-left
     add-p
     loop-less
     loop-again
-    returns-5)
+    enum-told
+    returns-3
+    enum-told-2
+    returns-4)

@@ -1,10 +1,10 @@
-use Rattle.keying.proofs.Laws.{environment-absent, environment-there}
+use Rattle.keying.proofs.Laws.{environment-absent, environment-there, text-stands}
 use borrow.Author.Needs.{needs}
 use Rattle.keying.proofs.environment.Statement.{statement}
 use Rattle.keying.proofs.environment.Tie as tie
 
-first-block-requires : tie.Need-first-block-requires
-first-block-requires c κs = search needs
+block-from-requires : tie.Need-block-from-requires
+block-from-requires c κs = c .before .pre .reached
 
 only-requires : tie.Need-only-requires
 only-requires c κs = search needs
@@ -14,10 +14,13 @@ part-if-requires c κs = search needs
 
 returns : tie.Need-returns
 returns c =
-    environment-absent _ _ (c .before .before .before .before .before .before .pre) (c .before .before .before .before .first-block .ensures .0) (c .before .before .if1 .taken) (c .before .only .ensures) (c .part-if .ensures)
+    let u = c .before .before .before .before in
+    environment-absent _ (u .before .before .pre) (u .block-from .ensures) (c .before .before .if1 .taken) (c .before .only .ensures) (c .part-if .ensures)
 
 block-text-requires : tie.Need-block-text-requires
-block-text-requires c κs = (c .before .before .first-block .ensures .0 .inside, c .before .before .first-block .ensures .1 (c .if1 .left))
+block-text-requires c κs =
+    let u = c .before .before in
+    text-stands _ (u .before .before .pre) (u .block-from .ensures) (c .if1 .left)
 
 only-requires-2 : tie.Need-only-requires-2
 only-requires-2 c κs = search needs
@@ -27,13 +30,15 @@ part-if-requires-2 c κs = search needs
 
 returns-2 : tie.Need-returns-2
 returns-2 c =
-    environment-there _ _ (c .before .before .before .before .before .before .before .pre) (c .before .before .before .before .before .first-block .ensures .0) (c .before .before .before .if1 .left) (c .before .before .block-text .ensures) (c .before .only2 .ensures) (c .part-if2 .ensures)
+    let t = c .before .before in
+    let u = t .before .before .before in
+    environment-there _ (u .before .before .pre) (u .block-from .ensures) (t .before .if1 .left) (t .block-text .ensures) (c .before .only2 .ensures) (c .part-if2 .ensures)
 
 pub environment-spec : {M : Type 1} → statement M
 environment-spec =
     tie.close
     (tie.spec
-    first-block-requires
+    block-from-requires
     only-requires
     part-if-requires
     returns

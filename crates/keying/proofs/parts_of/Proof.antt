@@ -1,5 +1,5 @@
 use mathlib.Core.Path.{refl}
-use Rattle.keying.proofs.Laws.{accepted-small, accepted-texts, parts-shown, parts-stand}
+use Rattle.keying.proofs.Laws.{accepted-texts, row-block, parts-shown, parts-stand}
 use borrow.Author.Needs.{needs}
 use Rattle.keying.proofs.parts_of.Statement.{statement}
 use Rattle.keying.proofs.parts_of.Tie as tie
@@ -9,7 +9,7 @@ has-target-requires c κs = search needs
 
 texts-of-requires : tie.Need-texts-of-requires
 texts-of-requires c κs =
-    let i = accepted-texts _ _ (c .before .before .pre) in
+    let i = accepted-texts _ _ (c .before .before .pre .0) in
     (i .first, i .suffix)
 
 part-if-requires : tie.Need-part-if-requires
@@ -27,14 +27,22 @@ only-requires-2 c κs = search needs
 part-if-requires-3 : tie.Need-part-if-requires-3
 part-if-requires-3 c κs = search needs
 
+array-read-environment : tie.Need-array-read-environment
+array-read-environment c = search needs
+
 environment-requires : tie.Need-environment-requires
-environment-requires c κs = accepted-small _ _ (c .before .before .before .before .before .before .before .before .pre)
+environment-requires c κs =
+    let u = c .before .before .before .before in
+    let p = u .before .before .before .before .pre in
+    (row-block _ _ (p .0) (p .1)) .block
 
 returns : tie.Need-returns
 returns c =
-    let a = c .before .before .before .before .before .before .before .before .before .pre in (
-      parts-shown _ _ a refl (c .before .before .before .before .before .before .before .has-target .ensures) (c .before .before .before .before .before .before .texts-of .ensures) (c .before .before .before .before .before .part-if .ensures) (c .before .before .before .before .only .ensures) (c .before .before .before .part-if2 .ensures) (c .before .before .only2 .ensures) (c .before .part-if3 .ensures) (c .environment .ensures),
-      parts-stand _ _ a refl (c .before .before .before .before .before .before .before .has-target .ensures) (c .before .before .before .before .before .before .texts-of .ensures) (c .before .before .before .before .before .part-if .ensures) (c .before .before .before .before .only .ensures) (c .before .before .before .part-if2 .ensures) (c .before .before .only2 .ensures) (c .before .part-if3 .ensures) (c .environment .ensures),
+    let u = c .before .before .before .before in
+    let v = u .before .before .before in
+    let p = v .before .before .pre in (
+      parts-shown _ _ (p .0) refl (v .has-target .ensures) (u .before .before .texts-of .ensures) (u .before .part-if .ensures) (u .only .ensures) (c .before .before .before .part-if2 .ensures) (c .before .before .only2 .ensures) (c .before .part-if3 .ensures) (p .1) (c .environment .ensures),
+      parts-stand _ _ (p .0) refl (v .has-target .ensures) (u .before .before .texts-of .ensures) (u .before .part-if .ensures) (u .only .ensures) (c .before .before .before .part-if2 .ensures) (c .before .before .only2 .ensures) (c .before .part-if3 .ensures) (p .1) (c .environment .ensures),
     )
 
 pub parts-of-spec : {M : Type 1} → statement M
@@ -48,5 +56,6 @@ parts-of-spec =
     part-if-requires-2
     only-requires-2
     part-if-requires-3
+    array-read-environment
     environment-requires
     returns)

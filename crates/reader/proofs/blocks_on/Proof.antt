@@ -1,4 +1,4 @@
-use Rattle.reader.specs.Steps.{blocksOn, settledBlocks}
+use Rattle.reader.specs.Steps.{settledBlocks, blocksOn}
 use borrow.Author.Needs.{needs}
 use Rattle.reader.proofs.blocks_on.Statement.{statement}
 use Rattle.reader.proofs.blocks_on.Tie as tie
@@ -6,23 +6,34 @@ use Rattle.reader.proofs.blocks_on.Tie as tie
 blocks-requires : tie.Need-blocks-requires
 blocks-requires c κs = search needs
 
-enum-known-b : tie.Need-enum-known-b
-enum-known-b c = search needs
+enum-known-taken : tie.Need-enum-known-taken
+enum-known-taken c = search needs
 
-enum-known-f : tie.Need-enum-known-f
-enum-known-f c = search needs
+enum-known-taken-2 : tie.Need-enum-known-taken-2
+enum-known-taken-2 c = search needs
 
-off-requires : tie.Need-off-requires
-off-requires c κs = search needs
+blocks-off-requires : tie.Need-blocks-off-requires
+blocks-off-requires c κs = search needs
 
 returns : tie.Need-returns
 unfolding blocksOn settledBlocks
-returns c = rw (← (c .before .before .before .blocks2 .ensures), c .before .b .given .1)
+returns c =
+    let w = c .before .before .before .before in
+    rw (← (w .blocks2 .ensures), c .before .taken .given .1)
 
 returns-2 : tie.Need-returns-2
 unfolding blocksOn settledBlocks
-returns-2 c = rw (← (c .before .before .before .before .blocks2 .ensures), c .before .before .f .given .1) (c .off .ensures)
+returns-2 c =
+    let w = c .before .before .before .before in
+    rw (← (w .before .blocks2 .ensures), c .before .before .taken2 .given .1) (c .blocks-off .ensures)
 
 pub blocks-on-spec : {M : Type 1} → statement M
 blocks-on-spec =
-    tie.close (tie.spec blocks-requires enum-known-b enum-known-f off-requires returns returns-2)
+    tie.close
+    (tie.spec
+    blocks-requires
+    enum-known-taken
+    enum-known-taken-2
+    blocks-off-requires
+    returns
+    returns-2)

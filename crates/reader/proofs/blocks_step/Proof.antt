@@ -12,8 +12,8 @@ blocks-on-requires c κs = search needs
 enum-known-next-2 : tie.Need-enum-known-next-2
 enum-known-next-2 c = search needs
 
-off-requires : tie.Need-off-requires
-off-requires c κs = search needs
+blocks-off-requires : tie.Need-blocks-off-requires
+blocks-off-requires c κs = search needs
 
 returns : tie.Need-returns
 unfolding blocksStep
@@ -21,9 +21,15 @@ returns c = rw (c .before .before .next .given .1) (c .blocks-on .ensures)
 
 returns-2 : tie.Need-returns-2
 unfolding blocksStep
-returns-2 c = rw (c .before .before .next2 .given .1) (c .off .ensures)
+returns-2 c = rw (c .before .before .next2 .given .1) (c .blocks-off .ensures)
 
 pub blocks-step-spec : {M : Type 1} → statement M
 blocks-step-spec =
     tie.close
-    (tie.spec enum-known-next blocks-on-requires enum-known-next-2 off-requires returns returns-2)
+    (tie.spec
+    enum-known-next
+    blocks-on-requires
+    enum-known-next-2
+    blocks-off-requires
+    returns
+    returns-2)

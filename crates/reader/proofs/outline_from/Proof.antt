@@ -28,14 +28,22 @@ string-step-requires-5 : tie.Need-string-step-requires-5
 string-step-requires-5 c κs = search needs
 
 blocks-step-requires : tie.Need-blocks-step-requires
-blocks-step-requires c κs = search needs
+blocks-step-requires c κs =
+    let u = c .before .before .before .before in
+    let v = u .before .before .before .before in
+    let w = v .before .before .before .before in
+    w .before .before .before .before .pre
 
 ends-of-requires : tie.Need-ends-of-requires
 ends-of-requires c κs = search needs
 
 returns : tie.Need-returns
 returns c =
-    outline-is _ _ _ (c .before .before .before .before .before .before .before .before .before .before .before .before .before .before .before .before .before .bit-0 .ensures) (c .before .before .before .before .before .before .before .before .before .before .before .before .before .before .before .before .items-step .ensures) (c .before .before .before .before .before .before .before .before .before .before .before .before .before .before .info-step .ensures) (c .before .before .before .before .before .before .before .before .before .before .before .before .string-step .ensures) (c .before .before .before .before .before .before .before .before .before .before .string-step2 .ensures) (c .before .before .before .before .before .before .before .before .string-step3 .ensures) (c .before .before .before .before .before .before .string-step4 .ensures) (c .before .before .before .before .string-step5 .ensures) (c .before .before .blocks-step .ensures) (c .ends-of .ensures)
+    let icon = c .before .before .before .before .before in
+    let workdir = icon .before .before .before .before in
+    let name = workdir .before .before .before .before in
+    let items = name .before .before .before .before in
+    outline-is _ _ _ (items .before .bit-0 .ensures) (items .items-step .ensures) (name .before .before .info-step .ensures) (name .string-step .ensures) (workdir .before .before .string-step2 .ensures) (workdir .string-step3 .ensures) (icon .before .before .string-step4 .ensures) (icon .string-step5 .ensures) (c .before .before .before .blocks-step .ensures) (c .ends-of .ensures)
 
 pub outline-from-spec : {M : Type 1} → statement M
 outline-from-spec =

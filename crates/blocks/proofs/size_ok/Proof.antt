@@ -1,60 +1,57 @@
-use borrow.Author.Tests.{ne-eqb}
-use Rattle.blocks.specs.Walk.{plainOk}
-use Rattle.blocks.proofs.plain_ok.Statement.{statement}
-use Rattle.blocks.proofs.plain_ok.Tie as tie
+use Rattle.format.specs.Blocks.{sizeFits}
+use Rattle.blocks.proofs.StepLaws.{size-other}
+use Rattle.blocks.proofs.size_ok.Statement.{statement}
+use Rattle.blocks.proofs.size_ok.Tie as tie
 
 returns : tie.Need-returns
-unfolding plainOk
+unfolding sizeFits
 returns c = rw (c .match .keys1)
 
 returns-2 : tie.Need-returns-2
-unfolding plainOk
+unfolding sizeFits
 returns-2 c = rw (c .match .keys2)
 
 returns-3 : tie.Need-returns-3
-unfolding plainOk
+unfolding sizeFits
 returns-3 c = rw (c .match .keys3)
 
 returns-4 : tie.Need-returns-4
-unfolding plainOk
+unfolding sizeFits
 returns-4 c = rw (c .match .keys4)
 
 returns-5 : tie.Need-returns-5
-unfolding plainOk
+unfolding sizeFits
 returns-5 c = rw (c .match .keys5)
 
 returns-6 : tie.Need-returns-6
-unfolding plainOk
+unfolding sizeFits
 returns-6 c = rw (c .match .keys6)
 
 returns-7 : tie.Need-returns-7
-unfolding plainOk
+unfolding sizeFits
 returns-7 c = rw (c .match .keys7)
 
 returns-8 : tie.Need-returns-8
-unfolding plainOk
+unfolding sizeFits
 returns-8 c = rw (c .match .keys8)
 
 returns-9 : tie.Need-returns-9
-unfolding plainOk
+unfolding sizeFits
 returns-9 c = rw (c .match .keys9)
 
 returns-10 : tie.Need-returns-10
-unfolding plainOk
+unfolding sizeFits
 returns-10 c = rw (c .match .keys10)
 
 returns-11 : tie.Need-returns-11
-unfolding plainOk
+unfolding sizeFits
 returns-11 c = rw (c .match .keys11)
 
 returns-12 : tie.Need-returns-12
-unfolding plainOk
-returns-12 c =
-    let r = c .match .rest in
-    rw (ne-eqb _ _ (r .0 .0 .0 .0 .0 .0 .0 .0 .0 .0 .1), ne-eqb _ _ (r .0 .0 .0 .0 .0 .0 .0 .0 .0 .1), ne-eqb _ _ (r .0 .0 .0 .0 .0 .0 .0 .0 .1), ne-eqb _ _ (r .0 .0 .0 .0 .0 .0 .0 .1), ne-eqb _ _ (r .0 .0 .0 .0 .0 .0 .1), ne-eqb _ _ (r .0 .0 .0 .0 .0 .1), ne-eqb _ _ (r .0 .0 .0 .0 .1), ne-eqb _ _ (r .0 .0 .0 .1), ne-eqb _ _ (r .0 .0 .1), ne-eqb _ _ (r .0 .1), ne-eqb _ _ (r .1))
+returns-12 c = size-other _ _ (c .match .rest)
 
-pub plain-ok-spec : {M : Type 1} → statement M
-plain-ok-spec =
+pub size-ok-spec : {M : Type 1} → statement M
+size-ok-spec =
     tie.close
     (tie.spec
     returns

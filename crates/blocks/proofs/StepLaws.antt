@@ -1,0 +1,135 @@
+-- The step: one law for each way out.
+use mathlib.Core.Path.{_≡_, refl, sym, ap, _∙_}
+use mathlib.Core.List.{List, [], _∷_, _++_}
+use mathlib.Core.Bool.{Bool, true, false}
+use Prim.Native.Nat.{ℕ, zero, suc, _+_, _-_, _≤_, _<_}
+use native.Mathlib.Omega.{arith}
+use lib.ListN.{length, take, drop, length-append, length-drop}
+use lib.Seq.{length-take-le, take-all, take-take, take-append-le}
+use lib.Dec.{leb}
+use borrow.Author.Tests.{le-leb, lt-leb, lt-ltb, le-ltb}
+use Rattle.octets.specs.Numbers.{u32At}
+use Rattle.octets.proofs.NumberLaws.{number-same}
+use Rattle.format.specs.declared.Fault.{Fault}
+use Rattle.format.specs.declared.Fault.the-variants.{Cut as CUT, Block as BLOCK}
+use Rattle.format.specs.Tests.{Outcome, got, refused, _else_, tests}
+use Rattle.format.specs.Blocks.{SizeRule, signatures, sizeIn, slotOf, sizeFits, insideFits, blockRules, blockSize, Standing, aBlock, aTerminal, blockStep}
+use Rattle.format.proofs.Chains.{no-value}
+use Rattle.blocks.specs.Walk.{Sized, BySize, Stands}
+use Rattle.blocks.specs.declared.BlockStep.{BlockStep}
+use Rattle.blocks.specs.declared.BlockStep.the-variants.{Block, Terminal, Refused as NotOne}
+
+-- the part from k to the end
+pub tail-part : (k : ℕ) (l : List ℕ) → take (length l - k) (drop k l) ≡ drop k l
+tail-part k l = take-all (length l - k) (drop k l) (simp length-drop (omega arith))
+
+-- a slot beyond the table has no rule for its size
+size-free : (k n : ℕ) → 11 ≤ k → true ≡ sizeFits k n
+unfolding sizeFits
+size-free k n h = free signatures k h
+  where
+    free : (t : List (ℕ × SizeRule)) (k : ℕ) → length t ≤ k → true ≡ sizeIn t k n
+    free [] k h = refl
+    free (r ∷ rs) zero h = absurd (omega arith)
+    free (r ∷ rs) (suc k) h = free rs k (omega arith)
+
+-- none of the table's slots
+abbrev pub Other : ℕ → Type 0
+Other k = ((((((((((Unit {0} × (k ≡ 0 → ⊥)) × (k ≡ 1 → ⊥)) × (k ≡ 2 → ⊥)) × (k ≡ 3 → ⊥)) × (k ≡ 4 → ⊥)) × (k ≡ 5 → ⊥)) × (k ≡ 6 → ⊥)) × (k ≡ 7 → ⊥)) × (k ≡ 8 → ⊥)) × (k ≡ 9 → ⊥)) × (k ≡ 10 → ⊥)
+
+past : {j k : ℕ} → j ≤ k → (k ≡ j → ⊥) → j + 1 ≤ k
+past h n = omega arith
+
+pub size-other : (k n : ℕ) → Other k → true ≡ sizeFits k n
+size-other k n r =
+    let a₃ : 3 ≤ k = past (past (past (omega arith) (r .0 .0 .0 .0 .0 .0 .0 .0 .0 .0 .1)) (r .0 .0 .0 .0 .0 .0 .0 .0 .0 .1)) (r .0 .0 .0 .0 .0 .0 .0 .0 .1) in
+    let a₇ : 7 ≤ k = past (past (past (past a₃ (r .0 .0 .0 .0 .0 .0 .0 .1)) (r .0 .0 .0 .0 .0 .0 .1)) (r .0 .0 .0 .0 .0 .1)) (r .0 .0 .0 .0 .1) in
+    size-free k n (past (past (past (past a₇ (r .0 .0 .0 .1)) (r .0 .0 .1)) (r .0 .1)) (r .1))
+
+module _ (s : List ℕ) where
+  pub step-none : length s < 4 → (p : ℕ) → blockStep p s ≡ refused CUT p
+  step-none h p = rw (lt-leb 4 (length s) h)
+
+  module _ (room : 4 ≤ length s) {n : ℕ} (e : n ≡ blockSize s) where
+    pub step-end : n < 4 → (p : ℕ) → blockStep p s ≡ got aTerminal 4
+    step-end t p = rw (le-leb 4 (length s) room, ← e, lt-ltb n 4 t)
+
+    here : 4 ≤ n → (p : ℕ) → blockStep p s ≡ tests p (leb 8 n else BLOCK ∷ leb n (length s) else CUT ∷ blockRules (take n s)) (got aBlock n)
+    here t p = rw (le-leb 4 (length s) room, ← e, le-ltb n 4 t)
+
+    pub step-small : 4 ≤ n → n < 8 → (p : ℕ) → blockStep p s ≡ refused BLOCK p
+    step-small t u p = here t p ∙ rw (lt-leb 8 n u)
+
+    module _ (big : 8 ≤ n) where
+      pub step-past : length s < n → (p : ℕ) → blockStep p s ≡ refused CUT p
+      step-past t p = here (omega arith) p ∙ rw (le-leb 8 n big, lt-leb n (length s) t)
+
+      module _ (inside : n ≤ length s) {k : ℕ} (slot : k ≡ slotOf (u32At s 4)) where
+        -- a block's size and signature are those of the rest
+        judged : (p : ℕ) → blockStep p s ≡ tests p (sizeFits k n else BLOCK ∷ insideFits k (take n s) else BLOCK ∷ []) (got aBlock n)
+        judged p =
+            let l : length (take n s) ≡ n = length-take-le n s inside in
+            let x : u32At (take n s) 4 ≡ u32At s 4 = number-same 4 n (take n s) s 4 (take-take n n s (omega arith)) (omega arith) in
+            here (omega arith) p ∙ rw (le-leb 8 n big, le-leb n (length s) inside, l, x, ← slot)
+
+        pub step-wrong : sizeFits k n ≡ false → (p : ℕ) → blockStep p s ≡ refused BLOCK p
+        step-wrong f p = judged p ∙ rw f
+
+        pub step-sized : sizeFits k n ≡ true → Sized s n k
+        step-sized f = record { size = e; least = big; inside = inside; slot = slot; fits = f }
+
+-- a block by its sizes: what it holds decides
+module _ (s : List ℕ) {n k : ℕ} (z : Sized s n k) where
+  left : (p : ℕ) → blockStep p s ≡ tests p (insideFits k (take n s) else BLOCK ∷ []) (got aBlock n)
+  left p =
+      let room : 4 ≤ length s = omega (arith, z .least, z .inside) in
+      judged s room (z .size) (z .least) (z .inside) (z .slot) p ∙ rw (z .fits)
+
+  pub holds-right : {b : Bool} → b ≡ insideFits k (take n s) → b ≡ true → (p : ℕ) → blockStep p s ≡ got aBlock n
+  holds-right e t p = left p ∙ rw (← e, t)
+
+  pub holds-wrong : {b : Bool} → b ≡ insideFits k (take n s) → b ≡ false → (p : ℕ) → blockStep p s ≡ refused BLOCK p
+  holds-wrong e t p = left p ∙ rw (← e, t)
+
+-- a block stays what it is, whatever follows
+module _ (s y : List ℕ) {n k : ℕ} (z : Sized s n k) where
+  front : take n (s ++ y) ≡ take n s
+  front = take-append-le n s y (z .inside)
+
+  pub longer : Sized (s ++ y) n k
+  longer = record {
+    size = z .size ∙ sym (number-same 4 n (s ++ y) s 0 front (omega (arith, z .least)));
+    least = z .least;
+    inside = omega (arith, z .inside, length-append s y);
+    slot = z .slot ∙ ap slotOf (sym (number-same 4 n (s ++ y) s 4 front (omega (arith, z .least))));
+    fits = z .fits;
+  }
+
+  pub step-longer : ((q : ℕ) → blockStep q s ≡ got aBlock n) → (q : ℕ) → blockStep q (s ++ y) ≡ got aBlock n
+  step-longer h q = go (insideFits k (take n s)) refl
+    where
+      go : (b : Bool) → b ≡ insideFits k (take n s) → blockStep q (s ++ y) ≡ got aBlock n
+      go true e = holds-right (s ++ y) longer (e ∙ ap (insideFits k) (sym front)) refl q
+      go false e = no-value (sym (holds-wrong s z e refl q) ∙ h q)
+
+-- from what the code answers to its facts
+module _ (s : List ℕ) {t : BlockStep} where
+  module _ (h : BySize s t) where
+    pub by-block : {n k : ℕ} → t ≡ Block n k → Sized s n k
+    by-block e = rw e at h
+
+    pub by-end : t ≡ Terminal → (p : ℕ) → blockStep p s ≡ got aTerminal 4
+    by-end e = rw e at h
+
+    pub by-fault : {f : Fault} → t ≡ NotOne f → (p : ℕ) → blockStep p s ≡ refused f p
+    by-fault e = rw e at h
+
+  module _ (h : Stands s t) where
+    pub stands-block : {n k : ℕ} → t ≡ Block n k → Sized s n k × ((p : ℕ) → blockStep p s ≡ got aBlock n)
+    stands-block e = rw e at h
+
+    pub stands-end : t ≡ Terminal → (p n : ℕ) → blockStep p s ≡ got aBlock n → ⊥
+    stands-end e p n g = let i : (p : ℕ) → blockStep p s ≡ got aTerminal 4 = rw e at h in let z : _≡_ {A = Outcome Standing} (got aTerminal 4) (got aBlock n) = sym (i p) ∙ g in let o : _≡_ {A = ℕ} 0 1 = cc in omega arith
+
+    pub stands-fault : {f : Fault} → t ≡ NotOne f → (p n : ℕ) → blockStep p s ≡ got aBlock n → ⊥
+    stands-fault {f} e p n g = let i : (p : ℕ) → blockStep p s ≡ refused f p = rw e at h in no-value (sym (i p) ∙ g)

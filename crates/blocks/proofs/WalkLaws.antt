@@ -1,0 +1,124 @@
+-- The walk: how far it has come, and what stands there.
+use mathlib.Core.Path.{_≡_, refl, sym, ap, _∙_}
+use mathlib.Core.List.{List, [], _∷_, _++_, append-assoc, append-nil}
+use mathlib.Core.Bool.{Bool, true, false}
+use Prim.Native.Nat.{ℕ, _+_, _-_, _≤_, _<_}
+use native.Mathlib.Omega.{arith}
+use native.Mathlib.Nat.{zero-add}
+use lib.ListN.{length, take, drop, length-drop}
+use lib.Seq.{drop-drop, drop-append-le}
+use Rattle.octets.specs.Numbers.{u32At}
+use Rattle.octets.proofs.NumberLaws.{number-drop}
+use Rattle.format.specs.declared.Fault.{Fault}
+use Rattle.format.specs.declared.Fault.the-variants.{Cut as CUT, Block as BLOCK}
+use Rattle.format.specs.Tests.{Outcome, got, refused, andThen}
+use Rattle.format.specs.Blocks.{slotOf, insideFits, blockSize, aBlock, aTerminal, blockStep, blocks, firsts}
+use Rattle.format.specs.Shortcut.{most, sum}
+use Rattle.format.proofs.BlockLaws.{none-left, blocks-step}
+use Rattle.blocks.specs.Walk.{Sized, NoBlock, noFirsts, noted, after, Passed, blocksRead, readTo, stoppedAt}
+use Rattle.blocks.proofs.StepLaws.{tail-part, holds-right, holds-wrong, longer, step-longer}
+use Rattle.blocks.proofs.FirstLaws.{firsts-more}
+
+sum-more : (ls : List ℕ) (n : ℕ) → sum (ls ++ n ∷ []) ≡ sum ls + n
+sum-more [] n = omega arith
+sum-more (m ∷ ms) n = let e = sum-more ms n in omega arith
+
+-- ---- what the step says of the walk
+
+module _ (s : List ℕ) (p : ℕ) where
+  pub walk-ended : blockStep p s ≡ got aTerminal 4 → blocks p s ≡ got [] 4
+  walk-ended e = blocks-step p s ∙ rw e
+
+  pub walk-refused : {f : Fault} {q : ℕ} → blockStep p s ≡ refused f q → blocks p s ≡ refused f q
+  walk-refused e = blocks-step p s ∙ rw e
+
+  pub walk-goes-on : {n : ℕ} → n ≡ blockSize s → blockStep p s ≡ got aBlock n → blocks p s ≡ andThen (blocks (p + n) (drop n s)) (λ lengths m. got (n ∷ lengths) (n + m))
+  walk-goes-on z e = blocks-step p s ∙ rw (e, ← z)
+
+-- ---- the walk from a on that has come to p
+
+pub passed-start : (s : List ℕ) (a : ℕ) {row : List ℕ} → a ≤ length s → row ≡ noFirsts → Passed s a a row
+unfolding firsts
+passed-start s a h e = record {
+  lengths = [];
+  adds = omega arith;
+  inside = h;
+  is = λ y. nothing (blocks a (drop a (s ++ y)));
+  first = λ small. e;
+}
+  where
+    nothing : (o : Outcome (List ℕ)) → o ≡ after [] o
+    nothing (got ls n) = rw (zero-add n)
+    nothing (refused f q) = refl
+
+after-more : (ls : List ℕ) (n : ℕ) (o : Outcome (List ℕ)) → after ls (andThen o (λ more m. got (n ∷ more) (n + m))) ≡ after (ls ++ n ∷ []) o
+after-more ls n (got more m) =
+    let e : sum ls + (n + m) ≡ sum (ls ++ n ∷ []) + m = omega (arith, sum-more ls n) in
+    rw (append-assoc ls (n ∷ []) more, e)
+after-more ls n (refused f q) = refl
+
+pub passed-more : (s : List ℕ) (a p : ℕ) {row next : List ℕ} {n k : ℕ} → Passed s a p row → Sized (drop p s) n k → ((q : ℕ) → blockStep q (drop p s) ≡ got aBlock n)
+    → (p < most → next ≡ noted row k (p + 4)) → Passed s a (p + n) next
+passed-more s a p {row} {next} {n} {k} P z h e =
+    let ls = P .lengths in
+    let w : p + n ≤ length s = omega (arith, z .inside, length-drop p s, P .inside) in
+    let slot : k ≡ slotOf (u32At s (a + sum ls + 4)) = z .slot ∙ ap slotOf (number-drop 4 p s 4 ∙ ap (λ (q : ℕ). u32At s (q + 4)) (P .adds)) in
+    let field : p + 4 ≡ a + sum ls + 4 = omega (arith, P .adds) in
+    record {
+      lengths = ls ++ n ∷ [];
+      adds = omega (arith, P .adds, sum-more ls n);
+      inside = w;
+      is = λ y.
+          let r : drop p (s ++ y) ≡ drop p s ++ y = drop-append-le p s y (P .inside) in
+          let on : blocks p (drop p (s ++ y)) ≡ andThen (blocks (p + n) (drop (p + n) (s ++ y))) (λ more m. got (n ∷ more) (n + m))
+          = rw (← r, drop-drop n p (s ++ y)) at (walk-goes-on (drop p s ++ y) p (longer (drop p s) y z .size) (step-longer (drop p s) y z h p)) in
+          P .is y ∙ ap (after ls) on ∙ after-more ls n (blocks (p + n) (drop (p + n) (s ++ y)));
+      first = λ small.
+          let big = z .least in
+          e (omega arith) ∙ rw (P .first small, slot, field) (sym (firsts-more s n a ls));
+    }
+
+-- a turn of the walk: the rest goes on where the block ends
+module _ {s : List ℕ} {a p : ℕ} {row rest : List ℕ} (P : Passed s a p row) (e : rest ≡ drop p s) {n k : ℕ} where
+  pub passed-fits : Sized rest n k → p + n ≤ length s
+  passed-fits z = omega (arith, z .inside, P .inside, ap length e, length-drop p s)
+
+  pub passed-on : {next : List ℕ} → Sized rest n k × ((q : ℕ) → blockStep q rest ≡ got aBlock n) → (p < most → next ≡ noted row k (p + 4))
+      → (take (length rest - n) (drop n rest) ≡ drop (p + n) s) × Passed s a (p + n) next
+  passed-on w f =
+      let v : Sized (drop p s) n k × ((q : ℕ) → blockStep q (drop p s) ≡ got aBlock n) = rw e at w in
+      (tail-part n rest ∙ ap (drop n) e ∙ drop-drop n p s, passed-more s a p P (v .0) (v .1) f)
+
+-- ---- the ways out
+
+module _ (s : List ℕ) (a : ℕ) where
+  pub read-nowhere : length s < a → stoppedAt CUT a ≡ blocksRead s a
+  unfolding blocksRead
+  read-nowhere h = rw (none-left a (drop a s) (omega (arith, length-drop a s)))
+
+  module _ {p : ℕ} {row : List ℕ} (P : Passed s a p row) where
+    all : blocks a (drop a s) ≡ after (P .lengths) (blocks p (drop p s))
+    all = rw append-nil at (P .is [])
+
+    pub read-end : length s ≤ most → ((q : ℕ) → blockStep q (drop p s) ≡ got aTerminal 4) → readTo a p row ≡ blocksRead s a
+    unfolding blocksRead
+    read-end small h =
+        let o : blocks a (drop a s) ≡ got (P .lengths) (sum (P .lengths) + 4)
+        = rw append-nil at (all ∙ ap (after (P .lengths)) (walk-ended (drop p s) p (h p))) in
+        let l : p - a ≡ sum (P .lengths) = omega (arith, P .adds) in
+        let n : p + 4 ≡ a + (sum (P .lengths) + 4) = omega (arith, P .adds) in
+        rw (o, l, n, P .first small)
+
+    pub read-stopped : {f : Fault} → ((q : ℕ) → blockStep q (drop p s) ≡ refused f q) → stoppedAt f p ≡ blocksRead s a
+    unfolding blocksRead
+    read-stopped h =
+        let o = all ∙ ap (after (P .lengths)) (walk-refused (drop p s) p (h p)) in
+        rw o
+
+    -- a block by its sizes that is none: what it holds is wrong
+    pub read-wrong : NoBlock s p → {n k : ℕ} → Sized (drop p s) n k → stoppedAt BLOCK p ≡ blocksRead s a
+    read-wrong none {n} {k} z = go (insideFits k (take n (drop p s))) refl
+      where
+        go : (b : Bool) → b ≡ insideFits k (take n (drop p s)) → stoppedAt BLOCK p ≡ blocksRead s a
+        go true e = absurd (none n (holds-right (drop p s) z e refl p))
+        go false e = read-stopped (holds-wrong (drop p s) z e refl)

@@ -1,0 +1,45 @@
+use borrow.Author.Tests.{lt-ltb, le-ltb, eq-eqb, ne-eqb}
+use Rattle.blocks.specs.Walk.{taken, noted}
+use borrow.Author.Needs.{needs}
+use Rattle.blocks.proofs.note.Statement.{statement}
+use Rattle.blocks.proofs.note.Tie as tie
+
+mul-if2 : tie.Need-mul-if2
+mul-if2 c = search needs
+
+element-copy-out-if2 : tie.Need-element-copy-out-if2
+element-copy-out-if2 c = search needs
+
+field-of-requires : tie.Need-field-of-requires
+field-of-requires c κs = search needs
+
+mul-firsts : tie.Need-mul-firsts
+mul-firsts c = search needs
+
+element-write-firsts : tie.Need-element-write-firsts
+element-write-firsts c = search needs
+
+returns : tie.Need-returns
+unfolding noted taken
+returns c = λ h. rw (lt-ltb _ 11 (c .before .before .before .if1 .taken), eq-eqb _ 0 (c .before .if2 .taken), c .field-of .ensures h)
+
+returns-2 : tie.Need-returns-2
+unfolding noted taken
+returns-2 c = λ h. rw (lt-ltb _ 11 (c .before .before .if1 .taken), ne-eqb _ 0 (c .if2 .left))
+
+returns-3 : tie.Need-returns-3
+unfolding noted taken
+returns-3 c = λ h. rw (le-ltb _ 11 (c .if1 .left))
+
+pub note-spec : {M : Type 1} → statement M
+note-spec =
+    tie.close
+    (tie.spec
+    mul-if2
+    element-copy-out-if2
+    field-of-requires
+    mul-firsts
+    element-write-firsts
+    returns
+    returns-2
+    returns-3)
