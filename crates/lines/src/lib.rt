@@ -2,6 +2,7 @@
 mod hex;
 
 use crate::hex::put_hex;
+use blocks::BlockStep;
 use format::Fault;
 use format::Verdict;
 use reader::Next;
@@ -29,22 +30,22 @@ fn line_if(there: bool, name: &[u8], p: usize, e: usize) {
 
 // The blocks of an accepted shortcut and its terminal, which starts at `from`.
 fn block_lines(s: &[u8], from: usize) {
-    let n = s.len();
-    if n < from {
+    if s.len() < from {
         return;
     }
     let mut p = from;
-    while 4 <= n - p {
-        let size = octets::u32_at(s, p) as usize;
-        if size < 4 {
-            line(b"end", p, 4);
-            return;
+    loop {
+        match blocks::step(&s[p..]) {
+            BlockStep::Block(n, _) => {
+                line(b"block", p, n);
+                p += n;
+            }
+            BlockStep::Terminal => {
+                line(b"end", p, 4);
+                return;
+            }
+            BlockStep::Refused(_) => return,
         }
-        if n - p < size {
-            return;
-        }
-        line(b"block", p, size);
-        p += size;
     }
 }
 

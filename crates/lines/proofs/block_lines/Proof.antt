@@ -2,14 +2,16 @@ use native.Mathlib.Omega.{arith}
 use borrow.Author.Needs.{needs}
 use Prim.Native.Nat.{_≤_, _-_}
 use lib.ListN.{length}
+use Rattle.blocks.proofs.StepLaws.{tail-part, by-block}
+use Rattle.blocks.proofs.NthLaws.{nth-fits}
 use Rattle.lines.proofs.block_lines.Statement.{statement}
 use Rattle.lines.proofs.block_lines.Tie as tie
 
 abbrev Inv-loop : tie.InvT-loop
-Inv-loop s from n p₀ t6 t7 p = p ≤ length s
+Inv-loop s from p₀ t5 t6 p = p ≤ length s
 
 abbrev μ-loop : tie.MeasureT-loop
-μ-loop s from n p₀ t6 t7 p = length s - p
+μ-loop s from p₀ t5 t6 p = length s - p
 
 returns : tie.Need-returns Inv-loop μ-loop
 returns c = search needs
@@ -17,14 +19,20 @@ returns c = search needs
 loop-holds : tie.Need-loop-holds Inv-loop μ-loop
 loop-holds c = omega arith
 
-sub-loop : tie.Need-sub-loop Inv-loop μ-loop
-sub-loop c = omega arith
+sub-step : tie.Need-sub-step Inv-loop μ-loop
+sub-step c = omega arith
 
-u32-at-requires : tie.Need-u32-at-requires Inv-loop μ-loop
-u32-at-requires c κs = omega arith
+part-step-start : tie.Need-part-step-start Inv-loop μ-loop
+part-step-start c = omega arith
 
-cast-size : tie.Need-cast-size Inv-loop μ-loop
-cast-size c = search needs
+part-step-end : tie.Need-part-step-end Inv-loop μ-loop
+part-step-end c = omega arith
+
+step-requires : tie.Need-step-requires Inv-loop μ-loop
+step-requires c κs = search needs
+
+enum-known-n : tie.Need-enum-known-n Inv-loop μ-loop
+enum-known-n c = search needs
 
 slice-aggregate-line : tie.Need-slice-aggregate-line Inv-loop μ-loop
 slice-aggregate-line c = search needs
@@ -32,14 +40,29 @@ slice-aggregate-line c = search needs
 line-requires : tie.Need-line-requires Inv-loop μ-loop
 line-requires c κs = search needs
 
-returns-2 : tie.Need-returns-2 Inv-loop μ-loop
-returns-2 c = search needs
+add-p : tie.Need-add-p Inv-loop μ-loop
+add-p c =
+    let u = c .before .before .before in
+    let p = u .before .before .before .before .loop .inv in
+    let z = by-block _ (rw tail-part at (u .before .before .step .ensures)) (u .n .given .1) in
+    omega (arith, nth-fits _ _ p z)
 
-sub-if3 : tie.Need-sub-if3 Inv-loop μ-loop
-sub-if3 c = omega arith
+loop-less : tie.Need-loop-less Inv-loop μ-loop
+loop-less c =
+    let u = c .before .before .before in
+    let p = u .before .before .before .before .loop .inv in
+    let z = by-block _ (rw tail-part at (u .before .before .step .ensures)) (u .n .given .1) in
+    omega (arith, nth-fits _ _ p z, z .least)
 
-returns-3 : tie.Need-returns-3 Inv-loop μ-loop
-returns-3 c = search needs
+loop-again : tie.Need-loop-again Inv-loop μ-loop
+loop-again c =
+    let u = c .before .before .before in
+    let p = u .before .before .before .before .loop .inv in
+    let z = by-block _ (rw tail-part at (u .before .before .step .ensures)) (u .n .given .1) in
+    nth-fits _ _ p z
+
+enum-told : tie.Need-enum-told Inv-loop μ-loop
+enum-told c = search needs
 
 slice-aggregate-line-2 : tie.Need-slice-aggregate-line-2 Inv-loop μ-loop
 slice-aggregate-line-2 c = search needs
@@ -47,17 +70,14 @@ slice-aggregate-line-2 c = search needs
 line-requires-2 : tie.Need-line-requires-2 Inv-loop μ-loop
 line-requires-2 c κs = search needs
 
-add-p : tie.Need-add-p Inv-loop μ-loop
-add-p c = omega arith
+returns-2 : tie.Need-returns-2 Inv-loop μ-loop
+returns-2 c = search needs
 
-loop-less : tie.Need-loop-less Inv-loop μ-loop
-loop-less c = omega arith
+enum-told-2 : tie.Need-enum-told-2 Inv-loop μ-loop
+enum-told-2 c = search needs
 
-loop-again : tie.Need-loop-again Inv-loop μ-loop
-loop-again c = omega arith
-
-returns-4 : tie.Need-returns-4 Inv-loop μ-loop
-returns-4 c = search needs
+returns-3 : tie.Need-returns-3 Inv-loop μ-loop
+returns-3 c = search needs
 
 pub block-lines-spec : {M : Type 1} → statement M
 block-lines-spec =
@@ -67,17 +87,19 @@ block-lines-spec =
     μ-loop
     returns
     loop-holds
-    sub-loop
-    u32-at-requires
-    cast-size
+    sub-step
+    part-step-start
+    part-step-end
+    step-requires
+    enum-known-n
     slice-aggregate-line
     line-requires
-    returns-2
-    sub-if3
-    returns-3
-    slice-aggregate-line-2
-    line-requires-2
     add-p
     loop-less
     loop-again
-    returns-4)
+    enum-told
+    slice-aggregate-line-2
+    line-requires-2
+    returns-2
+    enum-told-2
+    returns-3)
