@@ -12,12 +12,13 @@ use Rattle.octets.specs.Numbers.{u32At}
 use Rattle.octets.proofs.NumberLaws.{number-drop}
 use Rattle.format.specs.declared.Place.{Place}
 use Rattle.format.specs.Tests.{Outcome, got, noPlace}
-use Rattle.format.specs.Blocks.{SizeRule, signatures, slotIn, slotOf, blockSize, blocks, firstPlace, firstField, firstsIn, firsts}
+use Rattle.format.specs.Blocks.{SizeRule, signatures, slotIn, slotOf, blockSize, blocks, firstPlace}
+use Rattle.format.specs.Steps.Firsts.{firstField, firstsIn, firsts}
 use Rattle.format.specs.Shortcut.{sum}
 use Rattle.format.proofs.Bools.{and-true}
 use Rattle.format.proofs.Chains.{no-value}
 use Rattle.format.proofs.BlockLaws.{none-left, step-elim}
-use Rattle.blocks.specs.Walk.{taken, noted, blockFrom}
+use Rattle.blocks.specs.Steps.Walk.{taken, noted, blockFrom}
 
 -- ---- one block more
 

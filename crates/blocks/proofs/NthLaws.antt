@@ -11,7 +11,7 @@ use Rattle.format.specs.Tests.{got, refused, place, noPlace}
 use Rattle.format.specs.Blocks.{blockSize, aTerminal, blockStep, blocks}
 use Rattle.format.proofs.Chains.{got-elim, no-value}
 use Rattle.format.proofs.BlockLaws.{none-left, step-elim}
-use Rattle.blocks.specs.Walk.{Sized, nthPlace, NthOf}
+use Rattle.blocks.specs.Steps.Walk.{Sized, nthPlace, NthOf}
 use Rattle.blocks.proofs.WalkLaws.{walk-ended, walk-refused}
 
 module _ (s : List ℕ) (p k : ℕ) where

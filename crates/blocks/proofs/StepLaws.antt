@@ -15,7 +15,7 @@ use Rattle.format.specs.declared.Fault.the-variants.{Cut as CUT, Block as BLOCK
 use Rattle.format.specs.Tests.{Outcome, got, refused, _else_, tests}
 use Rattle.format.specs.Blocks.{SizeRule, signatures, sizeIn, slotOf, sizeFits, insideFits, blockRules, blockSize, Standing, aBlock, aTerminal, blockStep}
 use Rattle.format.proofs.Chains.{no-value}
-use Rattle.blocks.specs.Walk.{Sized, BySize, Stands}
+use Rattle.blocks.specs.Steps.Walk.{Sized, BySize, Stands}
 use Rattle.blocks.specs.declared.BlockStep.{BlockStep}
 use Rattle.blocks.specs.declared.BlockStep.the-variants.{Block, Terminal, Refused as NotOne}
 

@@ -9,7 +9,7 @@ ghost use Prim.Native.Nat.{_+_, _≤_, _<_};
 ghost use lib.ListN.{length};
 ghost use Rattle.format.specs.Blocks.{slotOf, sizeFits, pathTexts, insideFits};
 ghost use Rattle.format.specs.Shortcut.{most};
-ghost use Rattle.blocks.specs.Walk.{BySize, Stands, noFirsts, noted, Passed, NoBlock, blocksRead, readTo, stoppedAt, blockFrom, NthOf};
+ghost use Rattle.blocks.specs.Steps.Walk.{BySize, Stands, noFirsts, noted, Passed, NoBlock, blocksRead, readTo, stoppedAt, blockFrom, NthOf};
 
 // A block of so many bytes, with the slot of its signature; or the terminal block; or neither.
 pub enum BlockStep {

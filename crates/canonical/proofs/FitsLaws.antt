@@ -4,13 +4,14 @@ use mathlib.Core.List.{List}
 use Prim.Native.Nat.{ℕ}
 use native.Mathlib.Omega.{arith}
 use lib.ListN.{length}
-use Rattle.octets.specs.Parts.{put, Wrote}
+use Rattle.octets.specs.Parts.{put}
+use Rattle.octets.specs.Steps.Puts.{Wrote}
 use Rattle.format.specs.declared.Record.{Record}
-use Rattle.sizes.specs.InBuffer.{RecordInBuffer}
-use Rattle.sizes.specs.Sizes.{writtenParts}
+use Rattle.sizes.specs.Steps.InBuffer.{RecordInBuffer}
+use Rattle.sizes.specs.Steps.Sizes.{writtenParts}
 use Rattle.sizes.proofs.TotalLaws.{parts-are}
 use Rattle.sizes.proofs.WholeLaws.{record-inside, canonical-length}
-use Rattle.canonical.specs.Puts.{Room, RoomFor}
+use Rattle.canonical.specs.Steps.Puts.{Room, RoomFor}
 
 module _ {d out : List ℕ} {q : Record} (f : RoomFor d out q) where
   pub fits-inside : RecordInBuffer d q

@@ -16,9 +16,9 @@ use Rattle.format.specs.Network.{networkHead}
 use Rattle.format.specs.Bodies.{labelPlace, labelKind, writtenHead}
 use Rattle.format.specs.Contents.{bytesAt, volumeContents, networkContents, infoContents, bodiesOf}
 use Rattle.format.specs.Writing.{ifThere, bits, headerBytes, itemsBytes, textBytes, twoFields, labelFields, volumeBytes, networkBytes, infoBytes, stringBytes, blocksBytes, canonical}
-use Rattle.sizes.specs.InBuffer.{InBuffer, NetworkInBuffer, InfoInBuffer}
-use Rattle.sizes.specs.Sizes.{charactersIn, writtenText, writtenVolume, writtenNetwork, writtenInfo}
-use Rattle.canonical.specs.Layout.{magicBytes, markBytes, viewBytes, networkFieldBytes, networkNameBytes, infoFieldBytes, infoPieceBytes, stringsBytes}
+use Rattle.sizes.specs.Steps.InBuffer.{InBuffer, NetworkInBuffer, InfoInBuffer}
+use Rattle.sizes.specs.Steps.Sizes.{charactersIn, writtenText, writtenVolume, writtenNetwork, writtenInfo}
+use Rattle.canonical.specs.Steps.Layout.{magicBytes, markBytes, viewBytes, networkFieldBytes, networkNameBytes, infoFieldBytes, infoPieceBytes, stringsBytes}
 use Rattle.sizes.specs.declared.NetworkStarts.{NetworkStarts}
 use Rattle.sizes.specs.declared.InfoStarts.{InfoStarts}
 use Rattle.sizes.proofs.ExactLaws.{NetworkExact, InfoExact}

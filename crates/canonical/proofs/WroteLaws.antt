@@ -3,11 +3,12 @@ use mathlib.Core.Path.{_≡_, refl, _∙_}
 use mathlib.Core.List.{List}
 use Prim.Native.Nat.{ℕ, _+_, _≤_}
 use lib.ListN.{length}
-use Rattle.octets.specs.Parts.{part, put, Wrote}
+use Rattle.octets.specs.Parts.{put}
+use Rattle.octets.specs.Steps.Puts.{part, Wrote}
 use Rattle.format.specs.declared.Place.{Place}
 use Rattle.format.specs.Contents.{bytesAt}
 use Rattle.format.proofs.BodyLaws.{body-part, part-length}
-use Rattle.sizes.specs.InBuffer.{InBuffer}
+use Rattle.sizes.specs.Steps.InBuffer.{InBuffer}
 use Rattle.sizes.proofs.SizeLaws.{length-body}
 
 module _ {d : List ℕ} {b : Place} (i : InBuffer d b) where

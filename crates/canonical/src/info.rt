@@ -12,16 +12,16 @@ ghost use mathlib.Core.Path.{_≡_};
 ghost use mathlib.Core.Bool.{cond};
 ghost use Prim.Native.Nat.{_+_, _≤_};
 ghost use lib.ListN.{length};
-ghost use Rattle.octets.specs.Parts.{Wrote};
+ghost use Rattle.octets.specs.Steps.Puts.{Wrote};
 ghost use Rattle.format.specs.Shortcut.{most};
 ghost use Rattle.format.specs.Bodies.{labelPlace};
 ghost use Rattle.format.specs.Contents.{volumeContents, networkContents, infoContents};
 ghost use Rattle.format.specs.Writing.{ifThere, labelFields, volumeBytes, networkBytes, infoBytes};
-ghost use Rattle.sizes.specs.InBuffer.{InBuffer, NetworkInBuffer, InfoInBuffer};
-ghost use Rattle.sizes.specs.Sizes.{writtenVolume, writtenNetwork, writtenInfo};
-ghost use Rattle.sizes.specs.Starts.{capped, networkStarts, infoStarts};
-ghost use Rattle.canonical.specs.Puts.{Room};
-ghost use Rattle.canonical.specs.Layout.{networkFieldBytes, networkNameBytes, namesSize, infoFieldBytes, infoPieceBytes, piecesSize};
+ghost use Rattle.sizes.specs.Steps.InBuffer.{InBuffer, NetworkInBuffer, InfoInBuffer};
+ghost use Rattle.sizes.specs.Steps.Sizes.{writtenVolume, writtenNetwork, writtenInfo};
+ghost use Rattle.sizes.specs.Steps.Starts.{capped, networkStarts, infoStarts};
+ghost use Rattle.canonical.specs.Steps.Puts.{Room};
+ghost use Rattle.canonical.specs.Steps.Layout.{networkFieldBytes, networkNameBytes, namesSize, infoFieldBytes, infoPieceBytes, piecesSize};
 
 // ---- VolumeID
 

@@ -15,14 +15,15 @@ use sizes::Starts;
 ghost use mathlib.Core.Path.{_≡_};
 ghost use Prim.Native.Nat.{_+_, _≤_};
 ghost use lib.ListN.{length};
-ghost use Rattle.octets.specs.Parts.{put, Wrote};
+ghost use Rattle.octets.specs.Parts.{put};
+ghost use Rattle.octets.specs.Steps.Puts.{Wrote};
 ghost use Rattle.format.specs.Contents.{bytesAt, bodiesOf};
 ghost use Rattle.format.specs.Writing.{ifThere, headerBytes, itemsBytes, stringBytes, blocksBytes, canonical};
-ghost use Rattle.sizes.specs.InBuffer.{InBuffer, StringsInBuffer};
-ghost use Rattle.sizes.specs.Sizes.{charactersIn, writtenIf, writtenStrings};
-ghost use Rattle.sizes.specs.Starts.{startsOf};
-ghost use Rattle.canonical.specs.Puts.{Room, RoomFor};
-ghost use Rattle.canonical.specs.Layout.{magicBytes, markBytes, viewBytes, stringsBytes};
+ghost use Rattle.sizes.specs.Steps.InBuffer.{InBuffer, StringsInBuffer};
+ghost use Rattle.sizes.specs.Steps.Sizes.{charactersIn, writtenIf, writtenStrings};
+ghost use Rattle.sizes.specs.Steps.Starts.{startsOf};
+ghost use Rattle.canonical.specs.Steps.Puts.{Room, RoomFor};
+ghost use Rattle.canonical.specs.Steps.Layout.{magicBytes, markBytes, viewBytes, stringsBytes};
 
 // ---- the header
 

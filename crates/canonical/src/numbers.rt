@@ -3,7 +3,7 @@ ghost use mathlib.Core.Bool.{cond};
 ghost use Prim.Native.Nat.{_+_, _≤_};
 ghost use lib.ListN.{length};
 ghost use Rattle.octets.specs.Numbers.{little};
-ghost use Rattle.octets.specs.Parts.{Wrote};
+ghost use Rattle.octets.specs.Steps.Puts.{Wrote};
 ghost use Rattle.format.specs.Writing.{twoFields};
 
 pub fn add_u16(out: &mut [u8], at: usize, n: u16) -> usize

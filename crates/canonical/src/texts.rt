@@ -4,12 +4,12 @@ use format::Place;
 ghost use Prim.Native.Nat.{_+_, _≤_};
 ghost use lib.ListN.{length, replicate};
 ghost use Rattle.octets.specs.Characters.{bytesOf};
-ghost use Rattle.octets.specs.Parts.{Wrote};
+ghost use Rattle.octets.specs.Steps.Puts.{Wrote};
 ghost use Rattle.format.specs.Contents.{bytesAt};
 ghost use Rattle.format.specs.Writing.{ifThere, textBytes};
-ghost use Rattle.sizes.specs.InBuffer.{InBuffer};
-ghost use Rattle.sizes.specs.Sizes.{writtenText, writtenTextIf};
-ghost use Rattle.canonical.specs.Puts.{Room};
+ghost use Rattle.sizes.specs.Steps.InBuffer.{InBuffer};
+ghost use Rattle.sizes.specs.Steps.Sizes.{writtenText, writtenTextIf};
+ghost use Rattle.canonical.specs.Steps.Puts.{Room};
 
 // The bytes of the body at its place in the body buffer d.
 pub fn put_body(out: &mut [u8], at: usize, d: &[u8], b: Place) -> usize

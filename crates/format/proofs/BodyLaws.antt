@@ -4,7 +4,7 @@ use mathlib.Core.List.{List}
 use Prim.Native.Nat.{ℕ, _+_, _≤_}
 use native.Mathlib.Omega.{arith}
 use lib.ListN.{length, drop, length-take, length-drop}
-use Rattle.octets.specs.Parts.{part}
+use Rattle.octets.specs.Steps.Puts.{part}
 use Rattle.octets.proofs.PartLaws.{part-in}
 use Rattle.format.specs.declared.Place.{Place}
 use Rattle.format.specs.Contents.{bytesAt}

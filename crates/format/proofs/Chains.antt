@@ -12,7 +12,8 @@ use Rattle.octets.specs.Numbers.{Bytes}
 use Rattle.octets.proofs.NumberLaws.{bytes-drop, bytes-append, bytes-nil}
 use Rattle.format.specs.declared.Fault.{Fault}
 use Rattle.format.specs.declared.Fault.the-variants.{Cut as CUT}
-use Rattle.format.specs.Tests.{Outcome, got, refused, Test, tests, all, Reader, andThen, chain, optional}
+use Rattle.format.specs.Tests.{Outcome, got, refused, Test, tests, Reader, andThen, chain, optional}
+use Rattle.format.specs.Steps.AllTests.{all}
 use Rattle.format.specs.Shortcut.{most}
 use Rattle.format.specs.Writing.{ifThere, writableIf}
 use Rattle.format.proofs.Bools.{and-true, and-both, and-assoc, by-order}

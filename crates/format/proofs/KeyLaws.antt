@@ -68,7 +68,7 @@ part-told (somePart w) (somePart v) h k x y e =
 
 -- ---- the whole key
 
-pub record Fits (k : Key) : Type 0 where
+pub record KeyFits (k : Key) : Type 0 where
   pub target : PartFits (k .target)
   pub arguments : PartFits (k .arguments)
   pub workdir : PartFits (k .workdir)
@@ -84,7 +84,7 @@ pub flag-small : (a : Bool) → oneOr0 a < 256
 flag-small true = omega arith
 flag-small false = omega arith
 
-pub key-told : (k l : Key) → Fits k → Fits l → keyBytes k ≡ keyBytes l → SameParts k l
+pub key-told : (k l : Key) → KeyFits k → KeyFits l → keyBytes k ≡ keyBytes l → SameParts k l
 unfolding keyBytes
 key-told k l h g e =
     let a = little-halves 1 (oneOr0 (k .unicode)) (oneOr0 (l .unicode)) _ _ (flag-small (k .unicode)) (flag-small (l .unicode)) e in
@@ -108,7 +108,7 @@ if-fits true w h = h
 if-fits false w h = tt
 
 -- nothing in it is longer than its length can say
-pub key-fits : (s : List ℕ) (c : Sections) → length s ≤ most → Fits (keyOf s c)
+pub key-fits : (s : List ℕ) (c : Sections) → length s ≤ most → KeyFits (keyOf s c)
 unfolding keyOf
 key-fits s c h =
     let r = recordOf c in

@@ -128,16 +128,3 @@ blocks p s = blocksFrom p 0 s
 abbrev pub firstPlace : List ℕ → ℕ → ℕ → List ℕ → Place
 firstPlace s signature p [] = noPlace
 firstPlace s signature p (n ∷ ns) = cond (eqb (u32At s (p + 4)) signature) (place p n) (firstPlace s signature (p + n) ns)
-
--- where this signature first stands, of blocks of these lengths from p on; 0 where it does not
-abbrev pub firstField : List ℕ → ℕ → ℕ → List ℕ → ℕ
-firstField s signature p [] = 0
-firstField s signature p (n ∷ ns) = cond (eqb (u32At s (p + 4)) signature) (p + 4) (firstField s signature (p + n) ns)
-
-abbrev pub firstsIn : List (ℕ × SizeRule) → List ℕ → ℕ → List ℕ → List ℕ
-firstsIn [] s p lengths = []
-firstsIn (r ∷ rs) s p lengths = firstField s (r .0) p lengths ∷ firstsIn rs s p lengths
-
--- the same of each signature of the table, by its slot
-unfoldable pub firsts : List ℕ → ℕ → List ℕ → List ℕ
-firsts s p lengths = firstsIn signatures s p lengths

@@ -3,16 +3,12 @@ use Prim.Native.Nat.{ℕ, _+_}
 use mathlib.Core.List.{List, [], _∷_, map}
 use mathlib.Core.Bool.{Bool, true, false, _&&_, cond}
 use lib.Dec.{leb}
-use Rattle.octets.specs.Characters.{bytesOf}
 use Rattle.format.specs.declared.Place.{Place}
 use Rattle.format.specs.declared.Label.{Label}
 use Rattle.format.specs.declared.Label.the-variants.{Byte, Unicode}
 use Rattle.format.specs.declared.Record.{Record}
 use Rattle.format.specs.Tests.{noPlace}
 use Rattle.format.specs.Presence.{itemsThere, infoThere, nameBit, relativeBit, workdirBit, argumentsBit, iconBit, stringThere, stringsUnicode, localThere, networkThere, localUnicodeThere, deviceThere, deviceUnicodeThere}
-use Rattle.format.specs.Volume.{labelLeast}
-use Rattle.format.specs.Network.{networkHead}
-use Rattle.format.specs.Shortcut.{sum}
 
 abbrev pub labelPlace : Label → Place
 labelPlace (Byte b) = b
@@ -92,28 +88,6 @@ placed n r = allInside n (map zeroed (bodyTable r))
 
 -- ---- the lengths, as written
 
--- the bytes beside a body: size and two zero bytes; terminator; count; terminal block
-abbrev pub beside : BodyKind → ℕ
-beside itemsKind = 4
-beside (textKind unicode) = bytesOf unicode 1
-beside (stringKind unicode) = 2
-beside blocksKind = 4
-
-abbrev pub writtenBody : BodyRow → ℕ
-writtenBody b = cond (b .there) (b .place .len + beside (b .kind)) 0
-
 -- LinkInfo's head as written, 0x1C bytes, or 0x24 with Unicode
 abbrev pub writtenHead : Bool → ℕ
 writtenHead long = cond long 0x24 0x1C
-
--- the heads of LinkInfo, VolumeID and the network link
-abbrev pub writtenHeads : Record → ℕ
-writtenHeads r =
-    cond (infoThere (r .header .flags))
-    (writtenHead (r .info .long)
-    + cond (localThere (r .info .flags)) (labelLeast (labelKind (r .info .volume .label))) 0
-    + cond (networkThere (r .info .flags)) (networkHead (r .info .network .unicode)) 0) 0
-
--- the length of the shortest form
-unfoldable pub writtenLength : Record → ℕ
-writtenLength r = 76 + writtenHeads r + sum (map writtenBody (bodyTable r))

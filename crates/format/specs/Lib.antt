@@ -20,3 +20,4 @@ pub mod Key
 pub mod Listing
 pub mod Demands
 pub mod Probes
+pub mod Steps

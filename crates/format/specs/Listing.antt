@@ -71,6 +71,6 @@ unfolding listing
 sectionPlace s name block = nth (cond (eqb name 8) block 0) (named name (listing s))
 
 -- the caller's own bytes there
-unfoldable pub shown : List ℕ → ℕ → ℕ → List ℕ
+unfoldable pub sectionBytes : List ℕ → ℕ → ℕ → List ℕ
 unfolding sectionPlace
-shown s name block = bytesAt s (sectionPlace s name block)
+sectionBytes s name block = bytesAt s (sectionPlace s name block)

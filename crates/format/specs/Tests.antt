@@ -1,7 +1,7 @@
 -- How a section is read: tests in the order given, each with the number that its failure gives; then what was read, and how many bytes it took.
 use Prim.Native.Nat.{ℕ, _+_, _/_, _%_, _^_}
 use mathlib.Core.List.{List, [], _∷_}
-use mathlib.Core.Bool.{Bool, true, false, cond, _&&_}
+use mathlib.Core.Bool.{Bool, true, false, cond}
 use lib.ListN.{drop}
 use lib.Dec.{eqb}
 use Rattle.format.specs.declared.Fault.{Fault}
@@ -40,10 +40,6 @@ b else f = record { holds = b; fault = f }
 abbrev pub tests : {A : Type 0} → ℕ → List Test → Outcome A → Outcome A
 tests p [] r = r
 tests p (t ∷ ts) r = cond (t .holds) (tests p ts r) (refused (t .fault) p)
-
-abbrev pub all : List Test → Bool
-all [] = true
-all (t ∷ ts) = t .holds && all ts
 
 -- ---- sections one after another
 

@@ -13,13 +13,14 @@ use Rattle.octets.specs.Numbers.{number, numberAt, u16At, u32At, u64At}
 use Rattle.octets.proofs.NumberLaws.{number-split}
 use Rattle.format.specs.declared.Header.{Header}
 use Rattle.format.specs.declared.Fault.the-variants.{Cut as CUT, Magic as MAGIC, Head as HEAD}
-use Rattle.format.specs.Tests.{Outcome, got, refused, all}
+use Rattle.format.specs.Tests.{Outcome, got, refused}
+use Rattle.format.specs.Steps.AllTests.{all}
 use Rattle.format.specs.Header.{classIdentifier, headerSizeOk, identifierOk, flagsOk, attributesOk, zerosFrom66, headTests, signed, headerFields}
 use Rattle.format.specs.Hotkey.{hotkeyOk}
 use Rattle.format.proofs.Bools.{and-true, and-both, same-truth, joined-every}
 use Rattle.format.proofs.Chains.{one-fault}
 use Rattle.header.specs.declared.HeaderTaken.the-variants.{Got, Refused}
-use Rattle.header.specs.Taken.{headerTaken, headerAt}
+use Rattle.header.specs.Steps.Taken.{headerTaken, headerAt}
 
 -- sixteen bytes are four numbers
 sixteen : (l : List ℕ) → 20 ≤ length l → numberAt 16 l 4 ≡ u32At l 4 + 4294967296 * (u32At l 8 + 4294967296 * (u32At l 12 + 4294967296 * u32At l 16))

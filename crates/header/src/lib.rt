@@ -5,10 +5,10 @@ use octets::Cursor;
 ghost use mathlib.Core.Path.{_≡_};
 ghost use Prim.Native.Nat.{_≤_};
 ghost use lib.ListN.{length};
-ghost use Rattle.format.specs.Tests.{all};
+ghost use Rattle.format.specs.Steps.AllTests.{all};
 ghost use Rattle.format.specs.Header.{headerSizeOk, identifierOk, flagsOk, attributesOk, zerosFrom66, headTests, headerFields, windowShown};
 ghost use Rattle.format.specs.Hotkey.{lowByteOk, highByteOk, hotkeyOk};
-ghost use Rattle.header.specs.Taken.{headerAt};
+ghost use Rattle.header.specs.Steps.Taken.{headerAt};
 
 // The header and the cursor after it, or why it is refused and where.
 pub enum HeaderTaken {
@@ -94,7 +94,7 @@ fn head_ok(l: &[u8]) -> bool
         & zeros_from_66(l)
 }
 
-fn fields(l: &[u8]) -> Header
+fn header_fields(l: &[u8]) -> Header
     requires { ⌜ 76 ≤ length (now l) ⌝ }
     ensures { λ r. ⌜ r ≡ headerFields (now (l .entry)) ⌝ }
 {
@@ -127,7 +127,7 @@ pub fn header(s: &[u8]) -> HeaderTaken
     if !head_ok(l) {
         return HeaderTaken::Refused(Fault::Head, 0);
     }
-    HeaderTaken::Got(fields(l), Cursor { at: 76 })
+    HeaderTaken::Got(header_fields(l), Cursor { at: 76 })
 }
 
 // The window that a show command asks for.

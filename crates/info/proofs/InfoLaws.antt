@@ -12,7 +12,8 @@ use Rattle.octets.specs.declared.Cursor.{Cursor}
 use Rattle.format.specs.declared.Fault.{Fault}
 use Rattle.format.specs.declared.Fault.the-variants.{Cut as CUT, Info as INFO, Piece as PIECE}
 use Rattle.format.specs.declared.Info.{Info}
-use Rattle.format.specs.Tests.{Outcome, got, refused, Test, _else_, tests, all}
+use Rattle.format.specs.Tests.{Outcome, got, refused, Test, _else_, tests}
+use Rattle.format.specs.Steps.AllTests.{all}
 use Rattle.format.specs.Pieces.{Piece, textPiece, absentZero, testsOf, apartTests}
 use Rattle.format.specs.Volume.{volumePiece}
 use Rattle.format.specs.Network.{networkPiece}
@@ -26,8 +27,8 @@ use Rattle.info.specs.declared.Text.{Text}
 use Rattle.info.specs.declared.VolumeFound.{VolumeFound}
 use Rattle.info.specs.declared.NetworkFound.{NetworkFound}
 use Rattle.info.specs.declared.Pieces.{Pieces}
-use Rattle.info.specs.Found.{fieldIf, pieceOk, textFound, volumeFound, networkFound, piecesFound}
-use Rattle.info.specs.Taken.{infoTaken, infoAt}
+use Rattle.info.specs.Steps.Found.{fieldIf, pieceOk, textFound, volumeFound, networkFound, piecesFound}
+use Rattle.info.specs.Steps.Taken.{infoTaken, infoAt}
 use Rattle.info.proofs.TestLaws.{judge, pieces-judged, info-faults}
 use Rattle.info.proofs.TextLaws.{text-field, zero-field}
 use Rattle.info.proofs.StructLaws.{first-number}

@@ -9,7 +9,8 @@ use lib.Dec.{leb, ltb}
 use borrow.Author.Tests.{not-true, not-false}
 use Rattle.octets.specs.Numbers.{u32At}
 use Rattle.format.specs.declared.Network.{Network}
-use Rattle.format.specs.Tests.{all, bit}
+use Rattle.format.specs.Tests.{bit}
+use Rattle.format.specs.Steps.AllTests.{all}
 use Rattle.format.specs.Pieces.{absentZero, uncut, apartTests}
 use Rattle.format.specs.Network.{hasDevice, networkUnicode, networkHead, networkPieces, networkHeadTests, networkRules, networkFields, networkPiece, networkAt, noNetwork, hasDeviceUnicode}
 use Rattle.format.proofs.Bools.{every-out, and-true, and-assoc, and-yes}
@@ -20,7 +21,7 @@ use Rattle.info.specs.declared.Text.{Text}
 use Rattle.info.specs.declared.NetworkFound.{NetworkFound}
 use Rattle.info.specs.declared.NetworkRead.{NetworkRead}
 use Rattle.info.specs.declared.NetworkRead.the-variants.{Good, Bad}
-use Rattle.info.specs.Found.{fieldIf, pieceFound, textFound, networkIf, networkIn, providerOf, makeNetwork, networkFound}
+use Rattle.info.specs.Steps.Found.{fieldIf, pieceFound, textFound, networkIf, networkIn, providerOf, makeNetwork, networkFound}
 use Rattle.info.proofs.TestLaws.{uncut-room, judge, pieces-judged}
 use Rattle.info.proofs.TextLaws.{text-body, text-field, zero-field}
 use Rattle.info.proofs.StructLaws.{Kind}

@@ -12,7 +12,8 @@ use Rattle.octets.specs.Numbers.{u32At, numberAt}
 use Rattle.octets.proofs.NumberLaws.{number-drop}
 use Rattle.octets.proofs.ChoiceLaws.{cond-first, cond-second}
 use Rattle.format.specs.declared.Place.{Place}
-use Rattle.format.specs.Tests.{Test, all, place, noPlace}
+use Rattle.format.specs.Tests.{Test, place, noPlace}
+use Rattle.format.specs.Steps.AllTests.{all}
 use Rattle.format.specs.Pieces.{Piece, structTests, span}
 use Rattle.format.proofs.Bools.{and-true}
 use Rattle.format.proofs.Chains.{all-pass}
@@ -20,7 +21,7 @@ use Rattle.format.proofs.Holds.{struct-holds}
 use Rattle.format.proofs.PieceLaws.{pieceAt}
 use Rattle.info.specs.declared.StructEnd.{StructEnd}
 use Rattle.info.specs.declared.StructEnd.the-variants.{At, Outside}
-use Rattle.info.specs.Found.{EndSmall, pieceOk, pieceFound, endAt}
+use Rattle.info.specs.Steps.Found.{EndSmall, pieceOk, pieceFound, endAt}
 use Rattle.info.proofs.TestLaws.{found-absent, found-not, found-is}
 
 -- ---- a structure of LinkInfo as a piece, and what it says

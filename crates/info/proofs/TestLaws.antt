@@ -10,7 +10,8 @@ use borrow.Author.Tests.{le-leb, leb-true, eqb-true}
 use Rattle.octets.specs.Numbers.{u32At}
 use Rattle.format.specs.declared.Place.{Place}
 use Rattle.format.specs.declared.Fault.the-variants.{Piece as PIECE}
-use Rattle.format.specs.Tests.{Test, _else_, all, noPlace}
+use Rattle.format.specs.Tests.{Test, _else_, noPlace}
+use Rattle.format.specs.Steps.AllTests.{all}
 use Rattle.format.specs.Pieces.{Piece, textTests, uncut, testsOf, eachOk, span, apart, apartTests, pieceTests}
 use Rattle.format.specs.Volume.{volumeTests}
 use Rattle.format.specs.Network.{networkUnicode, networkHead, networkPieces, networkHeadTests, networkTests}
@@ -18,7 +19,7 @@ use Rattle.format.specs.Info.{infoHead, infoPieces}
 use Rattle.format.specs.Writing.{every}
 use Rattle.format.proofs.Bools.{and-true, and-assoc, and-yes}
 use Rattle.format.proofs.Chains.{all-append, Faults, no-true}
-use Rattle.info.specs.Found.{pieceOk, foundSpan, pieceFound}
+use Rattle.info.specs.Steps.Found.{pieceOk, foundSpan, pieceFound}
 
 -- ---- conjunctions
 

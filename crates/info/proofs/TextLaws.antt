@@ -7,7 +7,8 @@ use native.Mathlib.Omega.{arith}
 use lib.ListN.{length, drop, length-drop}
 use borrow.Author.Tests.{ltb-true, le-leb, lt-leb, not-true, not-false}
 use Rattle.octets.specs.Numbers.{u32At}
-use Rattle.octets.specs.Characters.{bytesOf, characters, beforeZero, zeroFrom}
+use Rattle.octets.specs.Characters.{bytesOf, characters, beforeZero}
+use Rattle.octets.specs.Steps.Scans.{zeroFrom}
 use Rattle.octets.specs.declared.Zero.{Zero}
 use Rattle.octets.specs.declared.Zero.the-variants.{After, Nowhere}
 use Rattle.octets.proofs.CharacterLaws.{characters-fit, bytes-of-le, bytes-of-add}
@@ -15,7 +16,7 @@ use Rattle.octets.proofs.ZeroLaws.{zero-after, zero-nowhere}
 use Rattle.format.specs.Tests.{place, noPlace}
 use Rattle.format.specs.Pieces.{textEnds, textLength, textPiece, textPlace, absentZero}
 use Rattle.info.specs.declared.Text.{Text}
-use Rattle.info.specs.Found.{EndSmall, fieldIf, pieceOk, makeText, textFound}
+use Rattle.info.specs.Steps.Found.{EndSmall, fieldIf, pieceOk, makeText, textFound}
 use Rattle.info.proofs.TestLaws.{found-absent, found-not, found-is}
 
 -- ---- a string inside its part

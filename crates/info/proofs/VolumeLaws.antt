@@ -10,7 +10,7 @@ use borrow.Author.Tests.{le-leb, lt-leb, ltb-true, ltb-false, not-true, not-fals
 use Rattle.octets.specs.Numbers.{u32At}
 use Rattle.format.specs.declared.Label.{Label}
 use Rattle.format.specs.declared.Volume.{Volume}
-use Rattle.format.specs.Tests.{all}
+use Rattle.format.specs.Steps.AllTests.{all}
 use Rattle.format.specs.Pieces.{uncut, textPiece}
 use Rattle.format.specs.Volume.{labelUnicode, labelLeast, labelOf, volumeRules, volumeFields, volumeAt, volumePiece, noVolume}
 use Rattle.format.proofs.Bools.{or-true, and-no}
@@ -18,7 +18,7 @@ use Rattle.info.specs.declared.Text.{Text}
 use Rattle.info.specs.declared.VolumeFound.{VolumeFound}
 use Rattle.info.specs.declared.VolumeRead.{VolumeRead}
 use Rattle.info.specs.declared.VolumeRead.the-variants.{Good, Bad}
-use Rattle.info.specs.Found.{pieceOk, pieceFound, labelAt, textFound, makeVolume, volumeFound, volumeIn}
+use Rattle.info.specs.Steps.Found.{pieceOk, pieceFound, labelAt, textFound, makeVolume, volumeFound, volumeIn}
 use Rattle.info.proofs.TestLaws.{or-false, uncut-room}
 use Rattle.info.proofs.TextLaws.{text-ok, text-body}
 use Rattle.info.proofs.StructLaws.{Kind}

@@ -16,14 +16,15 @@ ghost use mathlib.Core.List.{[], _∷_};
 ghost use Prim.Native.Nat.{_+_, _≤_};
 ghost use lib.ListN.{length};
 ghost use Rattle.octets.specs.Characters.{bytesOf};
-ghost use Rattle.format.specs.Tests.{bit, all, noPlace};
+ghost use Rattle.format.specs.Tests.{bit, noPlace};
+ghost use Rattle.format.specs.Steps.AllTests.{all};
 ghost use Rattle.format.specs.Pieces.{absentZero, uncut, apart, apartTests};
 ghost use Rattle.format.specs.Volume.{labelLeast, noVolume};
 ghost use Rattle.format.specs.Network.{networkHead, networkHeadTests, noNetwork};
 ghost use Rattle.format.specs.Info.{infoHeadTests};
-ghost use Rattle.info.specs.Found.{EndSmall, fieldIf, makeText, textFound, endAt, labelAt, volumeIn, makeVolume, volumeFound};
-ghost use Rattle.info.specs.Found.{networkIf, networkIn, providerOf, makeNetwork, networkFound, piecesFound};
-ghost use Rattle.info.specs.Taken.{infoAt};
+ghost use Rattle.info.specs.Steps.Found.{EndSmall, fieldIf, makeText, textFound, endAt, labelAt, volumeIn, makeVolume, volumeFound};
+ghost use Rattle.info.specs.Steps.Found.{networkIf, networkIn, providerOf, makeNetwork, networkFound, piecesFound};
+ghost use Rattle.info.specs.Steps.Taken.{infoAt};
 
 // LinkInfo and the cursor after it, or why it is refused and where.
 pub enum InfoTaken {

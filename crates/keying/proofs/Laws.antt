@@ -9,8 +9,10 @@ use lib.Seq.{take-take, drop-drop}
 use lib.Dec.{leb}
 use borrow.Author.Tests.{le-leb, lt-leb, ltb-false}
 use Rattle.octets.specs.Numbers.{little}
-use Rattle.octets.specs.Characters.{beforeZero, zeroFrom}
-use Rattle.octets.specs.Parts.{part, put, Wrote}
+use Rattle.octets.specs.Characters.{beforeZero}
+use Rattle.octets.specs.Steps.Scans.{zeroFrom}
+use Rattle.octets.specs.Parts.{put}
+use Rattle.octets.specs.Steps.Puts.{part, Wrote}
 use Rattle.octets.specs.declared.Zero.{Zero}
 use Rattle.octets.specs.declared.Zero.the-variants.{After, Nowhere}
 use Rattle.octets.proofs.NumberLaws.{length-little}
@@ -25,7 +27,8 @@ use Rattle.format.specs.declared.Fault.{Fault}
 use Rattle.format.specs.declared.Fault.the-variants.{Room as ROOM}
 use Rattle.format.specs.declared.Verdict.the-variants.{Accepted, Refused}
 use Rattle.format.specs.Tests.{got, refused, _else_, tests, bit, oneOr0, place, noPlace}
-use Rattle.format.specs.Blocks.{blocks, firstField, firsts}
+use Rattle.format.specs.Blocks.{blocks}
+use Rattle.format.specs.Steps.Firsts.{firstField, firsts}
 use Rattle.format.specs.Shortcut.{most, shortcut, reading}
 use Rattle.format.specs.Contents.{bytesAt}
 use Rattle.format.specs.Writing.{outputOf}
@@ -39,15 +42,15 @@ use Rattle.format.proofs.Demands.{accepted-whole}
 use Rattle.format.proofs.KeyDemands.{record-tells}
 use Rattle.format.proofs.KeyRoom.{made}
 use Rattle.format.proofs.KeyLaws.{flag-small}
-use Rattle.blocks.specs.Walk.{blockFrom}
+use Rattle.blocks.specs.Steps.Walk.{blockFrom}
 use Rattle.blocks.proofs.FirstLaws.{first-block}
-use Rattle.reader.specs.Finish.{FirstsOf}
+use Rattle.reader.specs.Steps.Finish.{FirstsOf}
 use Rattle.target.specs.declared.Texts.{Texts}
-use Rattle.target.specs.Texts.{Stands, textsLength, textsBytes, textsOf}
-use Rattle.target.proofs.Laws.{Inside, texts-inside, texts-stand, texts-are, texts-long}
+use Rattle.target.specs.Steps.Texts.{Stands, textsLength, textsBytes, textsOf}
+use Rattle.target.proofs.Laws.{TextsInside, texts-inside, texts-stand, texts-are, texts-long}
 use Rattle.keying.specs.declared.KeyPart.{KeyPart}
 use Rattle.keying.specs.declared.KeyParts.{KeyParts}
-use Rattle.keying.specs.Shown.{only, keyPart, partShown, partLength, PartStands, TextOf, BlockAt, EnvironmentOf, keyShown, keyLength, KeyStands}
+use Rattle.keying.specs.Steps.KeyParts.{only, keyPart, partShown, partLength, PartStands, TextOf, BlockAt, EnvironmentOf, keyShown, keyLength, KeyStands}
 
 -- ---- one part
 
@@ -231,7 +234,7 @@ module _ (s : List ℕ) (r : Record) (e : Accepts s r) where
         is = ap (environment s) (F .block) ∙ ap (λ (y : Key). y .environment) (sym (m .is));
       })
 
-  pub accepted-texts : Inside s r
+  pub accepted-texts : TextsInside s r
   unfolding Accepts
   accepted-texts = texts-inside s r (length s) e
 

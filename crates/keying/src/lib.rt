@@ -9,13 +9,13 @@ ghost use mathlib.Core.Path.{_≡_};
 ghost use Prim.Native.Nat.{_+_, _≤_};
 ghost use lib.ListN.{length};
 ghost use Rattle.octets.specs.Numbers.{little};
-ghost use Rattle.octets.specs.Parts.{Wrote};
+ghost use Rattle.octets.specs.Steps.Puts.{Wrote};
 ghost use Rattle.format.specs.Tests.{oneOr0};
 ghost use Rattle.format.specs.Key.{partBytes, keyBytes, keyIn, keyAnswer, keyOutput};
 ghost use Rattle.format.specs.Demands.{Accepts};
-ghost use Rattle.blocks.specs.Walk.{blockFrom};
-ghost use Rattle.reader.specs.Finish.{FirstsOf};
-ghost use Rattle.keying.specs.Shown.{only, keyPart, partShown, partLength, PartStands, TextOf, BlockAt, EnvironmentOf, keyShown, keyLength, KeyStands};
+ghost use Rattle.blocks.specs.Steps.Walk.{blockFrom};
+ghost use Rattle.reader.specs.Steps.Finish.{FirstsOf};
+ghost use Rattle.keying.specs.Steps.KeyParts.{only, keyPart, partShown, partLength, PartStands, TextOf, BlockAt, EnvironmentOf, keyShown, keyLength, KeyStands};
 
 // One of the four parts: whether it is there, and where its texts stand.
 struct KeyPart {

@@ -7,9 +7,10 @@ use native.Mathlib.Numerals.{add-one}
 use lib.ListN.{length, take, getD, set}
 use lib.Seq.{take-suc, take-all}
 use borrow.Author.Tests.{lt-ltb, le-ltb}
-use Rattle.octets.specs.Parts.{put, Wrote}
+use Rattle.octets.specs.Parts.{put}
+use Rattle.octets.specs.Steps.Puts.{Wrote}
 use Rattle.octets.proofs.WroteLaws.{wrote-none, wrote-one, kept, join, reword}
-use Rattle.lines.specs.Hex.{hexDigit, hexOf}
+use Rattle.lines.specs.Steps.Hex.{hexDigit, hexOf}
 
 pub digit-low : (x : ℕ) → x < 10 → 48 + x ≡ hexDigit x
 unfolding hexDigit

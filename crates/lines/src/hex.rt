@@ -3,7 +3,7 @@ ghost use mathlib.Core.Path.{_≡_};
 ghost use Prim.Native.Nat.{_*_, _≤_, _<_};
 ghost use lib.ListN.{length};
 ghost use Rattle.octets.specs.Parts.{put};
-ghost use Rattle.lines.specs.Hex.{hexDigit, hexOf};
+ghost use Rattle.lines.specs.Steps.Hex.{hexDigit, hexOf};
 
 fn digit(x: u8) -> u8
     requires { ⌜ x < 16 ⌝ }

@@ -6,7 +6,7 @@ use native.Mathlib.Omega.{arith}
 use lib.ListN.{length}
 use borrow.Author.Tests.{le-leb, lt-leb, leb-true, leb-false}
 use Rattle.octets.specs.Numbers.{numberAt}
-use Rattle.octets.specs.Cursors.{inside, taken, skipped}
+use Rattle.octets.specs.Steps.Cursors.{inside, taken, skipped}
 use Rattle.octets.specs.declared.Cursor.{Cursor}
 use Rattle.octets.specs.declared.Took.{Took}
 use Rattle.octets.specs.declared.Took.the-variants.{Number, Cut}

@@ -9,7 +9,8 @@ use lib.ListN.{length, take, drop, getD, set, length-append, length-drop}
 use lib.Seq.{paste, paste-zero, paste-suc, take-length, length-take-le, take-at, drop-append-add, drop-drop, set-split}
 use borrow.Author.Tests.{le-leb, lt-leb}
 use Rattle.octets.specs.Numbers.{little}
-use Rattle.octets.specs.Parts.{part, put}
+use Rattle.octets.specs.Parts.{put}
+use Rattle.octets.specs.Steps.Puts.{part}
 use Rattle.octets.proofs.NumberLaws.{length-little}
 
 -- ---- parts

@@ -5,7 +5,8 @@ use Prim.Native.Nat.{ℕ, _+_, _≤_}
 use native.Mathlib.Omega.{arith}
 use lib.ListN.{length, set, length-append, take-append-drop}
 use Rattle.octets.specs.Numbers.{little}
-use Rattle.octets.specs.Parts.{put, Wrote}
+use Rattle.octets.specs.Parts.{put}
+use Rattle.octets.specs.Steps.Puts.{Wrote}
 use Rattle.octets.proofs.NumberLaws.{length-little}
 use Rattle.octets.proofs.PartLaws.{put-put, length-put, put-one}
 

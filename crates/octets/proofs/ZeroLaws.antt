@@ -9,8 +9,9 @@ use lib.Seq.{drop-drop}
 use lib.Dec.{eqb, leb·suc-suc}
 use borrow.Author.Tests.{lt-ltb, eqb-false, not-true, not-false}
 use Rattle.octets.specs.Numbers.{number, numberAt}
-use Rattle.octets.specs.Characters.{bytesOf, units, characters, beforeZero, hasZero, zeroFrom}
-use Rattle.octets.specs.Scans.{scanOn, scanAt, other, others, Passed}
+use Rattle.octets.specs.Characters.{bytesOf, units, characters, beforeZero, hasZero}
+use Rattle.octets.specs.Steps.Scans.{zeroFrom}
+use Rattle.octets.specs.Steps.Scans.{scanOn, scanAt, other, others, Passed}
 use Rattle.octets.specs.declared.Zero.{Zero}
 use Rattle.octets.specs.declared.Zero.the-variants.{After, Nowhere}
 use Rattle.octets.proofs.AndLaws.{and-true, and-assoc, and-yes}

@@ -1,11 +1,9 @@
 -- Characters of one byte or, in Unicode, of a 16-bit unit; and the first zero one.
 use Prim.Native.Nat.{ℕ, zero, suc, _+_, _*_}
 use mathlib.Core.List.{List, [], _∷_}
-use mathlib.Core.Bool.{Bool, true, false, cond}
-use lib.ListN.{length, drop}
+use mathlib.Core.Bool.{Bool, true, false}
+use lib.ListN.{length}
 use lib.Dec.{ltb}
-use Rattle.octets.specs.declared.Zero.{Zero}
-use Rattle.octets.specs.declared.Zero.the-variants.{After, Nowhere}
 
 -- how many bytes n characters are
 abbrev pub bytesOf : Bool → ℕ → ℕ
@@ -31,7 +29,3 @@ beforeZero (suc a ∷ l) = suc (beforeZero l)
 
 abbrev pub hasZero : List ℕ → Bool
 hasZero l = ltb (beforeZero l) (length l)
-
--- what a scan from the place i on finds
-unfoldable pub zeroFrom : Bool → List ℕ → ℕ → Zero
-zeroFrom unicode s i = let l = characters unicode (drop i s) in cond (hasZero l) (After (beforeZero l)) Nowhere

@@ -1,5 +1,4 @@
 pub mod Numbers
 pub mod Characters
-pub mod Scans
-pub mod Cursors
 pub mod Parts
+pub mod Steps

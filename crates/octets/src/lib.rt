@@ -8,9 +8,11 @@ ghost use mathlib.Core.Bool.{true, false};
 ghost use Prim.Native.Nat.{_+_, _≤_, _<_};
 ghost use lib.ListN.{length};
 ghost use Rattle.octets.specs.Numbers.{u16At, u32At, u64At, little};
-ghost use Rattle.octets.specs.Characters.{characters, hasZero, zeroFrom};
-ghost use Rattle.octets.specs.Cursors.{taken, skipped};
-ghost use Rattle.octets.specs.Parts.{part, put};
+ghost use Rattle.octets.specs.Characters.{characters, hasZero};
+ghost use Rattle.octets.specs.Steps.Scans.{zeroFrom};
+ghost use Rattle.octets.specs.Steps.Cursors.{taken, skipped};
+ghost use Rattle.octets.specs.Parts.{put};
+ghost use Rattle.octets.specs.Steps.Puts.{part};
 
 // Where reading stands. It goes by value and comes back with each answer.
 pub struct Cursor {

@@ -3,7 +3,7 @@ ghost use mathlib.Core.Path.{_≡_};
 ghost use mathlib.Core.Bool.{true, false};
 ghost use Prim.Native.Nat.{_+_, _≤_};
 ghost use lib.ListN.{length};
-ghost use Rattle.octets.specs.Scans.{others, Passed};
+ghost use Rattle.octets.specs.Steps.Scans.{others, Passed};
 
 fn four_bytes(s: &[u8], i: usize) -> bool
     requires { ⌜ i + 4 ≤ length (now s) ⌝ }

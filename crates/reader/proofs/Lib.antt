@@ -1,4 +1,4 @@
 pub mod Runs
 pub mod StepLaws
 pub mod OutlineLaws
-pub mod Once
+pub mod OneOutcome

@@ -19,10 +19,10 @@ use Rattle.format.specs.declared.Verdict.{Verdict}
 use Rattle.format.specs.declared.Verdict.the-variants.{Accepted, Refused as Stopped}
 use Rattle.format.specs.Tests.{Outcome, got, refused, Test, _else_, tests, bit, place}
 use Rattle.format.specs.Header.{headerRules, headerFields, header}
-use Rattle.format.specs.Blocks.{firsts}
+use Rattle.format.specs.Steps.Firsts.{firsts}
 use Rattle.format.specs.Shortcut.{Section, Tail, Sections, most, tail, sections, shortcut, recordOf, reading, sum}
 use Rattle.format.proofs.Chains.{tests-elim, got-elim}
-use Rattle.header.specs.Taken.{headerTaken, headerAt}
+use Rattle.header.specs.Steps.Taken.{headerTaken, headerAt}
 use Rattle.header.specs.declared.HeaderTaken.{HeaderTaken}
 use Rattle.header.specs.declared.HeaderTaken.the-variants.{Got, Refused}
 use Rattle.reader.specs.declared.Next.{Next}
@@ -32,8 +32,8 @@ use Rattle.reader.specs.declared.SectionEnds.{SectionEnds}
 use Rattle.reader.specs.declared.Step.{Step}
 use Rattle.reader.specs.declared.InfoStep.{InfoStep}
 use Rattle.reader.specs.declared.BlocksStep.{BlocksStep}
-use Rattle.reader.specs.Steps.{itemsStep, stringStep, infoStep, blocksStep, atOf, endsOf, outlineFrom}
-use Rattle.reader.specs.Finish.{refusedAt, finished, outlineOff, outlineAfter, outlineOf, FirstsOf}
+use Rattle.reader.specs.Steps.EachSection.{itemsStep, stringStep, infoStep, blocksStep, atOf, endsOf, outlineFrom}
+use Rattle.reader.specs.Steps.Finish.{refusedAt, finished, outlineOff, outlineAfter, outlineOf, FirstsOf}
 use Rattle.reader.proofs.Runs.{Reached, Runs, sectionOf, then-from, on-not-off}
 use Rattle.reader.proofs.StepLaws.{items-from, string-from, info-from, BlocksFact, blocks-from}
 
@@ -323,7 +323,7 @@ module _ (s : List ℕ) where
               let g = header-got s i refl in
               let y : o ≡ outline s h = x ∙ ap (outlineFrom s h) (g .at) in
               rw y (outline-first s h c (ap (λ (z : Outline). z .next) (sym y) ∙ k))
-          after (Refused f) i x = absurd (on-not-off k (ap (λ (z : Outline). z .next) x))
+          after (Refused f p) i x = absurd (on-not-off k (ap (λ (z : Outline). z .next) x))
 
           go : (b : Bool) → o ≡ cond b (outlineAfter s (headerAt s)) (outlineOff LONG 65536) → FirstsOf s (o .held) (o .firsts)
           go true x = after (headerAt s) refl x

@@ -13,7 +13,7 @@ use Rattle.format.specs.Tests.{got, refused, Reader, _then_}
 use Rattle.format.specs.Shortcut.{Section, found, sectionIf, absent}
 use Rattle.reader.specs.declared.Next.{Next}
 use Rattle.reader.specs.declared.Next.the-variants.{On, Off}
-use Rattle.reader.specs.Steps.{atOf}
+use Rattle.reader.specs.Steps.EachSection.{atOf}
 
 -- P read a value from p on, and ended at e
 pub record Reached {A : Type 0} (s : List ℕ) (P : Reader A) (p e : ℕ) (X : A → Type 0) : Type 0 where

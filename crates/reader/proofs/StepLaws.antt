@@ -12,15 +12,16 @@ use Rattle.format.specs.Tests.{Outcome, got, refused, place, noPlace, Reader}
 use Rattle.format.specs.Items.{items}
 use Rattle.format.specs.Info.{info, noInfo}
 use Rattle.format.specs.Strings.{string}
-use Rattle.format.specs.Blocks.{blocks, firsts}
+use Rattle.format.specs.Blocks.{blocks}
+use Rattle.format.specs.Steps.Firsts.{firsts}
 use Rattle.format.specs.Shortcut.{Section, found, sectionIf, sum}
-use Rattle.sections.specs.Taken.{placeTaken, stringAt, itemsAt}
-use Rattle.info.specs.Taken.{infoTaken, infoAt}
-use Rattle.blocks.specs.Walk.{blocksTaken, firstsBy, blocksRead}
+use Rattle.single.specs.Steps.Taken.{placeTaken, stringAt, itemsAt}
+use Rattle.info.specs.Steps.Taken.{infoTaken, infoAt}
+use Rattle.blocks.specs.Steps.Walk.{blocksTaken, firstsBy, blocksRead}
 use Rattle.reader.specs.declared.Next.{Next}
 use Rattle.reader.specs.declared.Next.the-variants.{On, Off}
 use Rattle.reader.specs.declared.BlocksStep.{BlocksStep}
-use Rattle.reader.specs.Steps.{step, stepInfo, settled, itemsOn, itemsStep, stringOn, stringStep, settledInfo, infoOn, infoStep, settledBlocks, blocksOn, blocksStep, atOf}
+use Rattle.reader.specs.Steps.EachSection.{step, stepInfo, settled, itemsOn, itemsStep, stringOn, stringStep, settledInfo, infoOn, infoStep, settledBlocks, blocksOn, blocksStep, atOf}
 use Rattle.reader.proofs.Runs.{Runs, on-not-off, sectionOf, Stepped, section-runs, From}
 
 -- ---- what a section leads to

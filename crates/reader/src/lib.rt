@@ -16,9 +16,9 @@ ghost use lib.ListN.{length};
 ghost use Rattle.format.specs.Info.{noInfo};
 ghost use Rattle.format.specs.Shortcut.{reading};
 ghost use Rattle.format.specs.Tests.{noPlace};
-ghost use Rattle.blocks.specs.Walk.{noFirsts};
-ghost use Rattle.reader.specs.Steps.{step, stepInfo, settled, itemsOn, itemsStep, stringOn, stringStep, infoOn, infoStep, stepBlocks, blocksOn, blocksStep, atOf, endsOf, outlineFrom};
-ghost use Rattle.reader.specs.Finish.{refusedAt, finished, outlineOff, outlineOf};
+ghost use Rattle.blocks.specs.Steps.Walk.{noFirsts};
+ghost use Rattle.reader.specs.Steps.EachSection.{step, stepInfo, settled, itemsOn, itemsStep, stringOn, stringStep, infoOn, infoStep, stepBlocks, blocksOn, blocksStep, atOf, endsOf, outlineFrom};
+ghost use Rattle.reader.specs.Steps.Finish.{refusedAt, finished, outlineOff, outlineOf};
 
 // Going on from the cursor, or refused with a fault at a position.
 pub enum Next {
@@ -97,7 +97,7 @@ fn items_on(s: &[u8], present: bool, c: Cursor) -> Step
             held: format::NO_PLACE,
         };
     }
-    settle(sections::items(s, c))
+    settle(single::items(s, c))
 }
 
 fn items_step(s: &[u8], present: bool, next: Next) -> Step
@@ -118,7 +118,7 @@ fn string_on(s: &[u8], present: bool, unicode: bool, c: Cursor) -> Step
             held: format::NO_PLACE,
         };
     }
-    settle(sections::string(s, c, unicode))
+    settle(single::string(s, c, unicode))
 }
 
 fn string_step(s: &[u8], present: bool, unicode: bool, next: Next) -> Step

@@ -14,7 +14,7 @@ use Rattle.format.specs.Shortcut.{reading}
 use Rattle.format.specs.Writing.{writeAnswer, writeOutput}
 use Rattle.fields.specs.Fields.{fieldCount, fieldsOf, areRecord, recordFrom}
 use Rattle.scheduler.specs.Code.{codeOf}
-use Rattle.scheduler.specs.Fields.{FIELDS, VALUES, readCode, readFields, writeCode, writtenFields}
+use Rattle.scheduler.specs.Records.{FIELDS, VALUES, readCode, readFields, writeCode, writtenFields}
 use Rattle.scheduler.proofs.PositionLaws.{check-small}
 use Rattle.scheduler.proofs.CodeLaws.{accepted-small, accepted-code}
 

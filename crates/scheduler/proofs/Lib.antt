@@ -1,4 +1,4 @@
 pub mod PositionLaws
 pub mod CodeLaws
 pub mod FieldLaws
-pub mod Once
+pub mod OneOutcome

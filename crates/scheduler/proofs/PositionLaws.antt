@@ -35,7 +35,7 @@ use Rattle.format.proofs.AcceptedLaws.{shortcut-whole}
 use Rattle.format.proofs.TargetLaws.{text-small}
 use Rattle.format.proofs.Demands.{accepted-whole}
 use Rattle.format.proofs.KeyRoom.{key-short}
-use Rattle.writable.specs.Sections.{sectionTests}
+use Rattle.writable.specs.Steps.Sections.{sectionTests}
 use Rattle.writable.proofs.TestLaws.{every-last}
 
 -- what is read from p on lies inside the l bytes there, and so does a refusal

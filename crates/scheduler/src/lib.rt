@@ -8,7 +8,7 @@ ghost use Rattle.format.specs.Target.{targetAnswer, targetOutput};
 ghost use Rattle.format.specs.Key.{keyAnswer, keyOutput};
 ghost use Rattle.format.specs.Listing.{sectionPlace};
 ghost use Rattle.scheduler.specs.Code.{codeOf, sectionCode};
-ghost use Rattle.scheduler.specs.Fields.{readCode, readFields, writeCode, writtenFields};
+ghost use Rattle.scheduler.specs.Records.{readCode, readFields, writeCode, writtenFields};
 
 fn code_of(v: Verdict) -> u64
     requires { ⌜ answerValue v ≤ 131073 ⌝ }

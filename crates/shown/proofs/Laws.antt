@@ -7,7 +7,7 @@ use native.Mathlib.Omega.{arith}
 use lib.ListN.{length, drop}
 use lib.Dec.{leb, eqb}
 use borrow.Author.Tests.{leb-true, leb-false, eq-eqb, ne-eqb}
-use Rattle.octets.specs.Parts.{part}
+use Rattle.octets.specs.Steps.Puts.{part}
 use Rattle.octets.specs.declared.Cursor.{Cursor}
 use Rattle.octets.proofs.PartLaws.{part-in}
 use Rattle.format.specs.declared.Fault.{Fault}
@@ -18,20 +18,20 @@ use Rattle.format.specs.Tests.{Outcome, got, refused, bit, place, noPlace}
 use Rattle.format.specs.Header.{header}
 use Rattle.format.specs.Blocks.{blocks}
 use Rattle.format.specs.Shortcut.{Section, Tail, Sections, most, shortcut, sum}
-use Rattle.format.specs.Listing.{Row, EndToEnd, row, blockRows, rowsOf, rowsBy, listing, named, nth, sectionPlace, shown}
-use Rattle.header.specs.Taken.{headerAt}
+use Rattle.format.specs.Listing.{Row, EndToEnd, row, blockRows, rowsOf, rowsBy, listing, named, nth, sectionPlace, sectionBytes}
+use Rattle.header.specs.Steps.Taken.{headerAt}
 use Rattle.header.specs.declared.HeaderTaken.{HeaderTaken}
 use Rattle.header.specs.declared.HeaderTaken.the-variants.{Got, Refused}
-use Rattle.blocks.specs.Walk.{nthPlace, NthOf}
+use Rattle.blocks.specs.Steps.Walk.{nthPlace, NthOf}
 use Rattle.format.proofs.BlockLaws.{blocks-walked}
 use Rattle.format.proofs.AcceptedLaws.{shortcut-whole}
 use Rattle.format.proofs.FoundLaws.{read-end-to-end}
 use Rattle.format.proofs.Demands.{ahead}
 use Rattle.reader.specs.declared.Next.the-variants.{On, Off}
 use Rattle.reader.specs.declared.Outline.{Outline}
-use Rattle.reader.specs.Steps.{atOf, outlineFrom}
-use Rattle.reader.specs.Finish.{outlineOff, outlineAfter, outlineOf}
-use Rattle.shown.specs.Asked.{between}
+use Rattle.reader.specs.Steps.EachSection.{atOf, outlineFrom}
+use Rattle.reader.specs.Steps.Finish.{outlineOff, outlineAfter, outlineOf}
+use Rattle.shown.specs.Steps.Asked.{between}
 use Rattle.reader.proofs.Runs.{sectionOf, on-not-off}
 use Rattle.reader.proofs.OutlineLaws.{outline, Outlined, header-got, header-refused, headerSection, header-held, outline-runs, sections-refused, sections-got, shortcut-refused, shortcut-ends, header-refused-shortcut, long-shortcut}
 
@@ -284,8 +284,8 @@ section-inside s name block = go (shortcut s) refl
         rw i (nth-inside (cond (eqb name 8) block 0) name 0 (length s) (rowsOf c) (rw (w .all) at (read-end-to-end s c n (w .read))))
     go (refused f p) i = rw i (omega arith)
 
-pub section-shown : (s : List ℕ) (name block : ℕ) {b : Place} {r : List ℕ} → b ≡ sectionPlace s name block → r ≡ part s (b .at) (b .len) → r ≡ shown s name block
-unfolding shown
+pub section-shown : (s : List ℕ) (name block : ℕ) {b : Place} {r : List ℕ} → b ≡ sectionPlace s name block → r ≡ part s (b .at) (b .len) → r ≡ sectionBytes s name block
+unfolding sectionBytes
 section-shown s name block {b} e p = p ∙ sym (part-in s (b .at) (b .len) (rw e (section-inside s name block))) ∙ rw e
 
 -- for a caller that puts place and length in one number

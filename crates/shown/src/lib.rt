@@ -4,9 +4,9 @@ use reader::Next;
 use reader::Outline;
 ghost use mathlib.Core.Path.{_≡_};
 ghost use Prim.Native.Nat.{_-_};
-ghost use Rattle.format.specs.Listing.{sectionPlace, shown};
-ghost use Rattle.reader.specs.Finish.{outlineOf};
-ghost use Rattle.shown.specs.Asked.{between};
+ghost use Rattle.format.specs.Listing.{sectionPlace, sectionBytes};
+ghost use Rattle.reader.specs.Steps.Finish.{outlineOf};
+ghost use Rattle.shown.specs.Steps.Asked.{between};
 
 // a - b, or 0.
 fn less(a: usize, b: usize) -> usize
@@ -70,7 +70,7 @@ pub fn section_place(s: &[u8], name: u32, block: usize) -> Place
 }
 
 pub fn section(s: &[u8], name: u32, block: usize) -> &[u8]
-    ensures { λ r. ⌜ now r ≡ shown (now (s .entry)) name block ⌝ }
+    ensures { λ r. ⌜ now r ≡ sectionBytes (now (s .entry)) name block ⌝ }
 {
     let b = section_place(s, name, block);
     octets::part(s, b.at, b.len)

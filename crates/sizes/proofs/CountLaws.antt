@@ -6,7 +6,7 @@ use native.Mathlib.Omega.{arith}
 use borrow.Author.Tests.{le-leb, lt-leb}
 use Rattle.format.specs.Shortcut.{most}
 use Rattle.format.proofs.Bools.{by-order}
-use Rattle.sizes.specs.Starts.{capped}
+use Rattle.sizes.specs.Steps.Starts.{capped}
 
 pub count-exact : (n : ℕ) → n ≤ most → n ≡ capped n
 unfolding capped

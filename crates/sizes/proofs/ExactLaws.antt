@@ -7,8 +7,8 @@ use Rattle.format.specs.declared.Info.{Info}
 use Rattle.format.specs.Shortcut.{most}
 use Rattle.sizes.specs.declared.NetworkStarts.{NetworkStarts}
 use Rattle.sizes.specs.declared.InfoStarts.{InfoStarts}
-use Rattle.sizes.specs.Sizes.{deviceOffset, netUnicodeOffset, deviceUnicodeOffset, writtenNetwork, localOffset, networkOffset, suffixOffset, localUnicodeOffset, suffixUnicodeOffset, writtenInfo}
-use Rattle.sizes.specs.Starts.{capped, networkStarts, infoStarts}
+use Rattle.sizes.specs.Steps.Sizes.{deviceOffset, netUnicodeOffset, deviceUnicodeOffset, writtenNetwork, localOffset, networkOffset, suffixOffset, localUnicodeOffset, suffixUnicodeOffset, writtenInfo}
+use Rattle.sizes.specs.Steps.Starts.{capped, networkStarts, infoStarts}
 use Rattle.sizes.proofs.CountLaws.{count-exact}
 
 pub exact : (n : ℕ) {r : ℕ} → r ≡ capped n → n ≤ most → r ≡ n

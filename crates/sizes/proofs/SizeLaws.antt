@@ -19,8 +19,8 @@ use Rattle.format.proofs.VolumeLaws.{length-volume}
 use Rattle.format.proofs.NetworkLaws.{length-network}
 use Rattle.format.proofs.InfoLaws.{length-info}
 use Rattle.format.proofs.BodyLaws.{body-length}
-use Rattle.sizes.specs.InBuffer.{InBuffer, NetworkInBuffer, InfoInBuffer}
-use Rattle.sizes.specs.Sizes.{charactersIn, writtenText, writtenTextIf, writtenVolume, writtenNetwork, writtenInfo}
+use Rattle.sizes.specs.Steps.InBuffer.{InBuffer, NetworkInBuffer, InfoInBuffer}
+use Rattle.sizes.specs.Steps.Sizes.{charactersIn, writtenText, writtenTextIf, writtenVolume, writtenNetwork, writtenInfo}
 
 -- ---- what is there or not
 

@@ -13,12 +13,13 @@ use Rattle.format.specs.Presence.{itemsThere, infoThere, nameBit, relativeBit, 
 use Rattle.format.specs.Volume.{labelLeast}
 use Rattle.format.specs.Network.{networkHead}
 use Rattle.format.specs.Shortcut.{most}
-use Rattle.format.specs.Bodies.{labelPlace, labelKind, writtenHead, writtenLength}
+use Rattle.format.specs.Bodies.{labelPlace, labelKind, writtenHead}
+use Rattle.format.specs.Steps.Lengths.{writtenLength}
 use Rattle.sizes.specs.declared.NetworkStarts.{NetworkStarts}
 use Rattle.sizes.specs.declared.InfoStarts.{InfoStarts}
 use Rattle.sizes.specs.declared.Starts.{Starts}
-use Rattle.sizes.specs.Sizes.{writtenIf, writtenText, writtenTextIf, writtenVolume, deviceOffset, netUnicodeOffset, deviceUnicodeOffset, writtenNetwork, localOffset, networkOffset, suffixOffset, localUnicodeOffset, suffixUnicodeOffset, writtenInfo, writtenStrings, writtenParts}
-use Rattle.sizes.specs.Starts.{capped, networkStarts, infoStarts, startsOf}
+use Rattle.sizes.specs.Steps.Sizes.{writtenIf, writtenText, writtenTextIf, writtenVolume, deviceOffset, netUnicodeOffset, deviceUnicodeOffset, writtenNetwork, localOffset, networkOffset, suffixOffset, localUnicodeOffset, suffixUnicodeOffset, writtenInfo, writtenStrings, writtenParts}
+use Rattle.sizes.specs.Steps.Starts.{capped, networkStarts, infoStarts, startsOf}
 use Rattle.sizes.proofs.CountLaws.{count-exact, count-left, count-right, sum-is, count-if}
 use Rattle.sizes.proofs.TotalLaws.{parts-are}
 

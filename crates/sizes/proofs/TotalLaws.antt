@@ -10,8 +10,9 @@ use Rattle.format.specs.declared.Record.{Record}
 use Rattle.format.specs.Presence.{infoThere, localThere, networkThere, localUnicodeThere, deviceThere, deviceUnicodeThere}
 use Rattle.format.specs.Volume.{labelLeast}
 use Rattle.format.specs.Network.{networkHead}
-use Rattle.format.specs.Bodies.{labelPlace, labelKind, writtenHead, writtenLength}
-use Rattle.sizes.specs.Sizes.{writtenVolume, writtenNetwork, writtenInfo, writtenStrings, writtenParts}
+use Rattle.format.specs.Bodies.{labelPlace, labelKind, writtenHead}
+use Rattle.format.specs.Steps.Lengths.{writtenLength}
+use Rattle.sizes.specs.Steps.Sizes.{writtenVolume, writtenNetwork, writtenInfo, writtenStrings, writtenParts}
 
 -- LinkInfo (t), its local part (l) and its network link (w), each there or not, with their heads h, v, n and their bodies
 nested : (t l w d u m e o : Bool) (h v n a₁ a₂ a₃ a₄ a₅ a₆ a₇ a₈ a₉ : ℕ)

@@ -11,13 +11,14 @@ use Rattle.octets.proofs.NumberLaws.{length-little}
 use Rattle.format.specs.declared.Place.{Place}
 use Rattle.format.specs.declared.Record.{Record}
 use Rattle.format.specs.Presence.{itemsThere, infoThere, nameBit, relativeBit, workdirBit, argumentsBit, iconBit, stringThere, stringsUnicode}
-use Rattle.format.specs.Bodies.{bodies, allInside, writtenLength}
+use Rattle.format.specs.Bodies.{bodies, allInside}
+use Rattle.format.specs.Steps.Lengths.{writtenLength}
 use Rattle.format.specs.Contents.{bytesAt, infoContents, bodiesOf}
 use Rattle.format.specs.Writing.{ifThere, itemsBytes, infoBytes, stringBytes, canonical}
 use Rattle.format.proofs.Bools.{and-true}
 use Rattle.format.proofs.HeaderLaws.{length-header}
-use Rattle.sizes.specs.InBuffer.{InBuffer, RecordInBuffer}
-use Rattle.sizes.specs.Sizes.{writtenIf, writtenStrings, writtenParts}
+use Rattle.sizes.specs.Steps.InBuffer.{InBuffer, RecordInBuffer}
+use Rattle.sizes.specs.Steps.Sizes.{writtenIf, writtenStrings, writtenParts}
 use Rattle.sizes.proofs.TotalLaws.{parts-are}
 use Rattle.sizes.proofs.SizeLaws.{length-if, length-body, info-size}
 

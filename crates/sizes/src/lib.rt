@@ -11,8 +11,8 @@ ghost use Rattle.octets.specs.Characters.{bytesOf};
 ghost use Rattle.format.specs.Volume.{labelLeast};
 ghost use Rattle.format.specs.Network.{networkHead};
 ghost use Rattle.format.specs.Bodies.{writtenHead};
-ghost use Rattle.sizes.specs.Sizes.{writtenIf, writtenVolume, writtenStrings};
-ghost use Rattle.sizes.specs.Starts.{capped, networkStarts, infoStarts, startsOf};
+ghost use Rattle.sizes.specs.Steps.Sizes.{writtenIf, writtenVolume, writtenStrings};
+ghost use Rattle.sizes.specs.Steps.Starts.{capped, networkStarts, infoStarts, startsOf};
 
 const MOST: u32 = 65536;
 

@@ -8,7 +8,8 @@ use lib.ListN.{length, take, drop, getD, length-append}
 use lib.Seq.{length-take-le, getD-take, getD-drop}
 use lib.Dec.{leb}
 use borrow.Author.Tests.{le-leb, lt-leb, ne-eqb, not-true, not-false}
-use Rattle.octets.specs.Parts.{part, put}
+use Rattle.octets.specs.Parts.{put}
+use Rattle.octets.specs.Steps.Puts.{part}
 use Rattle.octets.proofs.PartLaws.{part-in, put-put, length-put}
 use Rattle.format.specs.declared.Place.{Place}
 use Rattle.format.specs.declared.Record.{Record}
@@ -25,16 +26,16 @@ use Rattle.format.proofs.BodyLaws.{body-length, body-part, part-length}
 use Rattle.format.proofs.TargetLaws.{separator-few}
 use Rattle.format.proofs.AcceptedLaws.{accepted-read, accepted-held, refused-read, accepted-bodies, accepted-limit}
 use Rattle.target.specs.declared.Texts.{Texts}
-use Rattle.target.specs.Texts.{firstText, separators, textsOf, Stands, textsLength, textsBytes}
+use Rattle.target.specs.Steps.Texts.{firstText, separators, textsOf, Stands, textsLength, textsBytes}
 
 -- ---- where the texts stand
 
-pub record Inside (s : List ℕ) (r : Record) : Type 0 where
+pub record TextsInside (s : List ℕ) (r : Record) : Type 0 where
   pub first : firstText r .at + firstText r .len ≤ length s
   pub suffix : r .info .suffix .at + r .info .suffix .len ≤ length s
   pub small : length s ≤ 65536
 
-pub texts-inside : (s : List ℕ) (r : Record) (n : ℕ) → reading s ≡ record { verdict = Accepted n; held = r } → Inside s r
+pub texts-inside : (s : List ℕ) (r : Record) (n : ℕ) → reading s ≡ record { verdict = Accepted n; held = r } → TextsInside s r
 unfolding firstText
 texts-inside s r n e =
     let i = accepted-bodies s r n e in
@@ -130,7 +131,7 @@ module _ (s out : List ℕ) {g : Reading} (e : g ≡ reading s) where
     accepted : reading s ≡ record { verdict = Accepted n; held = g .held }
     accepted = accepted-held s e q
 
-    pub inside : Inside s (g .held)
+    pub inside : TextsInside s (g .held)
     inside = texts-inside s (g .held) n accepted
 
     -- where the code has the text, the numbers are small

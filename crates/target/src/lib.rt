@@ -8,7 +8,7 @@ ghost use Prim.Native.Nat.{_+_, _≤_};
 ghost use lib.ListN.{length};
 ghost use Rattle.octets.specs.Parts.{put};
 ghost use Rattle.format.specs.Target.{hasTarget, targetAnswer, targetOutput};
-ghost use Rattle.target.specs.Texts.{firstText, separators, textsOf, Stands, textsLength, textsBytes};
+ghost use Rattle.target.specs.Steps.Texts.{firstText, separators, textsOf, Stands, textsLength, textsBytes};
 
 // The two texts, and how many separators stand between them.
 pub struct Texts {

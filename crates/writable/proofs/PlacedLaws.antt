@@ -12,7 +12,7 @@ use Rattle.format.specs.declared.Info.{Info}
 use Rattle.format.specs.declared.Record.{Record}
 use Rattle.format.specs.Bodies.{labelPlace, bodies, allInside}
 use Rattle.format.proofs.Bools.{by-order, joined-every, and-assoc}
-use Rattle.writable.specs.Places.{networkBodies, infoBodies}
+use Rattle.writable.specs.Steps.Places.{networkBodies, infoBodies}
 
 abbrev insideOf : ℕ → Place → Bool
 insideOf n b = leb (b .at + b .len) n

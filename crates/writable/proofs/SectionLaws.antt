@@ -16,7 +16,7 @@ use Rattle.format.specs.Hotkey.{hotkeyOk}
 use Rattle.format.specs.Bodies.{labelPlace, labelKind}
 use Rattle.format.specs.Contents.{bytesAt, volumeContents, networkContents, infoContents, bodiesOf}
 use Rattle.format.specs.Writing.{writableIf, writableHeader, writableItems, writableText, writableVolume, writableNetwork, writableInfo, writableString, writableBlocks}
-use Rattle.writable.specs.Sections.{sectionsWritable}
+use Rattle.writable.specs.Steps.Sections.{sectionsWritable}
 use Rattle.format.proofs.Bools.{joined-every}
 
 -- ---- a part that is there or not, over its rule

@@ -18,7 +18,7 @@ use Rattle.format.proofs.Bools.{by-order}
 use Rattle.format.proofs.Chains.{Pass, pass, no-value}
 use Rattle.format.proofs.BlockLaws.{the-end, step-elim, blocks-walked}
 use Rattle.items.proofs.Laws.{itemsAt, items-start, items-cut, items-end, items-small, items-more}
-use Rattle.blocks.specs.Walk.{NoBlock, after, Passed}
+use Rattle.blocks.specs.Steps.Walk.{NoBlock, after, Passed}
 use Rattle.writable.proofs.TestLaws.{same-test}
 
 -- ---- numbers and parts of a body are those of the body with something after it

@@ -9,14 +9,15 @@ use lib.Dec.{leb}
 use borrow.Author.Tests.{le-leb, lt-leb}
 use Rattle.format.specs.declared.Record.{Record}
 use Rattle.format.specs.Shortcut.{most}
-use Rattle.format.specs.Bodies.{bodies, allInside, writtenLength}
+use Rattle.format.specs.Bodies.{bodies, allInside}
+use Rattle.format.specs.Steps.Lengths.{writtenLength}
 use Rattle.format.specs.Contents.{bodiesOf}
 use Rattle.format.specs.Writing.{every, canonical, writable}
 use Rattle.format.proofs.Bools.{by-order, clash, and-no, and-yes}
-use Rattle.sizes.specs.Starts.{capped}
+use Rattle.sizes.specs.Steps.Starts.{capped}
 use Rattle.sizes.proofs.CountLaws.{count-most, count-back, count-over}
 use Rattle.sizes.proofs.WholeLaws.{record-inside, canonical-length}
-use Rattle.writable.specs.Sections.{sectionTests, sectionsWritable}
+use Rattle.writable.specs.Steps.Sections.{sectionTests, sectionsWritable}
 use Rattle.writable.proofs.TestLaws.{every-last}
 
 module _ (d : List ℕ) (q : Record) (placed : allInside (length d) (bodies q) ≡ true) where

@@ -14,12 +14,13 @@ ghost use Rattle.format.specs.Tests.{noPlace};
 ghost use Rattle.format.specs.Volume.{noVolume};
 ghost use Rattle.format.specs.Network.{noNetwork};
 ghost use Rattle.format.specs.Info.{noInfo};
-ghost use Rattle.format.specs.Bodies.{bodies, allInside, writtenLength};
+ghost use Rattle.format.specs.Bodies.{bodies, allInside};
+ghost use Rattle.format.specs.Steps.Lengths.{writtenLength};
 ghost use Rattle.format.specs.Contents.{presentNetwork, presentInfo, present, bytesAt, volumeContents, networkContents, infoContents, bodiesOf};
 ghost use Rattle.format.specs.Writing.{writableIf, writableHeader, writableItems, writableText, writableVolume, writableNetwork, writableInfo, writableString, writableBlocks, writable};
-ghost use Rattle.writable.specs.Places.{networkBodies, infoBodies};
-ghost use Rattle.writable.specs.Sections.{sectionsWritable};
-ghost use Rattle.sizes.specs.Starts.{capped};
+ghost use Rattle.writable.specs.Steps.Places.{networkBodies, infoBodies};
+ghost use Rattle.writable.specs.Steps.Sections.{sectionsWritable};
+ghost use Rattle.sizes.specs.Steps.Starts.{capped};
 
 // ---- which parts are present
 

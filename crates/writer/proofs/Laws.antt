@@ -12,14 +12,15 @@ use Rattle.format.specs.declared.Record.{Record}
 use Rattle.format.specs.declared.Fault.the-variants.{Place as PLACE, Unwritable as UNWRITABLE, Room as ROOM}
 use Rattle.format.specs.declared.Verdict.the-variants.{Accepted, Refused}
 use Rattle.format.specs.Tests.{got, refused, _else_, tests}
-use Rattle.format.specs.Bodies.{bodies, allInside, writtenLength}
+use Rattle.format.specs.Bodies.{bodies, allInside}
+use Rattle.format.specs.Steps.Lengths.{writtenLength}
 use Rattle.format.specs.Contents.{present, bodiesOf, contents}
 use Rattle.format.specs.Writing.{canonical, writable, writing, outputOf, writeAnswer, writeOutput}
 use Rattle.format.proofs.TableLaws.{placed-present}
 use Rattle.sizes.specs.declared.Starts.{Starts}
-use Rattle.sizes.specs.Starts.{capped, startsOf}
+use Rattle.sizes.specs.Steps.Starts.{capped, startsOf}
 use Rattle.writable.proofs.WholeLaws.{writable-length, writable-within}
-use Rattle.canonical.specs.Puts.{RoomFor}
+use Rattle.canonical.specs.Steps.Puts.{RoomFor}
 
 pub end-counted : (q : Record) {s : Starts} → s ≡ startsOf q → s .end ≡ capped (writtenLength q)
 unfolding startsOf

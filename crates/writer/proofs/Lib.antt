@@ -1,3 +1,3 @@
 pub mod Laws
-pub mod Once
+pub mod OneOutcome
 pub mod Demands

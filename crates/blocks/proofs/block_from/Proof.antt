@@ -1,5 +1,5 @@
 use borrow.Author.Tests.{lt-ltb, le-ltb}
-use Rattle.blocks.specs.Walk.{blockFrom}
+use Rattle.blocks.specs.Steps.Walk.{blockFrom}
 use borrow.Author.Needs.{needs}
 use Rattle.blocks.proofs.block_from.Statement.{statement}
 use Rattle.blocks.proofs.block_from.Tie as tie

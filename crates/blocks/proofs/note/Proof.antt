@@ -1,5 +1,5 @@
 use borrow.Author.Tests.{lt-ltb, le-ltb, eq-eqb, ne-eqb}
-use Rattle.blocks.specs.Walk.{taken, noted}
+use Rattle.blocks.specs.Steps.Walk.{taken, noted}
 use borrow.Author.Needs.{needs}
 use Rattle.blocks.proofs.note.Statement.{statement}
 use Rattle.blocks.proofs.note.Tie as tie

@@ -3,7 +3,7 @@ use borrow.Author.Needs.{needs}
 use Prim.Native.Nat.{_≤_, _-_}
 use lib.ListN.{length}
 use Rattle.format.specs.declared.Place.{Place}
-use Rattle.blocks.specs.Walk.{NthOf}
+use Rattle.blocks.specs.Steps.Walk.{NthOf}
 use Rattle.blocks.proofs.StepLaws.{tail-part, by-block, by-end, by-fault}
 use Rattle.blocks.proofs.NthLaws.{nth-outside, nth-ended, nth-refused, nth-fits, nth-here, nth-next}
 use Rattle.blocks.proofs.nth_block.Statement.{statement}

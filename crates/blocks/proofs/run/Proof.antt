@@ -2,7 +2,7 @@ use mathlib.Core.Path.{_≡_}
 use native.Mathlib.Omega.{arith}
 use borrow.Author.Needs.{needs}
 use lib.ListN.{length, drop, length-drop}
-use Rattle.blocks.specs.Walk.{Passed}
+use Rattle.blocks.specs.Steps.Walk.{Passed}
 use Rattle.blocks.proofs.StepLaws.{tail-part, stands-block, stands-end, stands-fault}
 use Rattle.blocks.proofs.WalkLaws.{passed-start, passed-fits, passed-on}
 use Rattle.blocks.proofs.run.Statement.{statement}

@@ -1,9 +1,9 @@
 use Rattle.octets.proofs.WroteLaws.{kept, join, last, reword}
 use Rattle.canonical.proofs.FitsLaws.{fits-inside, fits-room, wrote-whole}
 use Rattle.canonical.proofs.LayoutLaws.{canonical-is}
-use Rattle.sizes.specs.Sizes.{writtenIf, writtenInfo, writtenParts}
+use Rattle.sizes.specs.Steps.Sizes.{writtenIf, writtenInfo, writtenParts}
 use Rattle.sizes.specs.declared.Starts.{Starts}
-use Rattle.sizes.specs.Starts.{startsOf}
+use Rattle.sizes.specs.Steps.Starts.{startsOf}
 use mathlib.Core.Path.{refl, ap}
 use mathlib.Core.Bool.{Bool, cond}
 use native.Mathlib.Omega.{arith}

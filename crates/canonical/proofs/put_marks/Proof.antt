@@ -1,4 +1,4 @@
-use Rattle.canonical.specs.Layout.{markBytes}
+use Rattle.canonical.specs.Steps.Layout.{markBytes}
 use Rattle.octets.proofs.WroteLaws.{join, last}
 use borrow.Author.Needs.{needs}
 use Rattle.canonical.proofs.put_marks.Statement.{statement}

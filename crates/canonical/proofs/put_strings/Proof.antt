@@ -1,7 +1,7 @@
 -- Each string is written where its flag has it: the test of the flag stands for the flag.
 use Rattle.octets.proofs.WroteLaws.{kept, join, last, reword}
-use Rattle.canonical.specs.Layout.{stringsBytes}
-use Rattle.sizes.specs.Sizes.{writtenIf, writtenStrings}
+use Rattle.canonical.specs.Steps.Layout.{stringsBytes}
+use Rattle.sizes.specs.Steps.Sizes.{writtenIf, writtenStrings}
 use mathlib.Core.Path.{ap}
 use mathlib.Core.Bool.{Bool}
 use native.Mathlib.Omega.{arith}

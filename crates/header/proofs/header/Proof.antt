@@ -41,8 +41,8 @@ returns-4 c =
     header-head _ (omega arith) (size .before .before .u32-at .ensures) (size .before .header-size-ok .ensures) (size .if2 .left) (identifier .before .identifier-ok .ensures) (identifier .if3 .left)
     (c .before .head-ok .ensures) (c .if4 .taken)
 
-fields-requires : tie.Need-fields-requires
-fields-requires c κs = simp length-take (omega arith)
+header-fields-requires : tie.Need-header-fields-requires
+header-fields-requires c κs = simp length-take (omega arith)
 
 returns-5 : tie.Need-returns-5
 returns-5 c =
@@ -50,7 +50,7 @@ returns-5 c =
     let identifier = head .before .before in
     let size = identifier .before .before in
     header-got _ (omega arith) (size .before .before .u32-at .ensures) (size .before .header-size-ok .ensures) (size .if2 .left) (identifier .before .identifier-ok .ensures) (identifier .if3 .left)
-    (head .before .head-ok .ensures) (head .if4 .left) (c .fields .ensures)
+    (head .before .head-ok .ensures) (head .if4 .left) (c .header-fields .ensures)
 
 pub header-spec : {M : Type 1} → statement M
 header-spec =
@@ -65,5 +65,5 @@ header-spec =
     returns-3
     head-ok-requires
     returns-4
-    fields-requires
+    header-fields-requires
     returns-5)

@@ -1,4 +1,4 @@
-use Rattle.info.specs.Found.{fieldIf}
+use Rattle.info.specs.Steps.Found.{fieldIf}
 use borrow.Author.Needs.{needs}
 use Rattle.info.proofs.field.Statement.{statement}
 use Rattle.info.proofs.field.Tie as tie

@@ -1,4 +1,4 @@
-use Rattle.reader.specs.Steps.{atOf}
+use Rattle.reader.specs.Steps.EachSection.{atOf}
 use borrow.Author.Needs.{needs}
 use Rattle.reader.proofs.at_of.Statement.{statement}
 use Rattle.reader.proofs.at_of.Tie as tie

@@ -1,4 +1,4 @@
-use Rattle.reader.specs.Steps.{settledBlocks, blocksOn}
+use Rattle.reader.specs.Steps.EachSection.{settledBlocks, blocksOn}
 use borrow.Author.Needs.{needs}
 use Rattle.reader.proofs.blocks_on.Statement.{statement}
 use Rattle.reader.proofs.blocks_on.Tie as tie

@@ -1,4 +1,4 @@
-use Rattle.reader.specs.Steps.{blocksStep}
+use Rattle.reader.specs.Steps.EachSection.{blocksStep}
 use borrow.Author.Needs.{needs}
 use Rattle.reader.proofs.blocks_step.Statement.{statement}
 use Rattle.reader.proofs.blocks_step.Tie as tie

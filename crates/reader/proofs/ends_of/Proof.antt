@@ -1,4 +1,4 @@
-use Rattle.reader.specs.Steps.{endsOf}
+use Rattle.reader.specs.Steps.EachSection.{endsOf}
 use borrow.Author.Needs.{needs}
 use Rattle.reader.proofs.ends_of.Statement.{statement}
 use Rattle.reader.proofs.ends_of.Tie as tie

@@ -1,4 +1,4 @@
-use Rattle.reader.specs.Finish.{finished}
+use Rattle.reader.specs.Steps.Finish.{finished}
 use borrow.Author.Tests.{eq-eqb, ne-eqb}
 use borrow.Author.Needs.{needs}
 use Rattle.reader.proofs.finish.Statement.{statement}

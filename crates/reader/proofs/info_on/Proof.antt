@@ -1,4 +1,4 @@
-use Rattle.reader.specs.Steps.{infoOn, settledInfo}
+use Rattle.reader.specs.Steps.EachSection.{infoOn, settledInfo}
 use borrow.Author.Tests.{not-true, not-false}
 use borrow.Author.Needs.{needs}
 use Rattle.reader.proofs.info_on.Statement.{statement}

@@ -1,4 +1,4 @@
-use Rattle.reader.specs.Steps.{infoStep}
+use Rattle.reader.specs.Steps.EachSection.{infoStep}
 use borrow.Author.Needs.{needs}
 use Rattle.reader.proofs.info_step.Statement.{statement}
 use Rattle.reader.proofs.info_step.Tie as tie

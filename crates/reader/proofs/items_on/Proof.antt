@@ -1,4 +1,4 @@
-use Rattle.reader.specs.Steps.{itemsOn}
+use Rattle.reader.specs.Steps.EachSection.{itemsOn}
 use borrow.Author.Tests.{not-true, not-false}
 use borrow.Author.Needs.{needs}
 use Rattle.reader.proofs.items_on.Statement.{statement}

@@ -1,4 +1,4 @@
-use Rattle.reader.specs.Steps.{itemsStep}
+use Rattle.reader.specs.Steps.EachSection.{itemsStep}
 use borrow.Author.Needs.{needs}
 use Rattle.reader.proofs.items_step.Statement.{statement}
 use Rattle.reader.proofs.items_step.Tie as tie

@@ -1,5 +1,5 @@
 use mathlib.Core.Path.{refl}
-use Rattle.reader.specs.Finish.{outlineOff}
+use Rattle.reader.specs.Steps.Finish.{outlineOff}
 use Rattle.reader.proofs.outline_off.Statement.{statement}
 use Rattle.reader.proofs.outline_off.Tie as tie
 

@@ -1,5 +1,5 @@
 use mathlib.Core.Path.{refl}
-use Rattle.reader.specs.Finish.{refusedAt}
+use Rattle.reader.specs.Steps.Finish.{refusedAt}
 use Rattle.reader.proofs.refused.Statement.{statement}
 use Rattle.reader.proofs.refused.Tie as tie
 

@@ -1,4 +1,4 @@
-use Rattle.reader.specs.Steps.{settled}
+use Rattle.reader.specs.Steps.EachSection.{settled}
 use borrow.Author.Needs.{needs}
 use Rattle.reader.proofs.settle.Statement.{statement}
 use Rattle.reader.proofs.settle.Tie as tie

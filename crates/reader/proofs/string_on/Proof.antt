@@ -1,4 +1,4 @@
-use Rattle.reader.specs.Steps.{stringOn}
+use Rattle.reader.specs.Steps.EachSection.{stringOn}
 use borrow.Author.Tests.{not-true, not-false}
 use borrow.Author.Needs.{needs}
 use Rattle.reader.proofs.string_on.Statement.{statement}

@@ -1,4 +1,4 @@
-use Rattle.reader.specs.Steps.{stringStep}
+use Rattle.reader.specs.Steps.EachSection.{stringStep}
 use borrow.Author.Needs.{needs}
 use Rattle.reader.proofs.string_step.Statement.{statement}
 use Rattle.reader.proofs.string_step.Tie as tie

@@ -10,19 +10,13 @@ enum-known-next c = search needs
 enum-told : tie.Need-enum-told
 enum-told c = search needs
 
-no-place-requires : tie.Need-no-place-requires
-no-place-requires c κs = search needs
-
 returns : tie.Need-returns
 returns c =
-    c .no-place .ensures ∙ none-place _ _ _ (off-listing _ _ (c .before .before .before .before .pre) (c .before .enum-told .given .1))
-
-no-place-requires-2 : tie.Need-no-place-requires-2
-no-place-requires-2 c κs = search needs
+    none-place _ _ _ (off-listing _ _ (c .before .before .before .pre) (c .enum-told .given .1))
 
 returns-2 : tie.Need-returns-2
 returns-2 c =
-    c .no-place2 .ensures ∙ none-place _ _ _ (trail-listing _ _ _ (c .before .before .before .before .before .before .before .pre) (c .before .before .before .before .next .given .1) (c .before .if1 .taken))
+    none-place _ _ _ (trail-listing _ _ _ (c .before .before .before .before .before .before .pre) (c .before .before .before .next .given .1) (c .if1 .taken))
 
 bit-0-requires : tie.Need-bit-0-requires
 bit-0-requires c κs = search needs
@@ -53,9 +47,6 @@ nth-block-requires c κs = search needs
 
 less-requires : tie.Need-less-requires
 less-requires c κs = search needs
-
-no-place-requires-3 : tie.Need-no-place-requires-3
-no-place-requires-3 c κs = search needs
 
 returns-3 : tie.Need-returns-3
 returns-3 c =
@@ -99,7 +90,7 @@ returns-12 c =
 
 returns-13 : tie.Need-returns-13
 returns-13 c =
-    c .no-place3 .ensures ∙ place-more _ _ _ (all-rows _ _ _ (c .before .before .before .before .before .before .before .before .before .pre) (c .before .before .before .before .before .before .next .given .1) (c .before .before .before .if1 .left)) _ (c .before .match2 .rest)
+    place-more _ _ _ (all-rows _ _ _ (c .before .before .before .before .before .before .before .before .pre) (c .before .before .before .before .before .next .given .1) (c .before .before .if1 .left)) _ (c .match2 .rest)
 
 pub place-in-spec : {M : Type 1} → statement M
 place-in-spec =
@@ -107,9 +98,7 @@ place-in-spec =
     (tie.spec
     enum-known-next
     enum-told
-    no-place-requires
     returns
-    no-place-requires-2
     returns-2
     bit-0-requires
     between-requires
@@ -121,7 +110,6 @@ place-in-spec =
     between-requires-7
     nth-block-requires
     less-requires
-    no-place-requires-3
     returns-3
     returns-4
     returns-5

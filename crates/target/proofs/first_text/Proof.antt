@@ -1,4 +1,4 @@
-use Rattle.target.specs.Texts.{firstText}
+use Rattle.target.specs.Steps.Texts.{firstText}
 use mathlib.Core.Path.{sym, _∙_}
 use borrow.Author.Needs.{needs}
 use Rattle.target.proofs.first_text.Statement.{statement}

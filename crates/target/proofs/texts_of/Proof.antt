@@ -1,4 +1,4 @@
-use Rattle.target.specs.Texts.{textsOf}
+use Rattle.target.specs.Steps.Texts.{textsOf}
 use borrow.Author.Needs.{needs}
 use Rattle.target.proofs.texts_of.Statement.{statement}
 use Rattle.target.proofs.texts_of.Tie as tie

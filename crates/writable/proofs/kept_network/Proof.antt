@@ -5,15 +5,12 @@ use Rattle.writable.proofs.kept_network.Tie as tie
 present-network-requires : tie.Need-present-network-requires
 present-network-requires c κs = search needs
 
-no-network-requires : tie.Need-no-network-requires
-no-network-requires c κs = search needs
-
 returns : tie.Need-returns
 returns c = rw (c .before .if1 .taken) (c .present-network .ensures)
 
 returns-2 : tie.Need-returns-2
-returns-2 c = search needs
+returns-2 c = rw (c .if1 .left)
 
 pub kept-network-spec : {M : Type 1} → statement M
 kept-network-spec =
-    tie.close (tie.spec present-network-requires no-network-requires returns returns-2)
+    tie.close (tie.spec present-network-requires returns returns-2)

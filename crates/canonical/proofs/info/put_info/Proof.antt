@@ -1,5 +1,5 @@
 use Rattle.canonical.proofs.LayoutLaws.{info-head-is, info-is}
-use Rattle.sizes.specs.Sizes.{writtenInfo}
+use Rattle.sizes.specs.Steps.Sizes.{writtenInfo}
 use Rattle.octets.proofs.WroteLaws.{join, reword}
 use native.Mathlib.Omega.{arith}
 use borrow.Author.Needs.{needs}

@@ -1,9 +1,9 @@
 -- Each piece is written where its flag has it: the test of the flag stands for the flag.
 use Rattle.octets.proofs.WroteLaws.{kept, join, last, reword}
-use Rattle.canonical.specs.Layout.{infoPieceBytes}
+use Rattle.canonical.specs.Steps.Layout.{infoPieceBytes}
 use Rattle.sizes.specs.declared.InfoStarts.{InfoStarts}
-use Rattle.sizes.specs.Starts.{infoStarts}
-use Rattle.sizes.specs.Sizes.{writtenTextIf, writtenVolume, writtenNetwork}
+use Rattle.sizes.specs.Steps.Starts.{infoStarts}
+use Rattle.sizes.specs.Steps.Sizes.{writtenTextIf, writtenVolume, writtenNetwork}
 use mathlib.Core.Path.{ap}
 use mathlib.Core.Bool.{Bool, true, false, cond}
 use native.Mathlib.Omega.{arith}

@@ -1,5 +1,5 @@
 use Rattle.canonical.proofs.LayoutLaws.{network-head-is, network-is}
-use Rattle.sizes.specs.Sizes.{writtenNetwork}
+use Rattle.sizes.specs.Steps.Sizes.{writtenNetwork}
 use Rattle.octets.proofs.WroteLaws.{join, reword}
 use native.Mathlib.Omega.{arith}
 use borrow.Author.Needs.{needs}

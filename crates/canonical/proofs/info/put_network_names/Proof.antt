@@ -1,7 +1,7 @@
 -- Each name is written where its flag has it: the test of the flag stands for the flag.
 use Rattle.octets.proofs.WroteLaws.{kept, join, last, reword}
-use Rattle.canonical.specs.Layout.{networkNameBytes}
-use Rattle.sizes.specs.Sizes.{writtenTextIf}
+use Rattle.canonical.specs.Steps.Layout.{networkNameBytes}
+use Rattle.sizes.specs.Steps.Sizes.{writtenTextIf}
 use mathlib.Core.Path.{ap}
 use mathlib.Core.Bool.{Bool, true, false}
 use native.Mathlib.Omega.{arith}

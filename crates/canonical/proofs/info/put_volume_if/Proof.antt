@@ -1,6 +1,6 @@
 use Rattle.octets.proofs.WroteLaws.{wrote-none}
 use Rattle.sizes.proofs.ExactLaws.{exact}
-use Rattle.sizes.specs.Sizes.{writtenVolume}
+use Rattle.sizes.specs.Steps.Sizes.{writtenVolume}
 use native.Mathlib.Omega.{arith}
 use borrow.Author.Needs.{needs}
 use Rattle.canonical.proofs.info.put_volume_if.Statement.{statement}

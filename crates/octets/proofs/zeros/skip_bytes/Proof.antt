@@ -1,5 +1,5 @@
 use Rattle.octets.proofs.ZeroLaws.{passed-none, passed-more}
-use Rattle.octets.specs.Scans.{Passed}
+use Rattle.octets.specs.Steps.Scans.{Passed}
 use lib.ListN.{length}
 use mathlib.Core.Bool.{false}
 use Prim.Native.Nat.{_-_}

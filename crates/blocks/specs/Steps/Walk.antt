@@ -1,0 +1,105 @@
+-- What the walks over blocks answer, in terms of reading.
+use Prim.Native.Nat.{ℕ, zero, suc, _+_, _-_, _≤_}
+use mathlib.Core.Path.{_≡_}
+use mathlib.Core.List.{List, [], _∷_, _++_}
+use mathlib.Core.Bool.{true, cond}
+use lib.ListN.{length, drop, getD, set}
+use lib.Dec.{eqb, ltb}
+use Rattle.octets.specs.Numbers.{u32At}
+use Rattle.format.specs.declared.Fault.{Fault}
+use Rattle.format.specs.declared.Place.{Place}
+use Rattle.format.specs.Tests.{Outcome, got, refused, andThen, place, noPlace}
+use Rattle.format.specs.Blocks.{slotOf, sizeFits, blockSize, aBlock, aTerminal, blockStep, blocks}
+use Rattle.format.specs.Steps.Firsts.{firsts}
+use Rattle.format.specs.Shortcut.{most, sum}
+use Rattle.blocks.specs.declared.BlockStep.{BlockStep}
+use Rattle.blocks.specs.declared.BlockStep.the-variants.{Block, Terminal, Refused as NotOne}
+use Rattle.format.specs.declared.Taken.{Taken}
+use Rattle.format.specs.declared.Taken.the-variants.{Got, Refused}
+use Rattle.blocks.specs.declared.BlocksRead.{BlocksRead}
+
+-- ---- the step, at the start of s
+
+-- a block of n bytes whose size fits its signature, which has the slot k
+pub record Sized (s : List ℕ) (n k : ℕ) : Type 0 where
+  pub size : n ≡ blockSize s
+  pub least : 8 ≤ n
+  pub inside : n ≤ length s
+  pub slot : k ≡ slotOf (u32At s 4)
+  pub fits : sizeFits k n ≡ true
+
+-- what a block holds is not looked at
+abbrev pub BySize : List ℕ → BlockStep → Type 0
+BySize s (Block n k) = Sized s n k
+BySize s Terminal = (p : ℕ) → blockStep p s ≡ got aTerminal 4
+BySize s (NotOne f) = (p : ℕ) → blockStep p s ≡ refused f p
+
+abbrev pub Stands : List ℕ → BlockStep → Type 0
+Stands s (Block n k) = Sized s n k × ((p : ℕ) → blockStep p s ≡ got aBlock n)
+Stands s Terminal = (p : ℕ) → blockStep p s ≡ got aTerminal 4
+Stands s (NotOne f) = (p : ℕ) → blockStep p s ≡ refused f p
+
+abbrev pub NoBlock : List ℕ → ℕ → Type 0
+NoBlock s p = (n : ℕ) → blockStep p (drop p s) ≡ got aBlock n → ⊥
+
+-- ---- the walk
+
+-- the row of an empty walk
+abbrev pub noFirsts : List ℕ
+noFirsts = 0 ∷ 0 ∷ 0 ∷ 0 ∷ 0 ∷ 0 ∷ 0 ∷ 0 ∷ 0 ∷ 0 ∷ 0 ∷ []
+
+-- a slot that is taken keeps what it has
+unfoldable pub taken : List ℕ → ℕ → ℕ → List ℕ
+taken row slot field = cond (eqb (getD row slot 0) 0) (set row slot field) row
+
+unfoldable pub noted : List ℕ → ℕ → ℕ → List ℕ
+unfolding taken
+noted row slot field = cond (ltb slot 11) (taken row slot field) row
+
+-- what is read after blocks of these lengths
+abbrev pub after : List ℕ → Outcome (List ℕ) → Outcome (List ℕ)
+after lengths o = andThen o (λ more n. got (lengths ++ more) (sum lengths + n))
+
+-- the walk from a on has come to p, with this row; whatever follows s
+pub record Passed (s : List ℕ) (a p : ℕ) (row : List ℕ) : Type 0 where
+  pub lengths : List ℕ
+  pub adds : p ≡ a + sum lengths
+  pub inside : p ≤ length s
+  pub is : (y : List ℕ) → blocks a (drop a (s ++ y)) ≡ after lengths (blocks p (drop p (s ++ y)))
+  pub first : length s ≤ most → row ≡ firsts s a lengths
+
+-- all blocks before the terminal as one body, that starts at p
+abbrev pub blocksTaken : ℕ → Outcome (List ℕ) → Taken
+blocksTaken p (got lengths n) = Got (place p (sum lengths)) (record { at = p + n })
+blocksTaken p (refused f q) = Refused f q
+
+-- after a refusal nothing is noted
+abbrev pub firstsBy : List ℕ → ℕ → Outcome (List ℕ) → List ℕ
+firstsBy s p (got lengths n) = firsts s p lengths
+firstsBy s p (refused f q) = noFirsts
+
+unfoldable pub blocksRead : List ℕ → ℕ → BlocksRead
+blocksRead s p = record { taken = blocksTaken p (blocks p (drop p s)); firsts = firstsBy s p (blocks p (drop p s)) }
+
+abbrev pub readTo : ℕ → ℕ → List ℕ → BlocksRead
+readTo a p row = record { taken = Got (place a (p - a)) (record { at = p + 4 }); firsts = row }
+
+abbrev pub stoppedAt : Fault → ℕ → BlocksRead
+stoppedAt f p = record { taken = Refused f p; firsts = noFirsts }
+
+-- ---- one of the blocks
+
+-- the block whose signature stands there; the empty place for 0
+unfoldable pub blockFrom : List ℕ → ℕ → Place
+blockFrom s field = cond (ltb field 4) noPlace (place (field - 4) (u32At s (field - 4)))
+
+-- the place of number k, of blocks of these lengths from p on
+abbrev pub nthPlace : ℕ → List ℕ → ℕ → Place
+nthPlace p [] k = noPlace
+nthPlace p (n ∷ ns) zero = place p n
+nthPlace p (n ∷ ns) (suc k) = nthPlace (p + n) ns k
+
+-- b stands inside s; and where the blocks from p on are read, it is number k of them
+pub record NthOf (s : List ℕ) (p k : ℕ) (b : Place) : Type 0 where
+  pub inside : b .at + b .len ≤ length s
+  pub is : (lengths : List ℕ) (n : ℕ) → blocks p (drop p s) ≡ got lengths n → b ≡ nthPlace p lengths k

@@ -1,0 +1,4 @@
+-- Steps of the implementation: contracts inside the libraries cite them, and nobody has to believe them.
+pub mod Cursors
+pub mod Scans
+pub mod Puts

@@ -1,0 +1,38 @@
+-- A scan for a zero character on its way: what it has passed, and what is still to come.
+use mathlib.Core.Path.{_≡_}
+use mathlib.Core.List.{List}
+use mathlib.Core.Bool.{Bool, true, not, cond, _&&_}
+use Prim.Native.Nat.{ℕ, zero, suc, _+_}
+use lib.ListN.{drop}
+use lib.Dec.{eqb}
+use Rattle.octets.specs.Numbers.{numberAt}
+use Rattle.octets.specs.Characters.{bytesOf, characters, beforeZero, hasZero}
+use Rattle.octets.specs.declared.Zero.{Zero}
+use Rattle.octets.specs.declared.Zero.the-variants.{After, Nowhere}
+
+-- what a scan from the place i on finds
+unfoldable pub zeroFrom : Bool → List ℕ → ℕ → Zero
+zeroFrom unicode s i = let l = characters unicode (drop i s) in cond (hasZero l) (After (beforeZero l)) Nowhere
+
+-- a scan that has passed n characters and has l before it
+abbrev pub scanOn : ℕ → List ℕ → Zero
+scanOn n l = cond (hasZero l) (After (n + beforeZero l)) Nowhere
+
+-- the scan of s from the place i on
+unfoldable pub scanAt : Bool → List ℕ → ℕ → ℕ → Zero
+scanAt u s i n = scanOn n (characters u (drop i s))
+
+-- the character at the place i is not zero
+abbrev pub other : Bool → List ℕ → ℕ → Bool
+other u s i = not (eqb (numberAt (bytesOf u 1) s i) 0)
+
+-- none of k characters from the place i on is zero
+unfoldable pub others : Bool → List ℕ → ℕ → ℕ → Bool
+others u s i zero = true
+others u s i (suc k) = others u s i k && other u s (i + bytesOf u k)
+
+-- a scan from the place i on may go on from the place r
+pub record Passed (u : Bool) (s : List ℕ) (i r : ℕ) : Type 0 where
+  pub count : ℕ
+  pub place : r ≡ i + bytesOf u count
+  pub rest : scanAt u s r count ≡ zeroFrom u s i

@@ -1,0 +1,139 @@
+-- The steps that the reader takes: each section from where the one before it ended, unless that was refused.
+use Prim.Native.Nat.{ℕ}
+use mathlib.Core.List.{List}
+use mathlib.Core.Bool.{Bool, cond}
+use Rattle.octets.specs.declared.Cursor.{Cursor}
+use Rattle.format.specs.declared.Place.{Place}
+use Rattle.format.specs.declared.Header.{Header}
+use Rattle.format.specs.declared.Info.{Info}
+use Rattle.format.specs.declared.Taken.{Taken}
+use Rattle.format.specs.declared.Taken.the-variants.{Got, Refused}
+use Rattle.format.specs.Tests.{bit, noPlace}
+use Rattle.format.specs.Info.{noInfo}
+use Rattle.single.specs.Steps.Taken.{stringAt, itemsAt}
+use Rattle.blocks.specs.Steps.Walk.{noFirsts, blocksRead}
+use Rattle.info.specs.declared.InfoTaken.{InfoTaken}
+use Rattle.info.specs.declared.InfoTaken.the-variants.{Got as GotInfo, Refused as RefusedInfo}
+use Rattle.info.specs.Steps.Taken.{infoAt}
+use Rattle.reader.specs.declared.Next.{Next}
+use Rattle.reader.specs.declared.Next.the-variants.{On, Off}
+use Rattle.reader.specs.declared.Step.{Step}
+use Rattle.reader.specs.declared.InfoStep.{InfoStep}
+use Rattle.reader.specs.declared.SectionEnds.{SectionEnds}
+use Rattle.reader.specs.declared.BlocksStep.{BlocksStep}
+use Rattle.reader.specs.declared.Outline.{Outline}
+
+abbrev pub step : Next → Place → Step
+step next b = record { next = next; held = b }
+
+abbrev pub stepInfo : Next → Info → InfoStep
+stepInfo next i = record { next = next; held = i }
+
+abbrev pub stepBlocks : Next → Place → List ℕ → BlocksStep
+stepBlocks next b row = record { next = next; held = b; firsts = row }
+
+-- a section that is there
+unfoldable pub settled : Taken → Step
+settled (Got b c) = step (On c) b
+settled (Refused f p) = step (Off f p) noPlace
+
+-- a refusal goes through
+abbrev pub onwards : Next → (Cursor → Step) → Step
+onwards (On c) g = g c
+onwards (Off f p) g = step (Off f p) noPlace
+
+abbrev pub onwardsInfo : Next → (Cursor → InfoStep) → InfoStep
+onwardsInfo (On c) g = g c
+onwardsInfo (Off f p) g = stepInfo (Off f p) noInfo
+
+abbrev pub onwardsBlocks : Next → (Cursor → BlocksStep) → BlocksStep
+onwardsBlocks (On c) g = g c
+onwardsBlocks (Off f p) g = stepBlocks (Off f p) noPlace noFirsts
+
+unfoldable pub itemsOn : List ℕ → Bool → Cursor → Step
+unfolding settled
+itemsOn s present c = cond present (settled (itemsAt s (c .at))) (step (On c) noPlace)
+
+unfoldable pub itemsStep : List ℕ → Bool → Next → Step
+unfolding itemsOn
+itemsStep s present next = onwards next (itemsOn s present)
+
+unfoldable pub stringOn : List ℕ → Bool → Bool → Cursor → Step
+unfolding settled
+stringOn s present unicode c = cond present (settled (stringAt unicode s (c .at))) (step (On c) noPlace)
+
+unfoldable pub stringStep : List ℕ → Bool → Bool → Next → Step
+unfolding stringOn
+stringStep s present unicode next = onwards next (stringOn s present unicode)
+
+unfoldable pub settledInfo : InfoTaken → InfoStep
+settledInfo (GotInfo i c) = stepInfo (On c) i
+settledInfo (RefusedInfo f p) = stepInfo (Off f p) noInfo
+
+unfoldable pub infoOn : List ℕ → Bool → Cursor → InfoStep
+unfolding settledInfo
+infoOn s present c = cond present (settledInfo (infoAt s (c .at))) (stepInfo (On c) noInfo)
+
+unfoldable pub infoStep : List ℕ → Bool → Next → InfoStep
+unfolding infoOn
+infoStep s present next = onwardsInfo next (infoOn s present)
+
+-- after a refusal nothing is noted
+unfoldable pub settledBlocks : Taken → List ℕ → BlocksStep
+settledBlocks (Got b c) row = stepBlocks (On c) b row
+settledBlocks (Refused f p) row = stepBlocks (Off f p) noPlace noFirsts
+
+unfoldable pub blocksOn : List ℕ → Cursor → BlocksStep
+unfolding settledBlocks
+blocksOn s c = let r = blocksRead s (c .at) in settledBlocks (r .taken) (r .firsts)
+
+unfoldable pub blocksStep : List ℕ → Next → BlocksStep
+unfolding blocksOn
+blocksStep s next = onwardsBlocks next (blocksOn s)
+
+unfoldable pub atOf : Next → ℕ
+atOf (On c) = c .at
+atOf (Off f p) = 0
+
+unfoldable pub endsOf : Next → Next → Next → Next → Next → Next → Next → SectionEnds
+unfolding atOf
+endsOf items info name relative workdir arguments icon = record {
+  items = atOf items;
+  info = atOf info;
+  name = atOf name;
+  relative = atOf relative;
+  workdir = atOf workdir;
+  arguments = atOf arguments;
+  icon = atOf icon;
+}
+
+-- the sections after the header
+unfoldable pub outlineFrom : List ℕ → Header → Cursor → Outline
+unfolding itemsStep stringStep infoStep blocksStep endsOf
+outlineFrom s h c =
+    let f = h .flags in
+    let u = bit 7 f in
+    let items = itemsStep s (bit 0 f) (On c) in
+    let info = infoStep s (bit 1 f) (items .next) in
+    let name = stringStep s (bit 2 f) u (info .next) in
+    let relative = stringStep s (bit 3 f) u (name .next) in
+    let workdir = stringStep s (bit 4 f) u (relative .next) in
+    let arguments = stringStep s (bit 5 f) u (workdir .next) in
+    let icon = stringStep s (bit 6 f) u (arguments .next) in
+    let blocks = blocksStep s (icon .next) in
+    record {
+      next = blocks .next;
+      held = record {
+        header = h;
+        items = items .held;
+        info = info .held;
+        name = name .held;
+        relative = relative .held;
+        workdir = workdir .held;
+        arguments = arguments .held;
+        icon = icon .held;
+        blocks = blocks .held;
+      };
+      ends = endsOf (items .next) (info .next) (name .next) (relative .next) (workdir .next) (arguments .next) (icon .next);
+      firsts = blocks .firsts;
+    }

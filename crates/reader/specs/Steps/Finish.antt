@@ -1,0 +1,55 @@
+-- How reading ends: all of the shortcut was read, or bytes are left, or a section was refused.
+use Prim.Native.Nat.{ℕ}
+use mathlib.Core.Path.{_≡_}
+use mathlib.Core.List.{List}
+use mathlib.Core.Bool.{cond}
+use lib.ListN.{length, drop}
+use lib.Dec.{leb, eqb}
+use Rattle.format.specs.declared.Fault.{Fault}
+use Rattle.format.specs.declared.Fault.the-variants.{Long as LONG, Trail as TRAIL}
+use Rattle.format.specs.declared.Record.{Record}
+use Rattle.format.specs.declared.Reading.{Reading}
+use Rattle.format.specs.declared.Verdict.the-variants.{Accepted, Refused}
+use Rattle.format.specs.Tests.{got}
+use Rattle.format.specs.Blocks.{blocks}
+use Rattle.format.specs.Steps.Firsts.{firsts}
+use Rattle.format.specs.Shortcut.{most, noRecord}
+use Rattle.header.specs.declared.HeaderTaken.{HeaderTaken}
+use Rattle.header.specs.declared.HeaderTaken.the-variants.{Got, Refused as Stopped}
+use Rattle.header.specs.Steps.Taken.{headerAt}
+use Rattle.blocks.specs.Steps.Walk.{noFirsts}
+use Rattle.reader.specs.declared.Outline.{Outline}
+use Rattle.reader.specs.Steps.EachSection.{outlineFrom}
+use Rattle.reader.specs.declared.Next.{Next}
+use Rattle.reader.specs.declared.Next.the-variants.{On, Off}
+
+-- a refusal before any section after the header is looked at
+unfoldable pub outlineOff : Fault → ℕ → Outline
+outlineOff f p = record {
+  next = Off f p;
+  held = noRecord;
+  ends = record { items = 0; info = 0; name = 0; relative = 0; workdir = 0; arguments = 0; icon = 0 };
+  firsts = noFirsts;
+}
+
+abbrev pub outlineAfter : List ℕ → HeaderTaken → Outline
+outlineAfter s (Got h c) = outlineFrom s h c
+outlineAfter s (Stopped f p) = outlineOff f p
+
+-- LONG first, then the header, then the sections after it
+unfoldable pub outlineOf : List ℕ → Outline
+unfolding outlineFrom outlineOff
+outlineOf s = cond (leb (length s) most) (outlineAfter s (headerAt s)) (outlineOff LONG 65536)
+
+unfoldable pub refusedAt : Fault → ℕ → Reading
+refusedAt f p = record { verdict = Refused f p; held = noRecord }
+
+-- n is the shortcut's length
+unfoldable pub finished : ℕ → Next → Record → Reading
+unfolding refusedAt
+finished n (On c) r = cond (eqb (c .at) n) (record { verdict = Accepted (c .at); held = r }) (refusedAt TRAIL (c .at))
+finished n (Off f p) r = refusedAt f p
+
+-- the row is that of the blocks which the record r holds
+abbrev pub FirstsOf : List ℕ → Record → List ℕ → Type 0
+FirstsOf s r row = (lengths : List ℕ) (n : ℕ) → blocks (r .blocks .at) (drop (r .blocks .at) s) ≡ got lengths n → row ≡ firsts s (r .blocks .at) lengths
