@@ -11,14 +11,11 @@ use Rattle.octets.specs.Numbers.{u32At}
 use Rattle.octets.proofs.NumberLaws.{number-drop}
 use Rattle.format.specs.declared.Fault.{Fault}
 use Rattle.format.specs.declared.Fault.the-variants.{Cut as CUT, Block as BLOCK}
-use Rattle.format.specs.Tests.{Outcome, got, refused, andThen, place}
+use Rattle.format.specs.Tests.{Outcome, got, refused, andThen}
 use Rattle.format.specs.Blocks.{slotOf, insideFits, blockSize, aBlock, aTerminal, blockStep, blocks, firsts}
 use Rattle.format.specs.Shortcut.{most, sum}
 use Rattle.format.proofs.BlockLaws.{none-left, blocks-step}
-use Rattle.blocks.specs.Walk.{Sized, NoBlock, noFirsts, noted, after, Passed, walkedFrom, firstsBy, blocksRead, readTo, stoppedAt}
-use Rattle.blocks.specs.declared.Walked.{Walked}
-use Rattle.blocks.specs.declared.Walked.the-variants.{Body, Refused}
-use Rattle.blocks.specs.declared.BlocksRead.{BlocksRead}
+use Rattle.blocks.specs.Walk.{Sized, NoBlock, noFirsts, noted, after, Passed, blocksRead, readTo, stoppedAt}
 use Rattle.blocks.proofs.StepLaws.{tail-part, holds-right, holds-wrong, longer, step-longer}
 use Rattle.blocks.proofs.FirstLaws.{firsts-more}
 
