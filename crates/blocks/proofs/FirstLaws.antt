@@ -2,7 +2,7 @@
 use mathlib.Core.Path.{_≡_, refl, sym, ap, _∙_}
 use mathlib.Core.List.{List, [], _∷_, _++_}
 use mathlib.Core.Bool.{Bool, true, false, not, cond, _&&_}
-use Prim.Native.Nat.{ℕ, zero, suc, _+_, _-_, _≤_, _<_}
+use Prim.Native.Nat.{ℕ, zero, suc, _+_, _-_, _≤_}
 use native.Mathlib.Omega.{arith}
 use lib.ListN.{length, drop, getD, set, length-drop}
 use lib.Seq.{drop-drop}
@@ -10,8 +10,7 @@ use lib.Dec.{ltb, eqb}
 use borrow.Author.Tests.{leb-true, ltb-false, ne-eqb, eqb-true, le-ltb, not-true}
 use Rattle.octets.specs.Numbers.{u32At}
 use Rattle.octets.proofs.NumberLaws.{number-drop}
-use Rattle.format.specs.declared.Place.{Place}
-use Rattle.format.specs.Tests.{Outcome, got, noPlace}
+use Rattle.format.specs.Tests.{got}
 use Rattle.format.specs.Blocks.{SizeRule, signatures, slotIn, slotOf, blockSize, blocks, firstPlace}
 use Rattle.format.specs.Steps.Firsts.{firstField, firstsIn, firsts}
 use Rattle.format.specs.Shortcut.{sum}

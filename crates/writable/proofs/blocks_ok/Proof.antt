@@ -1,6 +1,5 @@
 use mathlib.Core.Path.{refl}
 use native.Mathlib.Omega.{arith}
-use borrow.Author.Needs.{needs}
 use Rattle.writable.proofs.WalkLaws.{blocks-run}
 use Rattle.writable.proofs.blocks_ok.Statement.{statement}
 use Rattle.writable.proofs.blocks_ok.Tie as tie
