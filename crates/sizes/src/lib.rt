@@ -14,8 +14,6 @@ ghost use Rattle.format.specs.Bodies.{writtenHead};
 ghost use Rattle.sizes.specs.Steps.Sizes.{writtenIf, writtenVolume, writtenStrings};
 ghost use Rattle.sizes.specs.Steps.Starts.{capped, networkStarts, infoStarts, startsOf};
 
-const MOST: u32 = 65536;
-
 // Where the names of the network link start, and where the last one ends.
 pub struct NetworkStarts {
     pub device: u32,
@@ -53,16 +51,15 @@ fn clipped(n: usize) -> u32
     n as u32
 }
 
+// The sum is taken in a wider number: one comparison tells whether it is too great.
 fn plus(a: u32, b: u32) -> u32
     ensures { λ r. ⌜ r ≡ capped (a + b) ⌝ }
 {
-    if MOST < a {
-        return MOST + 1;
+    let sum = (a as u64) + (b as u64);
+    if 65536 < sum {
+        return 65537;
     }
-    if MOST - a < b {
-        return MOST + 1;
-    }
-    a + b
+    sum as u32
 }
 
 // A body with the bytes beside it, if it is there.

@@ -4,23 +4,17 @@ use borrow.Author.Needs.{needs}
 use Rattle.sizes.proofs.plus.Statement.{statement}
 use Rattle.sizes.proofs.plus.Tie as tie
 
-add-result : tie.Need-add-result
-add-result c = search needs
+add-sum : tie.Need-add-sum
+add-sum c = search needs
 
 returns : tie.Need-returns
 returns c = count-most _ (omega arith)
 
-add-result-2 : tie.Need-add-result-2
-add-result-2 c = search needs
+cast-result : tie.Need-cast-result
+cast-result c = search needs
 
 returns-2 : tie.Need-returns-2
-returns-2 c = count-most _ (omega arith)
-
-add-result-3 : tie.Need-add-result-3
-add-result-3 c = search needs
-
-returns-3 : tie.Need-returns-3
-returns-3 c = count-exact _ (omega arith)
+returns-2 c = count-exact _ (omega arith)
 
 pub plus-spec : {M : Type 1} → statement M
-plus-spec = tie.close (tie.spec add-result returns add-result-2 returns-2 add-result-3 returns-3)
+plus-spec = tie.close (tie.spec add-sum returns cast-result returns-2)
