@@ -1,3 +1,4 @@
+-- The blocks are writable where the run over them comes to the end of the body.
 use mathlib.Core.Path.{refl}
 use native.Mathlib.Omega.{arith}
 use borrow.Author.Needs.{needs}
