@@ -1,4 +1,4 @@
--- The blocks are writable where the run over them comes to the end of the body.
+-- The run comes to the end of the body exactly where the terminal block that is written after it ends the blocks.
 use mathlib.Core.Path.{refl}
 use native.Mathlib.Omega.{arith}
 use borrow.Author.Needs.{needs}
