@@ -41,7 +41,9 @@ fn put_volume(out: &mut [u8], at: usize, v: Volume, size: u32, d: &[u8]) -> usiz
     requires inside { ⌜ InBuffer (now d) (labelPlace (v .label)) ⌝ }
     requires room { ⌜ Room (now out) at (writtenVolume v) ⌝ }
     requires sized { ⌜ size ≡ writtenVolume v ⌝ }
-    ensures { λ r. ⌜ Wrote (now (out .entry)) at (volumeBytes (volumeContents (now (d .entry)) v)) (writtenVolume v) (now (out .exit)) r ⌝ }
+    ensures written { λ r. ⌜ Wrote (now (out .entry)) at
+        (volumeBytes (volumeContents (now (d .entry)) v))
+        (writtenVolume v) (now (out .exit)) r ⌝ }
 {
     let l = v.label;
     let unicode = format::label_unicode(l);
@@ -57,7 +59,9 @@ fn put_volume_if(there: bool, out: &mut [u8], at: usize, v: Volume, size: u32, d
     requires inside { ⌜ InBuffer (now d) (labelPlace (v .label)) ⌝ }
     requires room { ⌜ Room (now out) at (cond there (writtenVolume v) 0) ⌝ }
     requires sized { ⌜ size ≡ capped (cond there (writtenVolume v) 0) ⌝ }
-    ensures { λ r. ⌜ Wrote (now (out .entry)) at (ifThere there volumeBytes (volumeContents (now (d .entry)) v)) (cond there (writtenVolume v) 0) (now (out .exit)) r ⌝ }
+    ensures written { λ r. ⌜ Wrote (now (out .entry)) at
+        (ifThere there volumeBytes (volumeContents (now (d .entry)) v))
+        (cond there (writtenVolume v) 0) (now (out .exit)) r ⌝ }
 {
     if there {
         return put_volume(out, at, v, size, d);
@@ -72,7 +76,9 @@ fn put_network_fields(out: &mut [u8], at: usize, n: Network, s: NetworkStarts) -
     requires starts { ⌜ s ≡ networkStarts n ⌝ }
     requires few { ⌜ writtenNetwork n ≤ most ⌝ }
     requires room { ⌜ at + (20 + cond (n .unicode) 8 0) ≤ length (now out) ⌝ }
-    ensures { λ r. ⌜ Wrote (now (out .entry)) at (networkFieldBytes n) (20 + cond (n .unicode) 8 0) (now (out .exit)) r ⌝ }
+    ensures written { λ r. ⌜ Wrote (now (out .entry)) at
+        (networkFieldBytes n)
+        (20 + cond (n .unicode) 8 0) (now (out .exit)) r ⌝ }
 {
     let named = format::device_there(n.flags);
     let head = sizes::network_head(n.unicode);
@@ -91,7 +97,9 @@ fn put_network_fields(out: &mut [u8], at: usize, n: Network, s: NetworkStarts) -
 fn put_network_names(out: &mut [u8], at: usize, n: Network, d: &[u8]) -> usize
     requires { ⌜ NetworkInBuffer (now d) n ⌝ }
     requires { ⌜ Room (now out) at (namesSize n) ⌝ }
-    ensures { λ r. ⌜ Wrote (now (out .entry)) at (networkNameBytes (now (d .entry)) n) (namesSize n) (now (out .exit)) r ⌝ }
+    ensures written { λ r. ⌜ Wrote (now (out .entry)) at
+        (networkNameBytes (now (d .entry)) n)
+        (namesSize n) (now (out .exit)) r ⌝ }
 {
     let named = format::device_there(n.flags);
     let both = format::device_unicode_there(n.unicode, n.flags);
@@ -105,7 +113,9 @@ fn put_network(out: &mut [u8], at: usize, n: Network, s: NetworkStarts, d: &[u8]
     requires inside { ⌜ NetworkInBuffer (now d) n ⌝ }
     requires room { ⌜ Room (now out) at (writtenNetwork n) ⌝ }
     requires starts { ⌜ s ≡ networkStarts n ⌝ }
-    ensures { λ r. ⌜ Wrote (now (out .entry)) at (networkBytes (networkContents (now (d .entry)) n)) (writtenNetwork n) (now (out .exit)) r ⌝ }
+    ensures written { λ r. ⌜ Wrote (now (out .entry)) at
+        (networkBytes (networkContents (now (d .entry)) n))
+        (writtenNetwork n) (now (out .exit)) r ⌝ }
 {
     let p = put_network_fields(out, at, n, s);
     put_network_names(out, p, n, d)
@@ -122,7 +132,9 @@ fn put_network_if(
     requires inside { ⌜ NetworkInBuffer (now d) n ⌝ }
     requires room { ⌜ Room (now out) at (cond there (writtenNetwork n) 0) ⌝ }
     requires starts { ⌜ s ≡ networkStarts n ⌝ }
-    ensures { λ r. ⌜ Wrote (now (out .entry)) at (ifThere there networkBytes (networkContents (now (d .entry)) n)) (cond there (writtenNetwork n) 0) (now (out .exit)) r ⌝ }
+    ensures written { λ r. ⌜ Wrote (now (out .entry)) at
+        (ifThere there networkBytes (networkContents (now (d .entry)) n))
+        (cond there (writtenNetwork n) 0) (now (out .exit)) r ⌝ }
 {
     if there {
         return put_network(out, at, n, s, d);
@@ -160,7 +172,9 @@ fn put_info_pieces(out: &mut [u8], at: usize, i: Info, s: InfoStarts, d: &[u8]) 
     requires inside { ⌜ InfoInBuffer (now d) i ⌝ }
     requires room { ⌜ Room (now out) at (piecesSize i) ⌝ }
     requires starts { ⌜ s ≡ infoStarts i ⌝ }
-    ensures { λ r. ⌜ Wrote (now (out .entry)) at (infoPieceBytes (now (d .entry)) i) (piecesSize i) (now (out .exit)) r ⌝ }
+    ensures written { λ r. ⌜ Wrote (now (out .entry)) at
+        (infoPieceBytes (now (d .entry)) i)
+        (piecesSize i) (now (out .exit)) r ⌝ }
 {
     let here = format::local_there(i.flags);
     let away = format::network_there(i.flags);
@@ -177,7 +191,9 @@ fn put_info(out: &mut [u8], at: usize, i: Info, s: InfoStarts, d: &[u8]) -> usiz
     requires inside { ⌜ InfoInBuffer (now d) i ⌝ }
     requires room { ⌜ Room (now out) at (writtenInfo i) ⌝ }
     requires starts { ⌜ s ≡ infoStarts i ⌝ }
-    ensures { λ r. ⌜ Wrote (now (out .entry)) at (infoBytes (infoContents (now (d .entry)) i)) (writtenInfo i) (now (out .exit)) r ⌝ }
+    ensures written { λ r. ⌜ Wrote (now (out .entry)) at
+        (infoBytes (infoContents (now (d .entry)) i))
+        (writtenInfo i) (now (out .exit)) r ⌝ }
 {
     let p = put_info_fields(out, at, i, s);
     put_info_pieces(out, p, i, s, d)
@@ -194,7 +210,9 @@ pub fn put_info_if(
     requires inside { ⌜ InfoInBuffer (now d) i ⌝ }
     requires room { ⌜ Room (now out) at (cond there (writtenInfo i) 0) ⌝ }
     requires starts { ⌜ s ≡ infoStarts i ⌝ }
-    ensures { λ r. ⌜ Wrote (now (out .entry)) at (ifThere there infoBytes (infoContents (now (d .entry)) i)) (cond there (writtenInfo i) 0) (now (out .exit)) r ⌝ }
+    ensures written { λ r. ⌜ Wrote (now (out .entry)) at
+        (ifThere there infoBytes (infoContents (now (d .entry)) i))
+        (cond there (writtenInfo i) 0) (now (out .exit)) r ⌝ }
 {
     if there {
         return put_info(out, at, i, s, d);

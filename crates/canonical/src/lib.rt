@@ -80,7 +80,9 @@ fn put_header(out: &mut [u8], at: usize, h: Header) -> usize
 fn put_items(out: &mut [u8], at: usize, d: &[u8], b: Place) -> usize
     requires { ⌜ InBuffer (now d) b ⌝ }
     requires { ⌜ Room (now out) at (b .len + 4) ⌝ }
-    ensures { λ r. ⌜ Wrote (now (out .entry)) at (itemsBytes (bytesAt (now (d .entry)) b)) (b .len + 4) (now (out .exit)) r ⌝ }
+    ensures written { λ r. ⌜ Wrote (now (out .entry)) at
+        (itemsBytes (bytesAt (now (d .entry)) b))
+        (b .len + 4) (now (out .exit)) r ⌝ }
 {
     let n = b.len;
     let p = add_u16(out, at, (n + 2) as u16);
@@ -91,7 +93,9 @@ fn put_items(out: &mut [u8], at: usize, d: &[u8], b: Place) -> usize
 fn put_items_if(there: bool, out: &mut [u8], at: usize, d: &[u8], b: Place) -> usize
     requires { ⌜ InBuffer (now d) b ⌝ }
     requires { ⌜ Room (now out) at (writtenIf there b 4) ⌝ }
-    ensures { λ r. ⌜ Wrote (now (out .entry)) at (ifThere there itemsBytes (bytesAt (now (d .entry)) b)) (writtenIf there b 4) (now (out .exit)) r ⌝ }
+    ensures written { λ r. ⌜ Wrote (now (out .entry)) at
+        (ifThere there itemsBytes (bytesAt (now (d .entry)) b))
+        (writtenIf there b 4) (now (out .exit)) r ⌝ }
 {
     if there {
         return put_items(out, at, d, b);
@@ -116,7 +120,9 @@ fn characters_in(unicode: bool, n: usize) -> u16
 fn put_string(out: &mut [u8], at: usize, d: &[u8], unicode: bool, b: Place) -> usize
     requires { ⌜ InBuffer (now d) b ⌝ }
     requires { ⌜ Room (now out) at (b .len + 2) ⌝ }
-    ensures { λ r. ⌜ Wrote (now (out .entry)) at (stringBytes unicode (bytesAt (now (d .entry)) b)) (b .len + 2) (now (out .exit)) r ⌝ }
+    ensures written { λ r. ⌜ Wrote (now (out .entry)) at
+        (stringBytes unicode (bytesAt (now (d .entry)) b))
+        (b .len + 2) (now (out .exit)) r ⌝ }
 {
     let n = b.len;
     let count = characters_in(unicode, n);
@@ -127,7 +133,9 @@ fn put_string(out: &mut [u8], at: usize, d: &[u8], unicode: bool, b: Place) -> u
 fn put_string_if(there: bool, out: &mut [u8], at: usize, d: &[u8], unicode: bool, b: Place) -> usize
     requires { ⌜ InBuffer (now d) b ⌝ }
     requires { ⌜ Room (now out) at (writtenIf there b 2) ⌝ }
-    ensures { λ r. ⌜ Wrote (now (out .entry)) at (ifThere there (stringBytes unicode) (bytesAt (now (d .entry)) b)) (writtenIf there b 2) (now (out .exit)) r ⌝ }
+    ensures written { λ r. ⌜ Wrote (now (out .entry)) at
+        (ifThere there (stringBytes unicode) (bytesAt (now (d .entry)) b))
+        (writtenIf there b 2) (now (out .exit)) r ⌝ }
 {
     if there {
         return put_string(out, at, d, unicode, b);
@@ -139,7 +147,9 @@ fn put_string_if(there: bool, out: &mut [u8], at: usize, d: &[u8], unicode: bool
 fn put_strings(out: &mut [u8], at: usize, q: Record, d: &[u8]) -> usize
     requires { ⌜ StringsInBuffer (now d) q ⌝ }
     requires { ⌜ Room (now out) at (writtenStrings q) ⌝ }
-    ensures { λ r. ⌜ Wrote (now (out .entry)) at (stringsBytes (now (d .entry)) q) (writtenStrings q) (now (out .exit)) r ⌝ }
+    ensures written { λ r. ⌜ Wrote (now (out .entry)) at
+        (stringsBytes (now (d .entry)) q)
+        (writtenStrings q) (now (out .exit)) r ⌝ }
 {
     let flags = q.header.flags;
     let unicode = format::strings_unicode(flags);
@@ -170,7 +180,9 @@ fn put_strings(out: &mut [u8], at: usize, q: Record, d: &[u8]) -> usize
 fn put_blocks(out: &mut [u8], at: usize, d: &[u8], b: Place) -> usize
     requires { ⌜ InBuffer (now d) b ⌝ }
     requires { ⌜ Room (now out) at (b .len + 4) ⌝ }
-    ensures { λ r. ⌜ Wrote (now (out .entry)) at (blocksBytes (bytesAt (now (d .entry)) b)) (b .len + 4) (now (out .exit)) r ⌝ }
+    ensures written { λ r. ⌜ Wrote (now (out .entry)) at
+        (blocksBytes (bytesAt (now (d .entry)) b))
+        (b .len + 4) (now (out .exit)) r ⌝ }
 {
     let p = put_body(out, at, d, b);
     add_u32(out, p, 0)

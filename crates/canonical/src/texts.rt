@@ -26,7 +26,9 @@ pub fn put_body(out: &mut [u8], at: usize, d: &[u8], b: Place) -> usize
 // One zero character.
 fn put_end(out: &mut [u8], at: usize, unicode: bool) -> usize
     requires { ⌜ at + bytesOf unicode 1 ≤ length (now out) ⌝ }
-    ensures { λ r. ⌜ Wrote (now (out .entry)) at (replicate (bytesOf unicode 1) 0) (bytesOf unicode 1) (now (out .exit)) r ⌝ }
+    ensures written { λ r. ⌜ Wrote (now (out .entry)) at
+        (replicate (bytesOf unicode 1) 0)
+        (bytesOf unicode 1) (now (out .exit)) r ⌝ }
 {
     if unicode {
         return add_u16(out, at, 0);
@@ -38,7 +40,9 @@ fn put_end(out: &mut [u8], at: usize, unicode: bool) -> usize
 pub fn put_text(out: &mut [u8], at: usize, d: &[u8], unicode: bool, b: Place) -> usize
     requires { ⌜ InBuffer (now d) b ⌝ }
     requires { ⌜ Room (now out) at (writtenText unicode b) ⌝ }
-    ensures { λ r. ⌜ Wrote (now (out .entry)) at (textBytes unicode (bytesAt (now (d .entry)) b)) (writtenText unicode b) (now (out .exit)) r ⌝ }
+    ensures written { λ r. ⌜ Wrote (now (out .entry)) at
+        (textBytes unicode (bytesAt (now (d .entry)) b))
+        (writtenText unicode b) (now (out .exit)) r ⌝ }
 {
     let p = put_body(out, at, d, b);
     put_end(out, p, unicode)
@@ -55,7 +59,9 @@ pub fn put_text_if(
 ) -> usize
     requires { ⌜ InBuffer (now d) b ⌝ }
     requires { ⌜ Room (now out) at (writtenTextIf there unicode b) ⌝ }
-    ensures { λ r. ⌜ Wrote (now (out .entry)) at (ifThere there (textBytes unicode) (bytesAt (now (d .entry)) b)) (writtenTextIf there unicode b) (now (out .exit)) r ⌝ }
+    ensures written { λ r. ⌜ Wrote (now (out .entry)) at
+        (ifThere there (textBytes unicode) (bytesAt (now (d .entry)) b))
+        (writtenTextIf there unicode b) (now (out .exit)) r ⌝ }
 {
     if there {
         return put_text(out, at, d, unicode, b);

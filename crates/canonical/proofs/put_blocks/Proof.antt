@@ -1,3 +1,4 @@
+-- The blocks are their body and then the terminal block, a zero of four bytes.
 use Rattle.octets.proofs.WroteLaws.{join, reword}
 use native.Mathlib.Omega.{arith}
 use mathlib.Core.Path.{refl}
@@ -16,7 +17,9 @@ same-length c = search needs
 
 returns : tie.Need-returns
 returns c =
-    reword (join (c .before .before .before .before .before .before .put-body .ensures) (c .before .before .add-u32 .ensures)) refl (omega arith)
+    let after-end = c .before .before in
+    let after-body = after-end .before .before .before .before in
+    reword (join (after-body .put-body .ensures) (after-end .add-u32 .ensures)) refl (omega arith)
 
 pub put-blocks-spec : {M : Type 1} → statement M
 put-blocks-spec = tie.close (tie.spec put-body-requires add-u32-requires same-length returns)

@@ -1,3 +1,4 @@
+-- The header's bytes are those of its beginning, its marks and its view, end to end.
 use Rattle.canonical.proofs.LayoutLaws.{header-is}
 use Rattle.octets.proofs.WroteLaws.{join, reword}
 use mathlib.Core.Path.{refl}
@@ -19,7 +20,10 @@ same-length c = search needs
 
 returns : tie.Need-returns
 returns c =
-    reword (join (c .before .before .before .before .before .before .before .before .before .before .put-magic .ensures) (join (c .before .before .before .before .before .before .put-marks .ensures) (c .before .before .put-view .ensures))) (header-is _) refl
+    let after-put-view = c .before .before in
+    let after-put-marks = after-put-view .before .before .before .before in
+    let after-put-magic = after-put-marks .before .before .before .before in
+    reword (join (after-put-magic .put-magic .ensures) (join (after-put-marks .put-marks .ensures) (after-put-view .put-view .ensures))) (header-is _) refl
 
 pub put-header-spec : {M : Type 1} → statement M
 put-header-spec =

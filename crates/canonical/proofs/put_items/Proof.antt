@@ -1,3 +1,4 @@
+-- The items are their size, their body and an end of two zero bytes; they are few enough that the size fits in two bytes.
 use Rattle.canonical.proofs.LayoutLaws.{items-is}
 use Rattle.octets.proofs.WroteLaws.{join, reword}
 use native.Mathlib.Omega.{arith}
@@ -25,7 +26,11 @@ same-length c = search needs
 
 returns : tie.Need-returns
 returns c =
-    reword (join (c .before .before .before .before .before .before .before .before .before .before .add-u16 .ensures) (join (c .before .before .before .before .before .before .put-body .ensures) (c .before .before .add-u162 .ensures))) (items-is (c .before .before .before .before .before .before .before .before .before .before .before .before .before .before .pre .0)) (omega arith)
+    let after-end = c .before .before in
+    let after-body = after-end .before .before .before .before in
+    let after-size = after-body .before .before .before .before in
+    let start = after-size .before .before .before .before in
+    reword (join (after-size .add-u16 .ensures) (join (after-body .put-body .ensures) (after-end .add-u162 .ensures))) (items-is (start .pre .0)) (omega arith)
 
 pub put-items-spec : {M : Type 1} → statement M
 put-items-spec =

@@ -1,3 +1,4 @@
+-- The header's size and the class identifier are five numbers of four bytes, end to end.
 use Rattle.canonical.proofs.LayoutLaws.{magic-is}
 use Rattle.octets.proofs.WroteLaws.{join, reword}
 use mathlib.Core.Path.{refl}
@@ -25,8 +26,13 @@ same-length c = search needs
 
 returns : tie.Need-returns
 returns c =
+    let after-class-4 = c .before .before in
+    let after-class-3 = after-class-4 .before .before .before .before in
+    let after-class-2 = after-class-3 .before .before .before .before in
+    let after-class-1 = after-class-2 .before .before .before .before in
+    let after-size = after-class-1 .before .before .before .before in
     reword
-    (join (c .before .before .before .before .before .before .before .before .before .before .before .before .before .before .before .before .before .before .add-u32 .ensures) (join (c .before .before .before .before .before .before .before .before .before .before .before .before .before .before .add-u322 .ensures) (join (c .before .before .before .before .before .before .before .before .before .before .add-u323 .ensures) (join (c .before .before .before .before .before .before .add-u324 .ensures) (c .before .before .add-u325 .ensures)))))
+    (join (after-size .add-u32 .ensures) (join (after-class-1 .add-u322 .ensures) (join (after-class-2 .add-u323 .ensures) (join (after-class-3 .add-u324 .ensures) (after-class-4 .add-u325 .ensures)))))
     magic-is refl
 
 pub put-magic-spec : {M : Type 1} → statement M

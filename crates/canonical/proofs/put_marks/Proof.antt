@@ -1,3 +1,4 @@
+-- The marks are five numbers, put one after another.
 use Rattle.canonical.specs.Steps.Layout.{markBytes}
 use Rattle.octets.proofs.WroteLaws.{join, last}
 use borrow.Author.Needs.{needs}
@@ -25,7 +26,12 @@ same-length c = search needs
 returns : tie.Need-returns
 unfolding markBytes
 returns c =
-    join (c .before .before .before .before .before .before .before .before .before .before .before .before .before .before .before .before .before .before .add-u32 .ensures) (join (c .before .before .before .before .before .before .before .before .before .before .before .before .before .before .add-u322 .ensures) (join (c .before .before .before .before .before .before .before .before .before .before .add-u64 .ensures) (join (c .before .before .before .before .before .before .add-u642 .ensures) (last (c .before .before .add-u643 .ensures)))))
+    let after-write = c .before .before in
+    let after-access = after-write .before .before .before .before in
+    let after-creation = after-access .before .before .before .before in
+    let after-attributes = after-creation .before .before .before .before in
+    let after-flags = after-attributes .before .before .before .before in
+    join (after-flags .add-u32 .ensures) (join (after-attributes .add-u322 .ensures) (join (after-creation .add-u64 .ensures) (join (after-access .add-u642 .ensures) (last (after-write .add-u643 .ensures)))))
 
 pub put-marks-spec : {M : Type 1} → statement M
 put-marks-spec =

@@ -1,3 +1,4 @@
+-- A string is its number of characters and then its body, and the number was counted by the kind of the characters.
 use Rattle.canonical.proofs.LayoutLaws.{string-is}
 use Rattle.octets.proofs.WroteLaws.{join, reword}
 use native.Mathlib.Omega.{arith}
@@ -19,7 +20,11 @@ same-length c = search needs
 
 returns : tie.Need-returns
 returns c =
-    reword (join (c .before .before .before .before .before .before .add-u16 .ensures) (c .before .before .put-body .ensures)) (string-is (c .before .before .before .before .before .before .before .before .before .before .before .pre .0) _ (c .before .before .before .before .before .before .before .before .characters-in .ensures)) (omega arith)
+    let after-body = c .before .before in
+    let after-count = after-body .before .before .before .before in
+    let after-characters-in = after-count .before .before in
+    let start = after-characters-in .before .before .before in
+    reword (join (after-count .add-u16 .ensures) (after-body .put-body .ensures)) (string-is (start .pre .0) _ (after-characters-in .characters-in .ensures)) (omega arith)
 
 pub put-string-spec : {M : Type 1} → statement M
 put-string-spec =

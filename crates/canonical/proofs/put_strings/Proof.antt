@@ -18,12 +18,12 @@ name-there-requires c κs = search needs
 put-string-if-requires : tie.Need-put-string-if-requires
 unfolding writtenStrings
 put-string-if-requires c κs =
-    let p4 = c .before .before .before .before in
-    let s = p4 .before in
-    let h = s .pre .1 in
-    let q = s .args .q in
-    let k₁ = ap (λ (t : Bool). writtenIf t (q .name) 2) (c .before .name-there .ensures) in
-    (s .pre .0 .name, record { room = omega arith; few = omega arith })
+    let after-name-there = c .before in
+    let start = after-name-there .before .before .before .before in
+    let h = start .pre .1 in
+    let q = start .args .q in
+    let k₁ = ap (λ (t : Bool). writtenIf t (q .name) 2) (after-name-there .name-there .ensures) in
+    (start .pre .0 .name, record { room = omega arith; few = omega arith })
 
 relative-there-requires : tie.Need-relative-there-requires
 relative-there-requires c κs = search needs
@@ -31,14 +31,15 @@ relative-there-requires c κs = search needs
 put-string-if-requires-2 : tie.Need-put-string-if-requires-2
 unfolding writtenStrings
 put-string-if-requires-2 c κs =
-    let p4 = c .before .before .before .before in
-    let p8 = p4 .before .before .before .before in
-    let s = p8 .before .before in
-    let h = s .pre .1 in
-    let q = s .args .q in
-    let k₁ = ap (λ (t : Bool). writtenIf t (q .name) 2) (p4 .before .before .name-there .ensures) in
-    let k₂ = ap (λ (t : Bool). writtenIf t (q .relative) 2) (c .before .relative-there .ensures) in
-    (s .pre .0 .relative, record { room = omega arith; few = omega arith })
+    let after-relative-there = c .before in
+    let after-put-name = after-relative-there .before .before .before in
+    let after-name-there = after-put-name .before .before in
+    let start = after-name-there .before .before .before .before in
+    let h = start .pre .1 in
+    let q = start .args .q in
+    let k₁ = ap (λ (t : Bool). writtenIf t (q .name) 2) (after-name-there .name-there .ensures) in
+    let k₂ = ap (λ (t : Bool). writtenIf t (q .relative) 2) (after-relative-there .relative-there .ensures) in
+    (start .pre .0 .relative, record { room = omega arith; few = omega arith })
 
 workdir-there-requires : tie.Need-workdir-there-requires
 workdir-there-requires c κs = search needs
@@ -46,16 +47,18 @@ workdir-there-requires c κs = search needs
 put-string-if-requires-3 : tie.Need-put-string-if-requires-3
 unfolding writtenStrings
 put-string-if-requires-3 c κs =
-    let p4 = c .before .before .before .before in
-    let p8 = p4 .before .before .before .before in
-    let p12 = p8 .before .before .before .before in
-    let s = p12 .before .before .before in
-    let h = s .pre .1 in
-    let q = s .args .q in
-    let k₁ = ap (λ (t : Bool). writtenIf t (q .name) 2) (p8 .before .before .before .name-there .ensures) in
-    let k₂ = ap (λ (t : Bool). writtenIf t (q .relative) 2) (p4 .before .before .relative-there .ensures) in
-    let k₃ = ap (λ (t : Bool). writtenIf t (q .workdir) 2) (c .before .workdir-there .ensures) in
-    (s .pre .0 .workdir, record { room = omega arith; few = omega arith })
+    let after-workdir-there = c .before in
+    let after-put-relative = after-workdir-there .before .before .before in
+    let after-relative-there = after-put-relative .before .before in
+    let after-put-name = after-relative-there .before .before .before in
+    let after-name-there = after-put-name .before .before in
+    let start = after-name-there .before .before .before .before in
+    let h = start .pre .1 in
+    let q = start .args .q in
+    let k₁ = ap (λ (t : Bool). writtenIf t (q .name) 2) (after-name-there .name-there .ensures) in
+    let k₂ = ap (λ (t : Bool). writtenIf t (q .relative) 2) (after-relative-there .relative-there .ensures) in
+    let k₃ = ap (λ (t : Bool). writtenIf t (q .workdir) 2) (after-workdir-there .workdir-there .ensures) in
+    (start .pre .0 .workdir, record { room = omega arith; few = omega arith })
 
 arguments-there-requires : tie.Need-arguments-there-requires
 arguments-there-requires c κs = search needs
@@ -63,25 +66,27 @@ arguments-there-requires c κs = search needs
 put-string-if-requires-4 : tie.Need-put-string-if-requires-4
 unfolding writtenStrings
 put-string-if-requires-4 c κs =
-    let p4 = c .before .before .before .before in
-    let p8 = p4 .before .before .before .before in
-    let p12 = p8 .before .before .before .before in
-    let p16 = p12 .before .before .before .before in
-    let p20 = p16 .before .before .before .before in
-    let s = p20 in
-    let h = s .pre .1 in
-    let q = s .args .q in
-    let k₁ = ap (λ (t : Bool). writtenIf t (q .name) 2) (p16 .name-there .ensures) in
-    let k₂ = ap (λ (t : Bool). writtenIf t (q .relative) 2) (p8 .before .before .before .relative-there .ensures) in
-    let k₃ = ap (λ (t : Bool). writtenIf t (q .workdir) 2) (p4 .before .before .workdir-there .ensures) in
-    let k₄ = ap (λ (t : Bool). writtenIf t (q .arguments) 2) (c .before .arguments-there .ensures) in
-    let w₁ = (p12 .before .before .put-string-if .ensures) in
+    let after-arguments-there = c .before in
+    let after-put-workdir = after-arguments-there .before .before .before in
+    let after-workdir-there = after-put-workdir .before .before in
+    let after-put-relative = after-workdir-there .before .before .before in
+    let after-relative-there = after-put-relative .before .before in
+    let after-put-name = after-relative-there .before .before .before in
+    let after-name-there = after-put-name .before .before in
+    let start = after-name-there .before .before .before .before in
+    let h = start .pre .1 in
+    let q = start .args .q in
+    let k₁ = ap (λ (t : Bool). writtenIf t (q .name) 2) (after-name-there .name-there .ensures) in
+    let k₂ = ap (λ (t : Bool). writtenIf t (q .relative) 2) (after-relative-there .relative-there .ensures) in
+    let k₃ = ap (λ (t : Bool). writtenIf t (q .workdir) 2) (after-workdir-there .workdir-there .ensures) in
+    let k₄ = ap (λ (t : Bool). writtenIf t (q .arguments) 2) (after-arguments-there .arguments-there .ensures) in
+    let w₁ = (after-put-name .put-string-if .ensures) in
     let l₁ = kept w₁ in
-    let w₂ = (p8 .before .put-string-if2 .ensures) in
+    let w₂ = (after-put-relative .put-string-if2 .ensures) in
     let l₂ = kept w₂ in
-    let w₃ = (p4 .put-string-if3 .ensures) in
+    let w₃ = (after-put-workdir .put-string-if3 .ensures) in
     let l₃ = kept w₃ in
-    (s .pre .0 .arguments, record { room = omega arith; few = omega arith })
+    (start .pre .0 .arguments, record { room = omega arith; few = omega arith })
 
 icon-there-requires : tie.Need-icon-there-requires
 icon-there-requires c κs = search needs
@@ -89,29 +94,32 @@ icon-there-requires c κs = search needs
 put-string-if-requires-5 : tie.Need-put-string-if-requires-5
 unfolding writtenStrings
 put-string-if-requires-5 c κs =
-    let p4 = c .before .before .before .before in
-    let p8 = p4 .before .before .before .before in
-    let p12 = p8 .before .before .before .before in
-    let p16 = p12 .before .before .before .before in
-    let p20 = p16 .before .before .before .before in
-    let p24 = p20 .before .before .before .before in
-    let s = p24 .before in
-    let h = s .pre .1 in
-    let q = s .args .q in
-    let k₁ = ap (λ (t : Bool). writtenIf t (q .name) 2) (p20 .before .name-there .ensures) in
-    let k₂ = ap (λ (t : Bool). writtenIf t (q .relative) 2) (p16 .relative-there .ensures) in
-    let k₃ = ap (λ (t : Bool). writtenIf t (q .workdir) 2) (p8 .before .before .before .workdir-there .ensures) in
-    let k₄ = ap (λ (t : Bool). writtenIf t (q .arguments) 2) (p4 .before .before .arguments-there .ensures) in
-    let k₅ = ap (λ (t : Bool). writtenIf t (q .icon) 2) (c .before .icon-there .ensures) in
-    let w₁ = (p16 .before .before .before .put-string-if .ensures) in
+    let after-icon-there = c .before in
+    let after-put-arguments = after-icon-there .before .before .before in
+    let after-arguments-there = after-put-arguments .before .before in
+    let after-put-workdir = after-arguments-there .before .before .before in
+    let after-workdir-there = after-put-workdir .before .before in
+    let after-put-relative = after-workdir-there .before .before .before in
+    let after-relative-there = after-put-relative .before .before in
+    let after-put-name = after-relative-there .before .before .before in
+    let after-name-there = after-put-name .before .before in
+    let start = after-name-there .before .before .before .before in
+    let h = start .pre .1 in
+    let q = start .args .q in
+    let k₁ = ap (λ (t : Bool). writtenIf t (q .name) 2) (after-name-there .name-there .ensures) in
+    let k₂ = ap (λ (t : Bool). writtenIf t (q .relative) 2) (after-relative-there .relative-there .ensures) in
+    let k₃ = ap (λ (t : Bool). writtenIf t (q .workdir) 2) (after-workdir-there .workdir-there .ensures) in
+    let k₄ = ap (λ (t : Bool). writtenIf t (q .arguments) 2) (after-arguments-there .arguments-there .ensures) in
+    let k₅ = ap (λ (t : Bool). writtenIf t (q .icon) 2) (after-icon-there .icon-there .ensures) in
+    let w₁ = (after-put-name .put-string-if .ensures) in
     let l₁ = kept w₁ in
-    let w₂ = (p12 .before .before .put-string-if2 .ensures) in
+    let w₂ = (after-put-relative .put-string-if2 .ensures) in
     let l₂ = kept w₂ in
-    let w₃ = (p8 .before .put-string-if3 .ensures) in
+    let w₃ = (after-put-workdir .put-string-if3 .ensures) in
     let l₃ = kept w₃ in
-    let w₄ = (p4 .put-string-if4 .ensures) in
+    let w₄ = (after-put-arguments .put-string-if4 .ensures) in
     let l₄ = kept w₄ in
-    (s .pre .0 .icon, record { room = omega arith; few = omega arith })
+    (start .pre .0 .icon, record { room = omega arith; few = omega arith })
 
 same-length : tie.Need-same-length
 same-length c = search needs
@@ -119,24 +127,28 @@ same-length c = search needs
 returns : tie.Need-returns
 unfolding writtenStrings stringsBytes
 returns c =
-    let p4 = c .before .before .before .before in
-    let p8 = p4 .before .before .before .before in
-    let p12 = p8 .before .before .before .before in
-    let p16 = p12 .before .before .before .before in
-    let p20 = p16 .before .before .before .before in
-    let p24 = p20 .before .before .before .before in
-    let p28 = p24 .before .before .before .before in
-    let s = p28 in
-    let h = s .pre .1 in
-    let q = s .args .q in
-    let k₁ = ap (λ (t : Bool). writtenIf t (q .name) 2) (p24 .name-there .ensures) in
-    let k₂ = ap (λ (t : Bool). writtenIf t (q .relative) 2) (p16 .before .before .before .relative-there .ensures) in
-    let k₃ = ap (λ (t : Bool). writtenIf t (q .workdir) 2) (p12 .before .before .workdir-there .ensures) in
-    let k₄ = ap (λ (t : Bool). writtenIf t (q .arguments) 2) (p8 .before .arguments-there .ensures) in
-    let k₅ = ap (λ (t : Bool). writtenIf t (q .icon) 2) (p4 .icon-there .ensures) in
+    let after-put-icon = c .before .before in
+    let after-icon-there = after-put-icon .before .before in
+    let after-put-arguments = after-icon-there .before .before .before in
+    let after-arguments-there = after-put-arguments .before .before in
+    let after-put-workdir = after-arguments-there .before .before .before in
+    let after-workdir-there = after-put-workdir .before .before in
+    let after-put-relative = after-workdir-there .before .before .before in
+    let after-relative-there = after-put-relative .before .before in
+    let after-put-name = after-relative-there .before .before .before in
+    let after-name-there = after-put-name .before .before in
+    let after-strings-unicode = after-name-there .before in
+    let start = after-strings-unicode .before .before .before in
+    let h = start .pre .1 in
+    let q = start .args .q in
+    let k₁ = ap (λ (t : Bool). writtenIf t (q .name) 2) (after-name-there .name-there .ensures) in
+    let k₂ = ap (λ (t : Bool). writtenIf t (q .relative) 2) (after-relative-there .relative-there .ensures) in
+    let k₃ = ap (λ (t : Bool). writtenIf t (q .workdir) 2) (after-workdir-there .workdir-there .ensures) in
+    let k₄ = ap (λ (t : Bool). writtenIf t (q .arguments) 2) (after-arguments-there .arguments-there .ensures) in
+    let k₅ = ap (λ (t : Bool). writtenIf t (q .icon) 2) (after-icon-there .icon-there .ensures) in
     reword
-    (join (p20 .before .before .put-string-if .ensures) (join (p16 .before .put-string-if2 .ensures) (join (p12 .put-string-if3 .ensures) (join (p4 .before .before .before .put-string-if4 .ensures) (last (c .before .before .put-string-if5 .ensures))))))
-    (rw ((p24 .name-there .ensures), (p16 .before .before .before .relative-there .ensures), (p12 .before .before .workdir-there .ensures), (p8 .before .arguments-there .ensures), (p4 .icon-there .ensures), (p24 .before .strings-unicode .ensures))) (omega arith)
+    (join (after-put-name .put-string-if .ensures) (join (after-put-relative .put-string-if2 .ensures) (join (after-put-workdir .put-string-if3 .ensures) (join (after-put-arguments .put-string-if4 .ensures) (last (after-put-icon .put-string-if5 .ensures))))))
+    (rw ((after-name-there .name-there .ensures), (after-relative-there .relative-there .ensures), (after-workdir-there .workdir-there .ensures), (after-arguments-there .arguments-there .ensures), (after-icon-there .icon-there .ensures), (after-strings-unicode .strings-unicode .ensures))) (omega arith)
 
 pub put-strings-spec : {M : Type 1} → statement M
 put-strings-spec =

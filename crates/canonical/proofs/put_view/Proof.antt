@@ -1,3 +1,4 @@
+-- The view is six numbers, put one after another; the icon's index is put by its bits, which stand for the index since it fits in them.
 use mir.Facts.{toZ-ofZ}
 use mir.Syntax.{w32}
 use Rattle.canonical.proofs.LayoutLaws.{view-is}
@@ -33,10 +34,19 @@ same-length c = search needs
 
 returns : tie.Need-returns
 returns c =
-    let back = toZ-ofZ {w = w32} {z = c .before .before .before .before .before .before .before .before .before .before .before .before .before .before .before .before .before .before .before .before .before .before .before .before .before .before .before .args .h .«icon_index»} (record { sfits = c .before .before .before .before .before .before .before .before .before .before .before .before .before .before .before .before .before .before .before .before .before .before .before .before .before .struct-told .given .1 .1 .1 .1 .1 .1 .0 .1 }) in
+    let after-last-zeros = c .before .before in
+    let after-zeros = after-last-zeros .before .before .before .before in
+    let after-hotkey = after-zeros .before .before .before .before in
+    let after-command = after-hotkey .before .before .before .before in
+    let after-icon = after-command .before .before .before .before in
+    let after-file-size = after-icon .before .before .before .before in
+    let after-bits-of = after-file-size .before .before in
+    let after-told = after-bits-of .before in
+    let start = after-told .before .before in
+    let back = toZ-ofZ {w = w32} {z = start .args .h .«icon_index»} (record { sfits = after-told .struct-told .given .1 .1 .1 .1 .1 .1 .0 .1 }) in
     reword
-    (join (c .before .before .before .before .before .before .before .before .before .before .before .before .before .before .before .before .before .before .before .before .before .before .add-u32 .ensures) (join (c .before .before .before .before .before .before .before .before .before .before .before .before .before .before .before .before .before .before .add-u322 .ensures) (join (c .before .before .before .before .before .before .before .before .before .before .before .before .before .before .add-u323 .ensures) (join (c .before .before .before .before .before .before .before .before .before .before .add-u16 .ensures) (join (c .before .before .before .before .before .before .add-u64 .ensures) (c .before .before .add-u162 .ensures))))))
-    (view-is (c .before .before .before .before .before .before .before .before .before .before .before .before .before .before .before .before .before .before .before .before .before .before .before .before .before .before .before .args .h) (rw back at (c .before .before .before .before .before .before .before .before .before .before .before .before .before .before .before .before .before .before .before .before .before .before .before .before .bits-of .ensures))) refl
+    (join (after-file-size .add-u32 .ensures) (join (after-icon .add-u322 .ensures) (join (after-command .add-u323 .ensures) (join (after-hotkey .add-u16 .ensures) (join (after-zeros .add-u64 .ensures) (after-last-zeros .add-u162 .ensures))))))
+    (view-is (start .args .h) (rw back at (after-bits-of .bits-of .ensures))) refl
 
 pub put-view-spec : {M : Type 1} → statement M
 put-view-spec =

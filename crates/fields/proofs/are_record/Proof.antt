@@ -1,3 +1,4 @@
+-- The numbers of a record are those of its header and those of its LinkInfo together.
 use Rattle.fields.proofs.Laws.{joined-parts}
 use borrow.Author.Needs.{needs}
 use Rattle.fields.proofs.are_record.Statement.{statement}

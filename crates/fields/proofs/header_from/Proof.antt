@@ -1,3 +1,4 @@
+-- The tests of the header's numbers have each number fit its field; the icon's index is the number read as signed.
 use mir.Syntax.{w32}
 use mir.ValLaws.{toZ-ofZ}
 use mathlib.Core.Path.{_∙_}
@@ -32,13 +33,19 @@ shared-slice-read-t15 : tie.Need-shared-slice-read-t15
 shared-slice-read-t15 c = search needs
 
 cast-t16 : tie.Need-cast-t16
-cast-t16 c = record { fits = header-fits _ (c .before .before .before .before .before .before .before .pre .1) .size }
+cast-t16 c =
+    let after-attributes = c .before .before .before .before in
+    let start = after-attributes .before .before .before in
+    record { fits = header-fits _ (start .pre .1) .size }
 
 shared-slice-read-signed : tie.Need-shared-slice-read-signed
 shared-slice-read-signed c = search needs
 
 cast-signed : tie.Need-cast-signed
-cast-signed c = record { fits = header-fits _ (c .before .before .before .before .before .before .before .before .pre .1) .icon }
+cast-signed c =
+    let after-creation = c .before .before .before .before in
+    let start = after-creation .before .before .before .before in
+    record { fits = header-fits _ (start .pre .1) .icon }
 
 signed-requires : tie.Need-signed-requires
 signed-requires c κs = search needs
@@ -48,14 +55,20 @@ shared-slice-read-t22 c = search needs
 
 cast-t23 : tie.Need-cast-t23
 cast-t23 c =
-    record { fits = header-fits _ (c .before .before .before .before .before .before .before .before .before .before .pre .1) .command }
+    let after-write = c .before .before .before .before in
+    let after-flags = after-write .before .before .before .before in
+    let start = after-flags .before .before in
+    record { fits = header-fits _ (start .pre .1) .command }
 
 shared-slice-read-t25 : tie.Need-shared-slice-read-t25
 shared-slice-read-t25 c = search needs
 
 cast-t26 : tie.Need-cast-t26
 cast-t26 c =
-    record { fits = header-fits _ (c .before .before .before .before .before .before .before .before .before .before .before .pre .1) .hotkey }
+    let after-file-size = c .before .before .before .before in
+    let after-attributes = after-file-size .before .before .before .before in
+    let start = after-attributes .before .before .before in
+    record { fits = header-fits _ (start .pre .1) .hotkey }
 
 returns : tie.Need-returns
 returns c =

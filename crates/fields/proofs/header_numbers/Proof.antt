@@ -1,3 +1,4 @@
+-- The tests that the code joins one by one are every test of the list.
 use lib.Dec.{ltb}
 use lib.ListN.{getD}
 use mathlib.Core.List.{[], _∷_}
@@ -28,7 +29,9 @@ shared-slice-read-result-6 c = search needs
 returns : tie.Need-returns
 unfolding headerNumbers
 returns c =
-    let f = c .before .before .before .before .before .before .args .f .now in
+    let after-flags = c .before .before .before .before in
+    let start = after-flags .before .before in
+    let f = start .args .f .now in
     joined-every (wordAt f 0) (wordAt f 1 ∷ wordAt f 5 ∷ wordAt f 6 ∷ wordAt f 7 ∷ ltb (getD f 8 0) 65536 ∷ [])
 
 pub header-numbers-spec : {M : Type 1} → statement M

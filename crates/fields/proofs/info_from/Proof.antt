@@ -1,3 +1,4 @@
+-- Each part of LinkInfo is read from its own numbers and its own slot.
 use Rattle.fields.proofs.Laws.{info-fits, info-is}
 use borrow.Author.Needs.{needs}
 use Rattle.fields.proofs.info_from.Statement.{statement}
@@ -32,7 +33,12 @@ slot-at-requires-4 c κs = search needs
 
 returns : tie.Need-returns
 returns c =
-    info-is _ (c .before .before .before .before .before .volume-from .ensures) (c .before .before .before .before .slot-at .ensures) (c .before .before .before .network-from .ensures) (c .before .before .slot-at2 .ensures) (c .before .slot-at3 .ensures) (c .slot-at4 .ensures)
+    let after-local-unicode = c .before in
+    let after-suffix = after-local-unicode .before in
+    let after-network = after-suffix .before in
+    let after-local = after-network .before in
+    let after-volume = after-local .before in
+    info-is _ (after-volume .volume-from .ensures) (after-local .slot-at .ensures) (after-network .network-from .ensures) (after-suffix .slot-at2 .ensures) (after-local-unicode .slot-at3 .ensures) (c .slot-at4 .ensures)
 
 pub info-from-spec : {M : Type 1} → statement M
 info-from-spec =

@@ -1,3 +1,4 @@
+-- The tests that the code joins one by one are every test of the list.
 use mathlib.Core.List.{[], _∷_}
 use Rattle.fields.specs.Fields.{wordAt, flagAt, infoNumbers}
 use Rattle.format.proofs.Bools.{joined-every}
@@ -32,7 +33,9 @@ shared-slice-read-result-8 c = search needs
 returns : tie.Need-returns
 unfolding infoNumbers
 returns c =
-    let f = c .before .before .before .before .before .before .before .before .args .f .now in
+    let after-drive = c .before .before .before .before in
+    let start = after-drive .before .before .before .before in
+    let f = start .args .f .now in
     joined-every (wordAt f 9) (flagAt f 10 ∷ wordAt f 11 ∷ wordAt f 12 ∷ flagAt f 13 ∷ wordAt f 14 ∷ wordAt f 15 ∷ flagAt f 16 ∷ [])
 
 pub info-numbers-spec : {M : Type 1} → statement M

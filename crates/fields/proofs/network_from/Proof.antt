@@ -1,3 +1,4 @@
+-- The tests of LinkInfo's numbers have each number fit its field; each name is read from its own slot.
 use Rattle.fields.proofs.Laws.{info-fits, network-is}
 use borrow.Author.Needs.{needs}
 use Rattle.fields.proofs.network_from.Statement.{statement}

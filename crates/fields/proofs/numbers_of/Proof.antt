@@ -1,3 +1,4 @@
+-- Each number is that of its field; the icon's index goes by its bits, which stand for the index since it fits in them.
 use Rattle.fields.proofs.Laws.{numbers-are}
 use mir.Facts.{toZ-ofZ}
 use mir.Syntax.{w32}
@@ -64,9 +65,16 @@ cast-t25 c = search needs
 
 returns : tie.Need-returns
 returns c =
-    let q = c .before .before .before .before .before .before .before .before .before .before .before .before .before .before .before .before .before .before .before .before .args .q in
-    let back = toZ-ofZ {w = w32} {z = q .header .«icon_index»} (record { sfits = c .before .before .before .before .before .before .before .before .before .before .before .before .struct-told .given .1 .1 .1 .1 .1 .1 .0 .1 }) in
-    numbers-are q (rw back at (c .before .before .before .before .before .before .before .before .before .before .before .bits-of .ensures)) (c .before .before .before .before .before .before .before .one-or-0 .ensures) (c .before .before .before .before .label-unicode .ensures) (c .before .before .before .one-or-02 .ensures) (c .one-or-03 .ensures)
+    let after-label-kind = c .before .before .before in
+    let after-label-unicode = after-label-kind .before in
+    let after-long = after-label-unicode .before .before .before in
+    let after-icon = after-long .before .before .before .before in
+    let after-told = after-icon .before in
+    let after-network = after-told .before .before .before .before in
+    let start = after-network .before .before .before .before in
+    let q = start .args .q in
+    let back = toZ-ofZ {w = w32} {z = q .header .«icon_index»} (record { sfits = after-told .struct-told .given .1 .1 .1 .1 .1 .1 .0 .1 }) in
+    numbers-are q (rw back at (after-icon .bits-of .ensures)) (after-long .one-or-0 .ensures) (after-label-unicode .label-unicode .ensures) (after-label-kind .one-or-02 .ensures) (c .one-or-03 .ensures)
 
 pub numbers-of-spec : {M : Type 1} → statement M
 numbers-of-spec =

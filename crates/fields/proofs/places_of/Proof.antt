@@ -1,3 +1,4 @@
+-- The places are listed in order, and the label's is the one that was asked for.
 use Rattle.fields.specs.Fields.{placesOf}
 use borrow.Author.Needs.{needs}
 use Rattle.fields.proofs.places_of.Statement.{statement}

@@ -1,3 +1,4 @@
+-- The numbers and then the places fill all fields, so nothing of what was there before is left.
 use Rattle.fields.proofs.Laws.{filled}
 use borrow.Author.Needs.{needs}
 use Rattle.fields.proofs.put_fields.Statement.{statement}
@@ -26,7 +27,13 @@ same-length c = search needs
 
 returns : tie.Need-returns
 returns c =
-    filled _ _ (c .before .before .before .before .before .before .before .before .before .before .before .before .before .pre) (c .before .before .before .before .before .before .before .before .before .before .before .numbers-of .ensures) (c .before .before .before .before .before .before .before .before .before .before .places-of .ensures) (c .before .before .before .before .before .before .before .put-numbers .ensures) (c .before .before .put-numbers2 .ensures)
+    let after-put-places = c .before .before in
+    let after-places = after-put-places .before in
+    let after-put-numbers = after-places .before .before .before .before in
+    let after-places-of = after-put-numbers .before .before .before in
+    let after-numbers-of = after-places-of .before in
+    let start = after-numbers-of .before .before in
+    filled _ _ (start .pre) (after-numbers-of .numbers-of .ensures) (after-places-of .places-of .ensures) (after-put-numbers .put-numbers .ensures) (after-put-places .put-numbers2 .ensures)
 
 pub put-fields-spec : {M : Type 1} → statement M
 put-fields-spec =

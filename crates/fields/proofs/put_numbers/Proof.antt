@@ -1,3 +1,4 @@
+-- After i steps the first i numbers stand at their places; the length is kept by itself, so that each store is seen to be in range.
 use Rattle.octets.proofs.PartLaws.{putting, put-none, put-more, put-whole}
 use lib.ListN.{length, length-set}
 use mathlib.Core.Path.{_≡_, refl}

@@ -1,3 +1,4 @@
+-- The tests of the whole are those of the header and of LinkInfo, and each part is read from its own slot.
 use Rattle.fields.proofs.Laws.{both-parts, record-is}
 use borrow.Author.Needs.{needs}
 use Rattle.fields.proofs.record_from.Statement.{statement}
@@ -32,7 +33,15 @@ slot-at-requires-7 c κs = search needs
 
 returns : tie.Need-returns
 returns c =
-    record-is _ (c .before .before .before .before .before .before .before .before .header-from .ensures) (c .before .before .before .before .before .before .before .slot-at .ensures) (c .before .before .before .before .before .before .info-from .ensures) (c .before .before .before .before .before .slot-at2 .ensures) (c .before .before .before .before .slot-at3 .ensures) (c .before .before .before .slot-at4 .ensures) (c .before .before .slot-at5 .ensures) (c .before .slot-at6 .ensures) (c .slot-at7 .ensures)
+    let after-icon = c .before in
+    let after-arguments = after-icon .before in
+    let after-workdir = after-arguments .before in
+    let after-relative = after-workdir .before in
+    let after-name = after-relative .before in
+    let after-info = after-name .before in
+    let after-items = after-info .before in
+    let after-header = after-items .before in
+    record-is _ (after-header .header-from .ensures) (after-items .slot-at .ensures) (after-info .info-from .ensures) (after-name .slot-at2 .ensures) (after-relative .slot-at3 .ensures) (after-workdir .slot-at4 .ensures) (after-arguments .slot-at5 .ensures) (after-icon .slot-at6 .ensures) (c .slot-at7 .ensures)
 
 pub record-from-spec : {M : Type 1} → statement M
 record-from-spec =

@@ -1,3 +1,4 @@
+-- The tests of LinkInfo's numbers have each number fit its field; the label is made of its kind and its slot.
 use Rattle.fields.proofs.Laws.{info-fits, volume-is}
 use borrow.Author.Needs.{needs}
 use Rattle.fields.proofs.volume_from.Statement.{statement}

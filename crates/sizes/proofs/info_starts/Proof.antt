@@ -1,3 +1,4 @@
+-- Each piece starts where the one before it starts plus its counted size; the test of a flag stands for the flag.
 use Rattle.sizes.proofs.StartLaws.{info-are}
 use borrow.Author.Needs.{needs}
 use Rattle.sizes.proofs.info_starts.Statement.{statement}
@@ -59,14 +60,28 @@ plus-requires-6 c κs = search needs
 
 returns : tie.Need-returns
 returns c =
-    let p4 = c .before .before .before .before in
-    let p8 = p4 .before .before .before .before in
-    let p12 = p8 .before .before .before .before in
-    let p16 = p12 .before .before .before .before in
-    info-are (p16 .before .before .args .i) (p16 .before .local-there .ensures) (p16 .local-unicode-there .ensures) (p12 .before .before .before .volume-size .ensures) (p12 .before .before .number-if .ensures)
-    (p12 .before .network-starts .ensures) (p12 .network-there .ensures) (p8 .before .before .before .number-if2 .ensures) (p8 .before .before .info-head .ensures) (p8 .before .plus .ensures)
-    (p8 .body-size .ensures) (p4 .before .before .before .plus2 .ensures) (p4 .before .before .plus3 .ensures) (p4 .before .body-size2 .ensures) (p4 .plus4 .ensures)
-    (c .before .before .before .body-size3 .ensures) (c .before .before .plus5 .ensures) (c .before .body-size4 .ensures) (c .plus6 .ensures)
+    let after-suffix-unicode-size = c .before in
+    let after-suffix-unicode = after-suffix-unicode-size .before in
+    let after-local-unicode-size = after-suffix-unicode .before in
+    let after-local-unicode = after-local-unicode-size .before in
+    let after-suffix-size = after-local-unicode .before in
+    let after-suffix = after-suffix-size .before in
+    let after-network = after-suffix .before in
+    let after-local-size = after-network .before in
+    let after-local = after-local-size .before in
+    let after-info-head = after-local .before in
+    let after-linked = after-info-head .before in
+    let after-network-there = after-linked .before in
+    let after-network-starts = after-network-there .before in
+    let after-volume = after-network-starts .before in
+    let after-volume-size = after-volume .before in
+    let after-local-unicode-there = after-volume-size .before in
+    let after-local-there = after-local-unicode-there .before in
+    let start = after-local-there .before in
+    info-are (start .args .i) (after-local-there .local-there .ensures) (after-local-unicode-there .local-unicode-there .ensures) (after-volume-size .volume-size .ensures) (after-volume .number-if .ensures)
+    (after-network-starts .network-starts .ensures) (after-network-there .network-there .ensures) (after-linked .number-if2 .ensures) (after-info-head .info-head .ensures) (after-local .plus .ensures)
+    (after-local-size .body-size .ensures) (after-network .plus2 .ensures) (after-suffix .plus3 .ensures) (after-suffix-size .body-size2 .ensures) (after-local-unicode .plus4 .ensures)
+    (after-local-unicode-size .body-size3 .ensures) (after-suffix-unicode .plus5 .ensures) (after-suffix-unicode-size .body-size4 .ensures) (c .plus6 .ensures)
 
 pub info-starts-spec : {M : Type 1} → statement M
 info-starts-spec =

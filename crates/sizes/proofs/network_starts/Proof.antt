@@ -1,3 +1,4 @@
+-- Each name starts where the one before it starts plus its counted size; the test of a flag stands for the flag.
 use Rattle.sizes.proofs.StartLaws.{network-are}
 use borrow.Author.Needs.{needs}
 use Rattle.sizes.proofs.network_starts.Statement.{statement}
@@ -38,11 +39,20 @@ plus-requires-4 c κs = search needs
 
 returns : tie.Need-returns
 returns c =
-    let p4 = c .before .before .before .before in
-    let p8 = p4 .before .before .before .before in
-    network-are (p8 .before .before .before .args .n) (p8 .before .before .device-there .ensures) (p8 .before .device-unicode-there .ensures) (p8 .network-head .ensures)
-    (p4 .before .before .before .body-size .ensures) (p4 .before .before .plus .ensures) (p4 .before .body-size2 .ensures) (p4 .plus2 .ensures)
-    (c .before .before .before .body-size3 .ensures) (c .before .before .plus3 .ensures) (c .before .body-size4 .ensures) (c .plus4 .ensures)
+    let after-device-unicode-size = c .before in
+    let after-device-unicode = after-device-unicode-size .before in
+    let after-net-unicode-size = after-device-unicode .before in
+    let after-net-unicode = after-net-unicode-size .before in
+    let after-device-size = after-net-unicode .before in
+    let after-device = after-device-size .before in
+    let after-net-size = after-device .before in
+    let after-network-head = after-net-size .before in
+    let after-device-unicode-there = after-network-head .before in
+    let after-device-there = after-device-unicode-there .before in
+    let start = after-device-there .before in
+    network-are (start .args .n) (after-device-there .device-there .ensures) (after-device-unicode-there .device-unicode-there .ensures) (after-network-head .network-head .ensures)
+    (after-net-size .body-size .ensures) (after-device .plus .ensures) (after-device-size .body-size2 .ensures) (after-net-unicode .plus2 .ensures)
+    (after-net-unicode-size .body-size3 .ensures) (after-device-unicode .plus3 .ensures) (after-device-unicode-size .body-size4 .ensures) (c .plus4 .ensures)
 
 pub network-starts-spec : {M : Type 1} → statement M
 network-starts-spec =

@@ -1,3 +1,4 @@
+-- Each section ends where the one before it ends plus its counted size; the test of a flag stands for the flag.
 use Rattle.sizes.proofs.StartLaws.{starts-are}
 use borrow.Author.Needs.{needs}
 use Rattle.sizes.proofs.starts_of.Statement.{statement}
@@ -35,11 +36,19 @@ plus-requires-3 c κs = search needs
 
 returns : tie.Need-returns
 returns c =
-    let p4 = c .before .before .before .before in
-    let p8 = p4 .before .before .before .before in
-    starts-are (p8 .before .before .args .q) (p8 .before .info-starts .ensures) (p8 .info-there .ensures) (p4 .before .before .before .number-if .ensures)
-    (p4 .before .before .items-there .ensures) (p4 .before .body-size .ensures) (p4 .plus .ensures) (c .before .before .before .plus2 .ensures) (c .before .before .strings-end .ensures)
-    (c .before .body-size2 .ensures) (c .plus3 .ensures)
+    let after-blocks-size = c .before in
+    let after-strings = after-blocks-size .before in
+    let after-info = after-strings .before in
+    let after-items = after-info .before in
+    let after-items-size = after-items .before in
+    let after-items-there = after-items-size .before in
+    let after-linked = after-items-there .before in
+    let after-info-there = after-linked .before in
+    let after-info-starts = after-info-there .before in
+    let start = after-info-starts .before in
+    starts-are (start .args .q) (after-info-starts .info-starts .ensures) (after-info-there .info-there .ensures) (after-linked .number-if .ensures)
+    (after-items-there .items-there .ensures) (after-items-size .body-size .ensures) (after-items .plus .ensures) (after-info .plus2 .ensures) (after-strings .strings-end .ensures)
+    (after-blocks-size .body-size2 .ensures) (c .plus3 .ensures)
 
 pub starts-of-spec : {M : Type 1} → statement M
 starts-of-spec =

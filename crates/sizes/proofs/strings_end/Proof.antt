@@ -1,3 +1,4 @@
+-- Each string ends where the one before it ends plus its counted size; the test of a flag stands for the flag.
 use Rattle.sizes.proofs.StartLaws.{strings-are}
 use borrow.Author.Needs.{needs}
 use Rattle.sizes.proofs.strings_end.Statement.{statement}
@@ -50,15 +51,27 @@ plus-requires-5 c κs = search needs
 
 returns : tie.Need-returns
 returns c =
-    let p4 = c .before .before .before .before in
-    let p8 = p4 .before .before .before .before in
-    let p12 = p8 .before .before .before .before in
-    strings-are (p12 .before .before .before .args .q) (p12 .before .before .before .args .from)
-    (p12 .before .before .name-there .ensures) (p12 .before .body-size .ensures) (p12 .plus .ensures)
-    (p8 .before .before .before .relative-there .ensures) (p8 .before .before .body-size2 .ensures) (p8 .before .plus2 .ensures)
-    (p8 .workdir-there .ensures) (p4 .before .before .before .body-size3 .ensures) (p4 .before .before .plus3 .ensures)
-    (p4 .before .arguments-there .ensures) (p4 .body-size4 .ensures) (c .before .before .before .plus4 .ensures)
-    (c .before .before .icon-there .ensures) (c .before .body-size5 .ensures) (c .plus5 .ensures)
+    let after-icon-size = c .before in
+    let after-icon-there = after-icon-size .before in
+    let after-arguments = after-icon-there .before in
+    let after-arguments-size = after-arguments .before in
+    let after-arguments-there = after-arguments-size .before in
+    let after-workdir = after-arguments-there .before in
+    let after-workdir-size = after-workdir .before in
+    let after-workdir-there = after-workdir-size .before in
+    let after-relative = after-workdir-there .before in
+    let after-relative-size = after-relative .before in
+    let after-relative-there = after-relative-size .before in
+    let after-name = after-relative-there .before in
+    let after-name-size = after-name .before in
+    let after-name-there = after-name-size .before in
+    let start = after-name-there .before in
+    strings-are (start .args .q) (start .args .from)
+    (after-name-there .name-there .ensures) (after-name-size .body-size .ensures) (after-name .plus .ensures)
+    (after-relative-there .relative-there .ensures) (after-relative-size .body-size2 .ensures) (after-relative .plus2 .ensures)
+    (after-workdir-there .workdir-there .ensures) (after-workdir-size .body-size3 .ensures) (after-workdir .plus3 .ensures)
+    (after-arguments-there .arguments-there .ensures) (after-arguments-size .body-size4 .ensures) (after-arguments .plus4 .ensures)
+    (after-icon-there .icon-there .ensures) (after-icon-size .body-size5 .ensures) (c .plus5 .ensures)
 
 pub strings-end-spec : {M : Type 1} → statement M
 strings-end-spec =

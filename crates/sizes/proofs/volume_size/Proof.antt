@@ -1,3 +1,4 @@
+-- VolumeID's size is where its label starts plus the label with its end, by the kind that was asked for.
 use Rattle.sizes.proofs.StartLaws.{volume-is}
 use borrow.Author.Needs.{needs}
 use Rattle.sizes.proofs.volume_size.Statement.{statement}
@@ -23,8 +24,13 @@ plus-requires c κs = search needs
 
 returns : tie.Need-returns
 returns c =
-    let p4 = c .before .before .before .before in
-    volume-is (p4 .before .before .args .v) (p4 .before .label-unicode .ensures) (p4 .label-place .ensures) (c .before .before .width .ensures) (c .before .before .before .label-start .ensures) (c .before .body-size .ensures) (c .plus .ensures)
+    let after-body-size = c .before in
+    let after-width = after-body-size .before in
+    let after-label-start = after-width .before in
+    let after-label-place = after-label-start .before in
+    let after-label-unicode = after-label-place .before in
+    let start = after-label-unicode .before in
+    volume-is (start .args .v) (after-label-unicode .label-unicode .ensures) (after-label-place .label-place .ensures) (after-width .width .ensures) (after-label-start .label-start .ensures) (after-body-size .body-size .ensures) (c .plus .ensures)
 
 pub volume-size-spec : {M : Type 1} → statement M
 volume-size-spec =

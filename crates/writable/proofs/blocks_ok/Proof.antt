@@ -1,3 +1,4 @@
+-- The run comes to the end of the body exactly where the terminal block that is written after it ends the blocks.
 use mathlib.Core.Path.{refl}
 use native.Mathlib.Omega.{arith}
 use Rattle.writable.proofs.WalkLaws.{blocks-run}

@@ -1,3 +1,4 @@
+-- A place that begins past the buffer has no bytes, one that ends past it has the rest, and any other has its own part.
 use native.Mathlib.Omega.{arith}
 use Rattle.writable.proofs.TextLaws.{body-past, body-rest, body-whole}
 use borrow.Author.Needs.{needs}

@@ -1,3 +1,4 @@
+-- The header's rules are those of its flags, its attributes and its hotkey together.
 use Rattle.writable.proofs.SectionLaws.{header-is}
 use borrow.Author.Needs.{needs}
 use Rattle.writable.proofs.header_ok.Statement.{statement}

@@ -1,3 +1,4 @@
+-- An absent LinkInfo is writable; one that is there is by its own rules.
 use Rattle.writable.proofs.SectionLaws.{if-there}
 use mathlib.Core.Path.{refl}
 use Rattle.format.specs.Writing.{writableInfo}

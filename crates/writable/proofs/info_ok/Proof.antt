@@ -1,3 +1,4 @@
+-- LinkInfo's rules are those of its pieces together; the test of a flag stands for the flag.
 use Rattle.writable.proofs.SectionLaws.{info-is}
 use borrow.Author.Needs.{needs}
 use Rattle.writable.proofs.info_ok.Statement.{statement}
@@ -32,11 +33,17 @@ text-if-requires-4 c κs = search needs
 
 returns : tie.Need-returns
 returns c =
-    let p4 = c .before .before .before .before in
-    let p8 = p4 .before .before .before .before in
-    let s = p8 .before .before .before in
-    info-is (s .args .d .now) (s .args .i) (p8 .before .local-there .ensures) (p8 .local-unicode-there .ensures) (p4 .network-there .ensures)
-    (p4 .before .before .volume-if .ensures) (p4 .before .text-if .ensures) (c .before .before .before .network-if .ensures) (c .before .before .text-if2 .ensures) (c .before .text-if3 .ensures) (c .text-if4 .ensures)
+    let after-local-unicode = c .before in
+    let after-suffix = after-local-unicode .before in
+    let after-network = after-suffix .before in
+    let after-network-there = after-network .before in
+    let after-local = after-network-there .before in
+    let after-volume = after-local .before in
+    let after-local-unicode-there = after-volume .before .before in
+    let after-local-there = after-local-unicode-there .before in
+    let start = after-local-there .before .before in
+    info-is (start .args .d .now) (start .args .i) (after-local-there .local-there .ensures) (after-local-unicode-there .local-unicode-there .ensures) (after-network-there .network-there .ensures)
+    (after-volume .volume-if .ensures) (after-local .text-if .ensures) (after-network .network-if .ensures) (after-suffix .text-if2 .ensures) (after-local-unicode .text-if3 .ensures) (c .text-if4 .ensures)
 
 pub info-ok-spec : {M : Type 1} → statement M
 info-ok-spec =

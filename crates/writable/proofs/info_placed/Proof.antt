@@ -1,3 +1,4 @@
+-- LinkInfo's bodies are those of its label, its texts and its network link, each tested in turn.
 use Rattle.writable.proofs.PlacedLaws.{info-placed}
 use borrow.Author.Needs.{needs}
 use Rattle.writable.proofs.info_placed.Statement.{statement}
@@ -26,7 +27,14 @@ inside-requires-5 c κs = search needs
 
 returns : tie.Need-returns
 returns c =
-    info-placed (c .before .before .before .before .before .before .before .before .args .n) (c .before .before .before .before .before .before .before .before .args .i) (c .before .before .before .before .before .before .label-place .ensures) (c .before .before .before .before .before .inside .ensures) (c .before .before .before .before .inside2 .ensures) (c .before .before .before .network-placed .ensures) (c .before .before .inside3 .ensures) (c .before .inside4 .ensures) (c .inside5 .ensures)
+    let after-local-unicode = c .before in
+    let after-suffix = after-local-unicode .before in
+    let after-network = after-suffix .before in
+    let after-local = after-network .before in
+    let after-label = after-local .before in
+    let after-label-place = after-label .before in
+    let start = after-label-place .before .before in
+    info-placed (start .args .n) (start .args .i) (after-label-place .label-place .ensures) (after-label .inside .ensures) (after-local .inside2 .ensures) (after-network .network-placed .ensures) (after-suffix .inside3 .ensures) (after-local-unicode .inside4 .ensures) (c .inside5 .ensures)
 
 pub info-placed-spec : {M : Type 1} → statement M
 info-placed-spec =

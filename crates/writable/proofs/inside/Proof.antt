@@ -1,3 +1,4 @@
+-- The sum of place and length is tested by a difference, which cannot wrap once the length is within the end.
 use native.Mathlib.Omega.{arith}
 use Rattle.writable.proofs.PlacedLaws.{past-end, by-difference}
 use Rattle.writable.proofs.inside.Statement.{statement}

@@ -1,3 +1,4 @@
+-- Absent items are writable; items that are there are by the rules of the body at their place.
 use Rattle.format.specs.Writing.{writableItems}
 use Rattle.writable.proofs.SectionLaws.{if-there}
 use borrow.Author.Needs.{needs}

@@ -1,3 +1,4 @@
+-- The items from p on decide for the whole body, since those before p are whole; p passes the end by one item at most.
 use Rattle.writable.proofs.WalkLaws.{onItems, items-long, items-begin, on-small-item, on-more-items, on-last-item}
 use Rattle.format.specs.Writing.{writableItems}
 use lib.ListN.{length}

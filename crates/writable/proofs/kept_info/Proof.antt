@@ -1,3 +1,4 @@
+-- An absent LinkInfo is kept as zeros; one that is there is kept with zeros for what is absent in it.
 use borrow.Author.Needs.{needs}
 use Rattle.writable.proofs.kept_info.Statement.{statement}
 use Rattle.writable.proofs.kept_info.Tie as tie

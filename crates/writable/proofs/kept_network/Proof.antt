@@ -1,3 +1,4 @@
+-- An absent network link is kept as zeros; one that is there is kept with zeros for what is absent in it.
 use borrow.Author.Needs.{needs}
 use Rattle.writable.proofs.kept_network.Statement.{statement}
 use Rattle.writable.proofs.kept_network.Tie as tie

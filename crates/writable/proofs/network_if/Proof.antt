@@ -1,3 +1,4 @@
+-- An absent network link is writable; one that is there is by its own rules.
 use mathlib.Core.Path.{refl}
 use Rattle.format.specs.Writing.{writableNetwork}
 use Rattle.writable.proofs.SectionLaws.{if-there}

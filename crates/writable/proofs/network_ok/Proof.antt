@@ -1,3 +1,4 @@
+-- The network link's rules are those of its names together; the test of a flag stands for the flag.
 use Rattle.writable.proofs.SectionLaws.{network-is}
 use borrow.Author.Needs.{needs}
 use Rattle.writable.proofs.network_ok.Statement.{statement}
@@ -23,11 +24,14 @@ text-if-requires-4 c κs = search needs
 
 returns : tie.Need-returns
 returns c =
-    let p4 = c .before .before .before .before in
-    let p8 = p4 .before .before .before .before in
-    let s = p8 in
-    network-is (s .args .d .now) (s .args .n) (p4 .before .before .device-there .ensures) (p4 .before .device-unicode-there .ensures)
-    (c .before .before .before .text-if .ensures) (c .before .before .text-if2 .ensures) (c .before .text-if3 .ensures) (c .text-if4 .ensures)
+    let after-net-unicode = c .before in
+    let after-device = after-net-unicode .before in
+    let after-net = after-device .before in
+    let after-device-unicode-there = after-net .before .before in
+    let after-device-there = after-device-unicode-there .before in
+    let start = after-device-there .before .before in
+    network-is (start .args .d .now) (start .args .n) (after-device-there .device-there .ensures) (after-device-unicode-there .device-unicode-there .ensures)
+    (after-net .text-if .ensures) (after-device .text-if2 .ensures) (after-net-unicode .text-if3 .ensures) (c .text-if4 .ensures)
 
 pub network-ok-spec : {M : Type 1} → statement M
 network-ok-spec =

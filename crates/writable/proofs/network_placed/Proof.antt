@@ -1,3 +1,4 @@
+-- The network link's bodies are its four names, each tested in turn.
 use Rattle.writable.proofs.PlacedLaws.{network-placed}
 use borrow.Author.Needs.{needs}
 use Rattle.writable.proofs.network_placed.Statement.{statement}

@@ -1,3 +1,4 @@
+-- The record's bodies are those of its sections, each tested in turn.
 use Rattle.writable.proofs.PlacedLaws.{all-placed}
 use borrow.Author.Needs.{needs}
 use Rattle.writable.proofs.placed.Statement.{statement}
@@ -29,7 +30,15 @@ inside-requires-7 c κs = search needs
 
 returns : tie.Need-returns
 returns c =
-    all-placed (c .before .before .before .before .before .before .before .before .args .n) (c .before .before .before .before .before .before .before .before .args .q) (c .before .before .before .before .before .before .before .inside .ensures) (c .before .before .before .before .before .before .info-placed .ensures) (c .before .before .before .before .before .inside2 .ensures) (c .before .before .before .before .inside3 .ensures) (c .before .before .before .inside4 .ensures) (c .before .before .inside5 .ensures) (c .before .inside6 .ensures) (c .inside7 .ensures)
+    let after-icon = c .before in
+    let after-arguments = after-icon .before in
+    let after-workdir = after-arguments .before in
+    let after-relative = after-workdir .before in
+    let after-name = after-relative .before in
+    let after-info = after-name .before in
+    let after-items = after-info .before in
+    let start = after-items .before in
+    all-placed (start .args .n) (start .args .q) (after-items .inside .ensures) (after-info .info-placed .ensures) (after-name .inside2 .ensures) (after-relative .inside3 .ensures) (after-workdir .inside4 .ensures) (after-arguments .inside5 .ensures) (after-icon .inside6 .ensures) (c .inside7 .ensures)
 
 pub placed-spec : {M : Type 1} → statement M
 placed-spec =

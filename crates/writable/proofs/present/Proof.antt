@@ -1,3 +1,4 @@
+-- Each part is kept by the test of its flag, so the record is the one with zeros for what is absent.
 use Rattle.writable.proofs.PresentLaws.{present-is}
 use borrow.Author.Needs.{needs}
 use Rattle.writable.proofs.present.Statement.{statement}
@@ -47,13 +48,23 @@ kept-requires-6 c κs = search needs
 
 returns : tie.Need-returns
 returns c =
-    let p4 = c .before .before .before .before in
-    let p8 = p4 .before .before .before .before in
-    let p12 = p8 .before .before .before .before in
-    let p16 = p12 .before .before .before .before in
-    present-is (p16 .args .r) (p12 .before .items-there .ensures) (p12 .kept .ensures) (p8 .before .before .before .info-there .ensures) (p8 .before .before .kept-info .ensures)
-    (p8 .before .name-there .ensures) (p8 .kept2 .ensures) (p4 .before .before .before .relative-there .ensures) (p4 .before .before .kept3 .ensures) (p4 .before .workdir-there .ensures) (p4 .kept4 .ensures)
-    (c .before .before .before .arguments-there .ensures) (c .before .before .kept5 .ensures) (c .before .icon-there .ensures) (c .kept6 .ensures)
+    let after-icon-there = c .before in
+    let after-arguments = after-icon-there .before in
+    let after-arguments-there = after-arguments .before in
+    let after-workdir = after-arguments-there .before in
+    let after-workdir-there = after-workdir .before in
+    let after-relative = after-workdir-there .before in
+    let after-relative-there = after-relative .before in
+    let after-name = after-relative-there .before in
+    let after-name-there = after-name .before in
+    let after-info = after-name-there .before in
+    let after-info-there = after-info .before in
+    let after-items = after-info-there .before in
+    let after-items-there = after-items .before in
+    let start = after-items-there .before .before .before in
+    present-is (start .args .r) (after-items-there .items-there .ensures) (after-items .kept .ensures) (after-info-there .info-there .ensures) (after-info .kept-info .ensures)
+    (after-name-there .name-there .ensures) (after-name .kept2 .ensures) (after-relative-there .relative-there .ensures) (after-relative .kept3 .ensures) (after-workdir-there .workdir-there .ensures) (after-workdir .kept4 .ensures)
+    (after-arguments-there .arguments-there .ensures) (after-arguments .kept5 .ensures) (after-icon-there .icon-there .ensures) (c .kept6 .ensures)
 
 pub present-spec : {M : Type 1} → statement M
 present-spec =

@@ -1,3 +1,4 @@
+-- Each part is kept by the test of its flag, so LinkInfo is the one with zeros for what is absent.
 use borrow.Author.Needs.{needs}
 use Rattle.writable.proofs.present_info.Statement.{statement}
 use Rattle.writable.proofs.present_info.Tie as tie

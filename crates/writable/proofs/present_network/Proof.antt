@@ -1,3 +1,4 @@
+-- Each name is kept by the test of its flag, so the link is the one with zeros for what is absent.
 use borrow.Author.Needs.{needs}
 use Rattle.writable.proofs.present_network.Statement.{statement}
 use Rattle.writable.proofs.present_network.Tie as tie

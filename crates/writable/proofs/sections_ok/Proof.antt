@@ -1,3 +1,4 @@
+-- The rules of the whole are those of its sections together; the test of a flag stands for the flag.
 use Rattle.writable.proofs.SectionLaws.{sections-are}
 use borrow.Author.Needs.{needs}
 use Rattle.writable.proofs.sections_ok.Statement.{statement}
@@ -59,18 +60,31 @@ blocks-ok-requires c κs = search needs
 
 returns : tie.Need-returns
 returns c =
-    let p4 = c .before .before .before .before in
-    let p8 = p4 .before .before .before .before in
-    let p12 = p8 .before .before .before .before in
-    let p16 = p12 .before .before .before .before in
-    let s = p16 .before .before .before in
-    sections-are (s .args .d .now) (s .args .q) (p16 .before .strings-unicode .ensures) (p16 .header-ok .ensures) (p12 .before .before .before .items-there .ensures) (p12 .before .before .items-if .ensures) (p12 .before .info-there .ensures) (p12 .info-if .ensures)
-    (record { there = _; flag = p8 .before .before .before .name-there .ensures; is = p8 .before .before .string-if .ensures })
-    (record { there = _; flag = p8 .before .relative-there .ensures; is = p8 .string-if2 .ensures })
-    (record { there = _; flag = p4 .before .before .before .workdir-there .ensures; is = p4 .before .before .string-if3 .ensures })
-    (record { there = _; flag = p4 .before .arguments-there .ensures; is = p4 .string-if4 .ensures })
-    (record { there = _; flag = c .before .before .before .icon-there .ensures; is = c .before .before .string-if5 .ensures })
-    (c .blocks-ok .ensures) (c .before .body .ensures)
+    let after-body = c .before in
+    let after-icon = after-body .before in
+    let after-icon-there = after-icon .before in
+    let after-arguments = after-icon-there .before in
+    let after-arguments-there = after-arguments .before in
+    let after-workdir = after-arguments-there .before in
+    let after-workdir-there = after-workdir .before in
+    let after-relative = after-workdir-there .before in
+    let after-relative-there = after-relative .before in
+    let after-name = after-relative-there .before in
+    let after-name-there = after-name .before in
+    let after-info = after-name-there .before in
+    let after-info-there = after-info .before in
+    let after-items = after-info-there .before in
+    let after-items-there = after-items .before in
+    let after-header-ok = after-items-there .before in
+    let after-strings-unicode = after-header-ok .before in
+    let start = after-strings-unicode .before .before in
+    sections-are (start .args .d .now) (start .args .q) (after-strings-unicode .strings-unicode .ensures) (after-header-ok .header-ok .ensures) (after-items-there .items-there .ensures) (after-items .items-if .ensures) (after-info-there .info-there .ensures) (after-info .info-if .ensures)
+    (record { there = _; flag = after-name-there .name-there .ensures; is = after-name .string-if .ensures })
+    (record { there = _; flag = after-relative-there .relative-there .ensures; is = after-relative .string-if2 .ensures })
+    (record { there = _; flag = after-workdir-there .workdir-there .ensures; is = after-workdir .string-if3 .ensures })
+    (record { there = _; flag = after-arguments-there .arguments-there .ensures; is = after-arguments .string-if4 .ensures })
+    (record { there = _; flag = after-icon-there .icon-there .ensures; is = after-icon .string-if5 .ensures })
+    (c .blocks-ok .ensures) (after-body .body .ensures)
 
 pub sections-ok-spec : {M : Type 1} → statement M
 sections-ok-spec =

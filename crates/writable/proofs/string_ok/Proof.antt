@@ -1,3 +1,4 @@
+-- A string is writable where its characters are whole and their number fits in two bytes.
 use Rattle.writable.proofs.TextLaws.{string-is}
 use borrow.Author.Needs.{needs}
 use Rattle.writable.proofs.string_ok.Statement.{statement}

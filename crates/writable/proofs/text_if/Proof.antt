@@ -1,3 +1,4 @@
+-- An absent text is writable; one that is there is by the rules of the body at its place.
 use Rattle.format.specs.Writing.{writableText}
 use Rattle.writable.proofs.SectionLaws.{if-there}
 use borrow.Author.Needs.{needs}

@@ -1,3 +1,4 @@
+-- A text is writable where its characters are whole and none of them is zero.
 use Rattle.writable.proofs.TextLaws.{text-is}
 use borrow.Author.Needs.{needs}
 use Rattle.writable.proofs.text_ok.Statement.{statement}

@@ -1,3 +1,4 @@
+-- An absent VolumeID is writable; one that is there is by its own rules.
 use mathlib.Core.Path.{refl}
 use Rattle.format.specs.Writing.{writableVolume}
 use Rattle.writable.proofs.SectionLaws.{if-there}

@@ -1,3 +1,4 @@
+-- VolumeID's rules are those of its drive and of its label, whose kind and place were asked for.
 use Rattle.writable.proofs.SectionLaws.{volume-is}
 use borrow.Author.Needs.{needs}
 use Rattle.writable.proofs.volume_ok.Statement.{statement}
@@ -14,7 +15,10 @@ text-if-requires c κs = search needs
 
 returns : tie.Need-returns
 returns c =
-    volume-is (c .before .before .before .before .before .args .d .now) (c .before .before .before .before .before .args .v) (c .before .before .label-unicode .ensures) (c .before .label-place .ensures) (c .text-if .ensures)
+    let after-label-place = c .before in
+    let after-label-unicode = after-label-place .before in
+    let start = after-label-unicode .before .before .before in
+    volume-is (start .args .d .now) (start .args .v) (after-label-unicode .label-unicode .ensures) (after-label-place .label-place .ensures) (c .text-if .ensures)
 
 pub volume-ok-spec : {M : Type 1} → statement M
 volume-ok-spec =

@@ -1,3 +1,4 @@
+-- A record longer than the most is not writable; of any other the sections decide.
 use native.Mathlib.Omega.{arith}
 use Rattle.writable.proofs.WholeLaws.{writable-long, writable-short}
 use borrow.Author.Needs.{needs}
@@ -6,16 +7,16 @@ use Rattle.writable.proofs.writable.Tie as tie
 
 returns : tie.Need-returns
 returns c =
-    let s = c .before .before in
-    writable-long (s .args .d .now) (s .args .q) (s .pre .0) (s .pre .1) (omega arith)
+    let start = c .before .before in
+    writable-long (start .args .d .now) (start .args .q) (start .pre .0) (start .pre .1) (omega arith)
 
 sections-ok-requires : tie.Need-sections-ok-requires
 sections-ok-requires c κs = search needs
 
 returns-2 : tie.Need-returns-2
 returns-2 c =
-    let s = c .before .before .before in
-    writable-short (s .args .d .now) (s .args .q) (s .pre .0) (s .pre .1) (omega arith) (c .sections-ok .ensures)
+    let start = c .before .before .before in
+    writable-short (start .args .d .now) (start .args .q) (start .pre .0) (start .pre .1) (omega arith) (c .sections-ok .ensures)
 
 pub writable-spec : {M : Type 1} → statement M
 writable-spec = tie.close (tie.spec returns sections-ok-requires returns-2)

@@ -1,3 +1,4 @@
+-- One law for each way out; what was counted is the length of the canonical form, so the room that was tested is the room it needs.
 use Rattle.writer.proofs.Laws.{end-counted, write-outside, all-placed, write-unwritable, write-room, write-fits, write-written}
 use native.Mathlib.Omega.{arith}
 use borrow.Author.Needs.{needs}
@@ -18,38 +19,58 @@ starts-of-requires c κs = search needs
 
 writable-requires : tie.Need-writable-requires
 writable-requires c κs =
-    let p4 = c .before .before .before .before in
-    let s = p4 .before .before in
-    (all-placed (s .args .r) (s .args .d .now) (s .args .out .now) (c .before .before .before .present .ensures) (c .before .before .placed .ensures) (c .before .if1 .left), (end-counted _ (c .starts-of .ensures)))
+    let after-placed-test = c .before in
+    let after-placed = after-placed-test .before in
+    let after-present = after-placed .before in
+    let start = after-present .before .before .before in
+    (all-placed (start .args .r) (start .args .d .now) (start .args .out .now) (after-present .present .ensures) (after-placed .placed .ensures) (after-placed-test .if1 .left), (end-counted _ (c .starts-of .ensures)))
 
 returns-2 : tie.Need-returns-2
 returns-2 c =
-    let p4 = c .before .before .before .before in
-    write-unwritable _ _ _ (p4 .before .present .ensures) (p4 .placed .ensures) (c .before .before .before .if1 .left) (c .before .writable .ensures) (c .if2 .taken)
+    let after-writable = c .before in
+    let after-placed-test = after-writable .before .before in
+    let after-placed = after-placed-test .before in
+    let after-present = after-placed .before in
+    write-unwritable _ _ _ (after-present .present .ensures) (after-placed .placed .ensures) (after-placed-test .if1 .left) (after-writable .writable .ensures) (c .if2 .taken)
 
 cast-if3 : tie.Need-cast-if3
 cast-if3 c = search needs
 
 returns-3 : tie.Need-returns-3
 returns-3 c =
-    let p4 = c .before .before .before .before in
-    write-room _ _ _ (p4 .before .before .before .present .ensures) (p4 .before .before .placed .ensures) (p4 .before .if1 .left) (c .before .before .before .writable .ensures) (c .before .before .if2 .left) (end-counted _ (p4 .starts-of .ensures)) (omega arith)
+    let after-writable-test = c .before .before in
+    let after-writable = after-writable-test .before in
+    let after-starts-of = after-writable .before in
+    let after-placed-test = after-starts-of .before in
+    let after-placed = after-placed-test .before in
+    let after-present = after-placed .before in
+    write-room _ _ _ (after-present .present .ensures) (after-placed .placed .ensures) (after-placed-test .if1 .left) (after-writable .writable .ensures) (after-writable-test .if2 .left) (end-counted _ (after-starts-of .starts-of .ensures)) (omega arith)
 
 put-canonical-requires : tie.Need-put-canonical-requires
 put-canonical-requires c κs =
-    let p4 = c .before .before .before .before in
-    let p8 = p4 .before .before .before .before in
-    (write-fits (p8 .before .before .before .args .r) _ _ (p8 .present .ensures) (p4 .before .before .before .placed .ensures) (p4 .before .before .if1 .left) (p4 .writable .ensures) (c .before .before .before .if2 .left) (end-counted _ (p4 .before .starts-of .ensures)) (omega arith), (p4 .before .starts-of .ensures))
+    let after-writable-test = c .before .before .before in
+    let after-writable = after-writable-test .before in
+    let after-starts-of = after-writable .before in
+    let after-placed-test = after-starts-of .before in
+    let after-placed = after-placed-test .before in
+    let after-present = after-placed .before in
+    let start = after-present .before .before .before in
+    (write-fits (start .args .r) _ _ (after-present .present .ensures) (after-placed .placed .ensures) (after-placed-test .if1 .left) (after-writable .writable .ensures) (after-writable-test .if2 .left) (end-counted _ (after-starts-of .starts-of .ensures)) (omega arith), (after-starts-of .starts-of .ensures))
 
 same-length : tie.Need-same-length
 same-length c = search needs
 
 returns-4 : tie.Need-returns-4
 returns-4 c =
-    let p4 = c .before .before .before .before in
-    let p8 = p4 .before .before .before .before in
-    write-written _ _ _ (p8 .before .before .before .present .ensures) (p8 .before .before .placed .ensures) (p8 .before .if1 .left) (p4 .before .before .before .writable .ensures) (p4 .before .before .if2 .left) (end-counted _ (p8 .starts-of .ensures)) (omega arith)
-    (c .before .before .put-canonical .ensures .0) (c .before .before .put-canonical .ensures .1)
+    let after-put-canonical = c .before .before in
+    let after-writable-test = after-put-canonical .before .before .before .before in
+    let after-writable = after-writable-test .before in
+    let after-starts-of = after-writable .before in
+    let after-placed-test = after-starts-of .before in
+    let after-placed = after-placed-test .before in
+    let after-present = after-placed .before in
+    write-written _ _ _ (after-present .present .ensures) (after-placed .placed .ensures) (after-placed-test .if1 .left) (after-writable .writable .ensures) (after-writable-test .if2 .left) (end-counted _ (after-starts-of .starts-of .ensures)) (omega arith)
+    (after-put-canonical .put-canonical .ensures .0) (after-put-canonical .put-canonical .ensures .1)
 
 pub write-spec : {M : Type 1} → statement M
 write-spec =

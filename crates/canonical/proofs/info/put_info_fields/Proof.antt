@@ -1,3 +1,4 @@
+-- The fields stand one after another; LinkInfo is not longer than the most, so the starts that are put are counted exactly.
 use Rattle.canonical.proofs.LayoutLaws.{info-fields-are}
 use Rattle.sizes.proofs.ExactLaws.{info-exact}
 use Rattle.octets.proofs.WroteLaws.{kept, join, last, reword}
@@ -44,76 +45,79 @@ add-u32-requires-5 c κs = search needs
 
 add-u32-requires-6 : tie.Need-add-u32-requires-6
 add-u32-requires-6 c κs =
-    let p4 = c .before .before .before .before in
-    let p8 = p4 .before .before .before .before in
-    let p12 = p8 .before .before .before .before in
-    let p16 = p12 .before .before .before .before in
-    let p20 = p16 .before .before .before .before in
-    let p24 = p20 .before .before .before .before in
-    let p28 = p24 .before .before .before .before in
-    let h = p28 .before .pre .1 .1 in
-    let w₁ = (p16 .before .before .before .add-u32 .ensures) in
+    let after-put-local = c .before .before .before in
+    let after-put-volume = after-put-local .before .before .before .before in
+    let after-put-flags = after-put-volume .before .before .before .before in
+    let after-put-head = after-put-flags .before .before .before .before in
+    let after-put-end = after-put-head .before .before .before .before in
+    let after-network-there = after-put-end .before .before .before .before in
+    let after-local-there = after-network-there .before .before .before .before in
+    let start = after-local-there .before .before in
+    let h = start .pre .1 .1 in
+    let w₁ = (after-put-end .add-u32 .ensures) in
     let l₁ = kept w₁ in
-    let w₂ = (p12 .before .before .before .add-u322 .ensures) in
+    let w₂ = (after-put-head .add-u322 .ensures) in
     let l₂ = kept w₂ in
-    let w₃ = (p8 .before .before .before .add-u323 .ensures) in
+    let w₃ = (after-put-flags .add-u323 .ensures) in
     let l₃ = kept w₃ in
-    let w₄ = (p4 .before .before .before .add-u324 .ensures) in
+    let w₄ = (after-put-volume .add-u324 .ensures) in
     let l₄ = kept w₄ in
-    let w₅ = (c .before .before .before .add-u325 .ensures) in
+    let w₅ = (after-put-local .add-u325 .ensures) in
     let l₅ = kept w₅ in
     omega arith
 
 add-u32-requires-7 : tie.Need-add-u32-requires-7
 add-u32-requires-7 c κs =
-    let p4 = c .before .before .before .before in
-    let p8 = p4 .before .before .before .before in
-    let p12 = p8 .before .before .before .before in
-    let p16 = p12 .before .before .before .before in
-    let p20 = p16 .before .before .before .before in
-    let p24 = p20 .before .before .before .before in
-    let p28 = p24 .before .before .before .before in
-    let p32 = p28 .before .before .before .before in
-    let h = p32 .before .pre .1 .1 in
-    let w₁ = (p20 .before .before .before .add-u32 .ensures) in
+    let after-put-network = c .before .before .before in
+    let after-put-local = after-put-network .before .before .before .before in
+    let after-put-volume = after-put-local .before .before .before .before in
+    let after-put-flags = after-put-volume .before .before .before .before in
+    let after-put-head = after-put-flags .before .before .before .before in
+    let after-put-end = after-put-head .before .before .before .before in
+    let after-network-there = after-put-end .before .before .before .before in
+    let after-local-there = after-network-there .before .before .before .before in
+    let start = after-local-there .before .before in
+    let h = start .pre .1 .1 in
+    let w₁ = (after-put-end .add-u32 .ensures) in
     let l₁ = kept w₁ in
-    let w₂ = (p16 .before .before .before .add-u322 .ensures) in
+    let w₂ = (after-put-head .add-u322 .ensures) in
     let l₂ = kept w₂ in
-    let w₃ = (p12 .before .before .before .add-u323 .ensures) in
+    let w₃ = (after-put-flags .add-u323 .ensures) in
     let l₃ = kept w₃ in
-    let w₄ = (p8 .before .before .before .add-u324 .ensures) in
+    let w₄ = (after-put-volume .add-u324 .ensures) in
     let l₄ = kept w₄ in
-    let w₅ = (p4 .before .before .before .add-u325 .ensures) in
+    let w₅ = (after-put-local .add-u325 .ensures) in
     let l₅ = kept w₅ in
-    let w₆ = (c .before .before .before .add-u326 .ensures) in
+    let w₆ = (after-put-network .add-u326 .ensures) in
     let l₆ = kept w₆ in
     omega arith
 
 add-fields-requires : tie.Need-add-fields-requires
 add-fields-requires c κs =
-    let p4 = c .before .before .before .before in
-    let p8 = p4 .before .before .before .before in
-    let p12 = p8 .before .before .before .before in
-    let p16 = p12 .before .before .before .before in
-    let p20 = p16 .before .before .before .before in
-    let p24 = p20 .before .before .before .before in
-    let p28 = p24 .before .before .before .before in
-    let p32 = p28 .before .before .before .before in
-    let p36 = p32 .before .before .before .before in
-    let h = p36 .before .pre .1 .1 in
-    let w₁ = (p24 .before .before .before .add-u32 .ensures) in
+    let after-put-suffix = c .before .before .before in
+    let after-put-network = after-put-suffix .before .before .before .before in
+    let after-put-local = after-put-network .before .before .before .before in
+    let after-put-volume = after-put-local .before .before .before .before in
+    let after-put-flags = after-put-volume .before .before .before .before in
+    let after-put-head = after-put-flags .before .before .before .before in
+    let after-put-end = after-put-head .before .before .before .before in
+    let after-network-there = after-put-end .before .before .before .before in
+    let after-local-there = after-network-there .before .before .before .before in
+    let start = after-local-there .before .before in
+    let h = start .pre .1 .1 in
+    let w₁ = (after-put-end .add-u32 .ensures) in
     let l₁ = kept w₁ in
-    let w₂ = (p20 .before .before .before .add-u322 .ensures) in
+    let w₂ = (after-put-head .add-u322 .ensures) in
     let l₂ = kept w₂ in
-    let w₃ = (p16 .before .before .before .add-u323 .ensures) in
+    let w₃ = (after-put-flags .add-u323 .ensures) in
     let l₃ = kept w₃ in
-    let w₄ = (p12 .before .before .before .add-u324 .ensures) in
+    let w₄ = (after-put-volume .add-u324 .ensures) in
     let l₄ = kept w₄ in
-    let w₅ = (p8 .before .before .before .add-u325 .ensures) in
+    let w₅ = (after-put-local .add-u325 .ensures) in
     let l₅ = kept w₅ in
-    let w₆ = (p4 .before .before .before .add-u326 .ensures) in
+    let w₆ = (after-put-network .add-u326 .ensures) in
     let l₆ = kept w₆ in
-    let w₇ = (c .before .before .before .add-u327 .ensures) in
+    let w₇ = (after-put-suffix .add-u327 .ensures) in
     let l₇ = kept w₇ in
     omega arith
 
@@ -122,21 +126,26 @@ same-length c = search needs
 
 returns : tie.Need-returns
 returns c =
-    let p4 = c .before .before .before .before in
-    let p8 = p4 .before .before .before .before in
-    let p12 = p8 .before .before .before .before in
-    let p16 = p12 .before .before .before .before in
-    let p20 = p16 .before .before .before .before in
-    let p24 = p20 .before .before .before .before in
-    let p28 = p24 .before .before .before .before in
-    let p32 = p28 .before .before .before .before in
-    let p36 = p32 .before .before .before .before in
-    let p40 = p36 .before .before .before .before in
-    let s = p40 in
-    let x = info-exact (s .args .i) (s .pre .0) (s .pre .1 .0) in
+    let after-put-unicode = c .before .before in
+    let after-put-suffix = after-put-unicode .before .before .before .before in
+    let after-put-network = after-put-suffix .before .before .before .before in
+    let after-put-local = after-put-network .before .before .before .before in
+    let after-put-volume = after-put-local .before .before .before .before in
+    let after-put-flags = after-put-volume .before .before .before .before in
+    let after-put-head = after-put-flags .before .before .before .before in
+    let after-put-end = after-put-head .before .before .before .before in
+    let after-local-unicode = after-put-end .before .before in
+    let after-network = after-local-unicode .before in
+    let after-network-there = after-network .before in
+    let after-local = after-network-there .before in
+    let after-volume = after-local .before in
+    let after-info-head = after-volume .before in
+    let after-local-there = after-info-head .before in
+    let start = after-local-there .before .before in
+    let x = info-exact (start .args .i) (start .pre .0) (start .pre .1 .0) in
     reword
-    (join (p28 .before .before .add-u32 .ensures) (join (p24 .before .before .add-u322 .ensures) (join (p20 .before .before .add-u323 .ensures) (join (p16 .before .before .add-u324 .ensures) (join (p12 .before .before .add-u325 .ensures) (join (p8 .before .before .add-u326 .ensures) (join (p4 .before .before .add-u327 .ensures) (last (c .before .before .add-fields .ensures)))))))))
-    (info-fields-are (s .args .i) x (p36 .before .before .local-there .ensures) (p32 .before .before .network-there .ensures) (p36 .before .info-head .ensures) (p36 .number-if .ensures) (p32 .before .before .before .number-if2 .ensures) (p32 .before .number-if3 .ensures) (p32 .number-if4 .ensures))
+    (join (after-put-end .add-u32 .ensures) (join (after-put-head .add-u322 .ensures) (join (after-put-flags .add-u323 .ensures) (join (after-put-volume .add-u324 .ensures) (join (after-put-local .add-u325 .ensures) (join (after-put-network .add-u326 .ensures) (join (after-put-suffix .add-u327 .ensures) (last (after-put-unicode .add-fields .ensures)))))))))
+    (info-fields-are (start .args .i) x (after-local-there .local-there .ensures) (after-network-there .network-there .ensures) (after-info-head .info-head .ensures) (after-volume .number-if .ensures) (after-local .number-if2 .ensures) (after-network .number-if3 .ensures) (after-local-unicode .number-if4 .ensures))
     (omega arith)
 
 pub put-info-fields-spec : {M : Type 1} → statement M

@@ -1,3 +1,4 @@
+-- The fields stand one after another; the link is not longer than the most, so the starts that are put are counted exactly.
 use Rattle.canonical.proofs.LayoutLaws.{network-fields-are}
 use Rattle.sizes.proofs.ExactLaws.{network-exact}
 use Rattle.octets.proofs.WroteLaws.{join, last, reword}
@@ -47,18 +48,23 @@ same-length c = search needs
 
 returns : tie.Need-returns
 returns c =
-    let p4 = c .before .before .before .before in
-    let p8 = p4 .before .before .before .before in
-    let p12 = p8 .before .before .before .before in
-    let p16 = p12 .before .before .before .before in
-    let p20 = p16 .before .before .before .before in
-    let p24 = p20 .before .before .before .before in
-    let p28 = p24 .before .before .before .before in
-    let s = p28 .before .before .before in
-    let x = network-exact (s .args .n) (s .pre .0) (s .pre .1 .0) in
+    let after-put-unicode = c .before .before in
+    let after-put-provider = after-put-unicode .before .before .before .before in
+    let after-put-device = after-put-provider .before .before .before .before in
+    let after-put-head = after-put-device .before .before .before .before in
+    let after-put-flags = after-put-head .before .before .before .before in
+    let after-put-end = after-put-flags .before .before .before .before in
+    let after-device-unicode = after-put-end .before .before in
+    let after-provider = after-device-unicode .before in
+    let after-provider-there = after-provider .before in
+    let after-device = after-provider-there .before in
+    let after-network-head = after-device .before in
+    let after-device-there = after-network-head .before in
+    let start = after-device-there .before .before in
+    let x = network-exact (start .args .n) (start .pre .0) (start .pre .1 .0) in
     reword
-    (join (p20 .before .before .add-u32 .ensures) (join (p16 .before .before .add-u322 .ensures) (join (p12 .before .before .add-u323 .ensures) (join (p8 .before .before .add-u324 .ensures) (join (p4 .before .before .add-u325 .ensures) (last (c .before .before .add-fields .ensures)))))))
-    (network-fields-are (s .args .n) x (p28 .before .device-there .ensures) (p24 .before .before .provider-there .ensures) (p28 .network-head .ensures) (p24 .before .before .before .number-if .ensures) (p24 .before .number-if2 .ensures) (p24 .number-if3 .ensures))
+    (join (after-put-end .add-u32 .ensures) (join (after-put-flags .add-u322 .ensures) (join (after-put-head .add-u323 .ensures) (join (after-put-device .add-u324 .ensures) (join (after-put-provider .add-u325 .ensures) (last (after-put-unicode .add-fields .ensures)))))))
+    (network-fields-are (start .args .n) x (after-device-there .device-there .ensures) (after-provider-there .provider-there .ensures) (after-network-head .network-head .ensures) (after-device .number-if .ensures) (after-provider .number-if2 .ensures) (after-device-unicode .number-if3 .ensures))
     (omega arith)
 
 pub put-network-fields-spec : {M : Type 1} → statement M

@@ -20,49 +20,52 @@ put-text-requires c κs = search needs
 
 put-text-if-requires : tie.Need-put-text-if-requires
 put-text-if-requires c κs =
-    let p4 = c .before .before .before .before in
-    let p8 = p4 .before .before .before .before in
-    let s = p8 .before in
-    let h = s .pre .1 in
-    let n = s .args .n in
-    let k₁ = ap (λ (t : Bool). writtenTextIf t false (n .device)) (p4 .before .before .device-there .ensures) in
-    let k₂ = ap (λ (t : Bool). writtenTextIf t true (n .«device_unicode»)) (p4 .before .device-unicode-there .ensures) in
-    (s .pre .0 .device, record { room = omega arith; few = omega arith })
+    let after-put-net = c .before .before .before in
+    let after-device-unicode-there = after-put-net .before .before in
+    let after-device-there = after-device-unicode-there .before in
+    let start = after-device-there .before .before .before in
+    let h = start .pre .1 in
+    let n = start .args .n in
+    let k₁ = ap (λ (t : Bool). writtenTextIf t false (n .device)) (after-device-there .device-there .ensures) in
+    let k₂ = ap (λ (t : Bool). writtenTextIf t true (n .«device_unicode»)) (after-device-unicode-there .device-unicode-there .ensures) in
+    (start .pre .0 .device, record { room = omega arith; few = omega arith })
 
 put-text-if-requires-2 : tie.Need-put-text-if-requires-2
 put-text-if-requires-2 c κs =
-    let p4 = c .before .before .before .before in
-    let p8 = p4 .before .before .before .before in
-    let p12 = p8 .before .before .before .before in
-    let s = p12 .before in
-    let h = s .pre .1 in
-    let n = s .args .n in
-    let k₁ = ap (λ (t : Bool). writtenTextIf t false (n .device)) (p8 .before .before .device-there .ensures) in
-    let k₂ = ap (λ (t : Bool). writtenTextIf t true (n .«device_unicode»)) (p8 .before .device-unicode-there .ensures) in
-    let w₁ = (p4 .before .before .before .put-text .ensures) in
+    let after-put-device = c .before .before .before in
+    let after-put-net = after-put-device .before .before .before .before in
+    let after-device-unicode-there = after-put-net .before .before in
+    let after-device-there = after-device-unicode-there .before in
+    let start = after-device-there .before .before .before in
+    let h = start .pre .1 in
+    let n = start .args .n in
+    let k₁ = ap (λ (t : Bool). writtenTextIf t false (n .device)) (after-device-there .device-there .ensures) in
+    let k₂ = ap (λ (t : Bool). writtenTextIf t true (n .«device_unicode»)) (after-device-unicode-there .device-unicode-there .ensures) in
+    let w₁ = (after-put-net .put-text .ensures) in
     let l₁ = kept w₁ in
-    let w₂ = (c .before .before .before .put-text-if .ensures) in
+    let w₂ = (after-put-device .put-text-if .ensures) in
     let l₂ = kept w₂ in
-    (s .pre .0 .netUnicode, record { room = omega arith; few = omega arith })
+    (start .pre .0 .netUnicode, record { room = omega arith; few = omega arith })
 
 put-text-if-requires-3 : tie.Need-put-text-if-requires-3
 put-text-if-requires-3 c κs =
-    let p4 = c .before .before .before .before in
-    let p8 = p4 .before .before .before .before in
-    let p12 = p8 .before .before .before .before in
-    let p16 = p12 .before .before .before .before in
-    let s = p16 .before in
-    let h = s .pre .1 in
-    let n = s .args .n in
-    let k₁ = ap (λ (t : Bool). writtenTextIf t false (n .device)) (p12 .before .before .device-there .ensures) in
-    let k₂ = ap (λ (t : Bool). writtenTextIf t true (n .«device_unicode»)) (p12 .before .device-unicode-there .ensures) in
-    let w₁ = (p8 .before .before .before .put-text .ensures) in
+    let after-put-net-unicode = c .before .before .before in
+    let after-put-device = after-put-net-unicode .before .before .before .before in
+    let after-put-net = after-put-device .before .before .before .before in
+    let after-device-unicode-there = after-put-net .before .before in
+    let after-device-there = after-device-unicode-there .before in
+    let start = after-device-there .before .before .before in
+    let h = start .pre .1 in
+    let n = start .args .n in
+    let k₁ = ap (λ (t : Bool). writtenTextIf t false (n .device)) (after-device-there .device-there .ensures) in
+    let k₂ = ap (λ (t : Bool). writtenTextIf t true (n .«device_unicode»)) (after-device-unicode-there .device-unicode-there .ensures) in
+    let w₁ = (after-put-net .put-text .ensures) in
     let l₁ = kept w₁ in
-    let w₂ = (p4 .before .before .before .put-text-if .ensures) in
+    let w₂ = (after-put-device .put-text-if .ensures) in
     let l₂ = kept w₂ in
-    let w₃ = (c .before .before .before .put-text-if2 .ensures) in
+    let w₃ = (after-put-net-unicode .put-text-if2 .ensures) in
     let l₃ = kept w₃ in
-    (s .pre .0 .deviceUnicode, record { room = omega arith; few = omega arith })
+    (start .pre .0 .deviceUnicode, record { room = omega arith; few = omega arith })
 
 same-length : tie.Need-same-length
 same-length c = search needs
@@ -70,13 +73,15 @@ same-length c = search needs
 returns : tie.Need-returns
 unfolding networkNameBytes
 returns c =
-    let p4 = c .before .before .before .before in
-    let p8 = p4 .before .before .before .before in
-    let p12 = p8 .before .before .before .before in
-    let p16 = p12 .before .before .before .before in
-    let e = (p16 .before .device-there .ensures) in
-    let g = (p16 .device-unicode-there .ensures) in
-    reword (join (p12 .before .before .put-text .ensures) (join (p8 .before .before .put-text-if .ensures) (join (p4 .before .before .put-text-if2 .ensures) (last (c .before .before .put-text-if3 .ensures)))))
+    let after-put-device-unicode = c .before .before in
+    let after-put-net-unicode = after-put-device-unicode .before .before .before .before in
+    let after-put-device = after-put-net-unicode .before .before .before .before in
+    let after-put-net = after-put-device .before .before .before .before in
+    let after-device-unicode-there = after-put-net .before .before in
+    let after-device-there = after-device-unicode-there .before in
+    let e = (after-device-there .device-there .ensures) in
+    let g = (after-device-unicode-there .device-unicode-there .ensures) in
+    reword (join (after-put-net .put-text .ensures) (join (after-put-device .put-text-if .ensures) (join (after-put-net-unicode .put-text-if2 .ensures) (last (after-put-device-unicode .put-text-if3 .ensures)))))
     (rw (e, g)) (rw (e, g) (omega arith))
 
 pub put-network-names-spec : {M : Type 1} → statement M

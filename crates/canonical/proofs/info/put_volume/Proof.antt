@@ -14,85 +14,91 @@ label-place-requires c κs = search needs
 
 add-u32-requires : tie.Need-add-u32-requires
 add-u32-requires c κs =
-    let p4 = c .before .before .before .before in
-    let s = p4 .before in
-    let h = s .pre .1 .0 in
-    let k = label-least-is (c .before .before .label-unicode .result) in
-    let e = volume-size-is (s .args .v) (c .before .before .label-unicode .ensures) (c .before .label-place .ensures) in
+    let after-label-place = c .before in
+    let after-label-unicode = after-label-place .before in
+    let start = after-label-unicode .before .before .before in
+    let h = start .pre .1 .0 in
+    let k = label-least-is (after-label-unicode .label-unicode .result) in
+    let e = volume-size-is (start .args .v) (after-label-unicode .label-unicode .ensures) (after-label-place .label-place .ensures) in
     omega arith
 
 add-u32-requires-2 : tie.Need-add-u32-requires-2
 add-u32-requires-2 c κs =
-    let p4 = c .before .before .before .before in
-    let p8 = p4 .before .before .before .before in
-    let s = p8 .before in
-    let h = s .pre .1 .0 in
-    let k = label-least-is (p4 .before .before .label-unicode .result) in
-    let e = volume-size-is (s .args .v) (p4 .before .before .label-unicode .ensures) (p4 .before .label-place .ensures) in
+    let after-size = c .before .before .before in
+    let after-label-place = after-size .before .before in
+    let after-label-unicode = after-label-place .before in
+    let start = after-label-unicode .before .before .before in
+    let h = start .pre .1 .0 in
+    let k = label-least-is (after-label-unicode .label-unicode .result) in
+    let e = volume-size-is (start .args .v) (after-label-unicode .label-unicode .ensures) (after-label-place .label-place .ensures) in
     omega arith
 
 add-u32-requires-3 : tie.Need-add-u32-requires-3
 add-u32-requires-3 c κs =
-    let p4 = c .before .before .before .before in
-    let p8 = p4 .before .before .before .before in
-    let p12 = p8 .before .before .before .before in
-    let s = p12 .before in
-    let h = s .pre .1 .0 in
-    let k = label-least-is (p8 .before .before .label-unicode .result) in
-    let e = volume-size-is (s .args .v) (p8 .before .before .label-unicode .ensures) (p8 .before .label-place .ensures) in
+    let after-drive = c .before .before .before in
+    let after-size = after-drive .before .before .before .before in
+    let after-label-place = after-size .before .before in
+    let after-label-unicode = after-label-place .before in
+    let start = after-label-unicode .before .before .before in
+    let h = start .pre .1 .0 in
+    let k = label-least-is (after-label-unicode .label-unicode .result) in
+    let e = volume-size-is (start .args .v) (after-label-unicode .label-unicode .ensures) (after-label-place .label-place .ensures) in
     omega arith
 
 put-label-fields-requires : tie.Need-put-label-fields-requires
 put-label-fields-requires c κs =
-    let p4 = c .before .before .before .before in
-    let p8 = p4 .before .before .before .before in
-    let p12 = p8 .before .before .before .before in
-    let p16 = p12 .before .before .before .before in
-    let s = p16 .before in
-    let h = s .pre .1 .0 in
-    let k = label-least-is (p12 .before .before .label-unicode .result) in
-    let e = volume-size-is (s .args .v) (p12 .before .before .label-unicode .ensures) (p12 .before .label-place .ensures) in
+    let after-serial = c .before .before .before in
+    let after-drive = after-serial .before .before .before .before in
+    let after-size = after-drive .before .before .before .before in
+    let after-label-place = after-size .before .before in
+    let after-label-unicode = after-label-place .before in
+    let start = after-label-unicode .before .before .before in
+    let h = start .pre .1 .0 in
+    let k = label-least-is (after-label-unicode .label-unicode .result) in
+    let e = volume-size-is (start .args .v) (after-label-unicode .label-unicode .ensures) (after-label-place .label-place .ensures) in
     omega arith
 
 put-text-requires : tie.Need-put-text-requires
 put-text-requires c κs =
-    let p4 = c .before .before .before .before in
-    let p8 = p4 .before .before .before .before in
-    let p12 = p8 .before .before .before .before in
-    let p16 = p12 .before .before .before .before in
-    let p20 = p16 .before .before .before .before in
-    let s = p20 .before in
-    let h = s .pre .1 .0 in
-    let k = label-least-is (p16 .before .before .label-unicode .result) in
-    let e = volume-size-is (s .args .v) (p16 .before .before .label-unicode .ensures) (p16 .before .label-place .ensures) in
-    let w₁ = (p12 .before .before .before .add-u32 .ensures) in
+    let after-put-label-fields = c .before .before .before in
+    let after-serial = after-put-label-fields .before .before .before .before in
+    let after-drive = after-serial .before .before .before .before in
+    let after-size = after-drive .before .before .before .before in
+    let after-label-place = after-size .before .before in
+    let after-label-unicode = after-label-place .before in
+    let start = after-label-unicode .before .before .before in
+    let h = start .pre .1 .0 in
+    let k = label-least-is (after-label-unicode .label-unicode .result) in
+    let e = volume-size-is (start .args .v) (after-label-unicode .label-unicode .ensures) (after-label-place .label-place .ensures) in
+    let w₁ = (after-size .add-u32 .ensures) in
     let l₁ = kept w₁ in
-    let w₂ = (p8 .before .before .before .add-u322 .ensures) in
+    let w₂ = (after-drive .add-u322 .ensures) in
     let l₂ = kept w₂ in
-    let w₃ = (p4 .before .before .before .add-u323 .ensures) in
+    let w₃ = (after-serial .add-u323 .ensures) in
     let l₃ = kept w₃ in
-    let w₄ = (c .before .before .before .put-label-fields .ensures) in
+    let w₄ = (after-put-label-fields .put-label-fields .ensures) in
     let l₄ = kept w₄ in
-    (rw (p16 .before .label-place .ensures) (s .pre .0), record { room = omega arith; few = omega arith })
+    (rw (after-label-place .label-place .ensures) (start .pre .0), record { room = omega arith; few = omega arith })
 
 same-length : tie.Need-same-length
 same-length c = search needs
 
 returns : tie.Need-returns
 returns c =
-    let p4 = c .before .before .before .before in
-    let p8 = p4 .before .before .before .before in
-    let p12 = p8 .before .before .before .before in
-    let p16 = p12 .before .before .before .before in
-    let p20 = p16 .before .before .before .before in
-    let p24 = p20 .before .before .before .before in
-    let s = p24 in
-    let h = s .pre .1 .0 in
-    let k = label-least-is (p20 .before .label-unicode .result) in
-    let e = volume-size-is (s .args .v) (p20 .before .label-unicode .ensures) (p20 .label-place .ensures) in
+    let after-put-label = c .before .before in
+    let after-put-label-fields = after-put-label .before .before .before .before in
+    let after-serial = after-put-label-fields .before .before .before .before in
+    let after-drive = after-serial .before .before .before .before in
+    let after-size = after-drive .before .before .before .before in
+    let after-label-place = after-size .before .before in
+    let after-label-unicode = after-label-place .before in
+    let start = after-label-unicode .before .before .before in
+    let h = start .pre .1 .0 in
+    let k = label-least-is (after-label-unicode .label-unicode .result) in
+    let e = volume-size-is (start .args .v) (after-label-unicode .label-unicode .ensures) (after-label-place .label-place .ensures) in
     reword
-    (join (p16 .before .before .add-u32 .ensures) (join (p12 .before .before .add-u322 .ensures) (join (p8 .before .before .add-u323 .ensures) (join (p4 .before .before .put-label-fields .ensures) (last (c .before .before .put-text .ensures))))))
-    (volume-is _ (s .args .v) (s .pre .0) (s .pre .1 .1) (p20 .before .label-unicode .ensures) (p20 .label-place .ensures))
+    (join (after-size .add-u32 .ensures) (join (after-drive .add-u322 .ensures) (join (after-serial .add-u323 .ensures) (join (after-put-label-fields .put-label-fields .ensures) (last (after-put-label .put-text .ensures))))))
+    (volume-is _ (start .args .v) (start .pre .0) (start .pre .1 .1) (after-label-unicode .label-unicode .ensures) (after-label-place .label-place .ensures))
     (omega arith)
 
 pub put-volume-spec : {M : Type 1} → statement M

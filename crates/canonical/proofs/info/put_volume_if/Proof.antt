@@ -1,3 +1,4 @@
+-- A VolumeID that is there is not longer than the most, so its counted size is its size; where it is absent nothing is written.
 use Rattle.octets.proofs.WroteLaws.{wrote-none}
 use Rattle.sizes.proofs.ExactLaws.{exact}
 use Rattle.sizes.specs.Steps.Sizes.{writtenVolume}
@@ -8,18 +9,19 @@ use Rattle.canonical.proofs.info.put_volume_if.Tie as tie
 
 put-volume-requires : tie.Need-put-volume-requires
 put-volume-requires c κs =
-    let p4 = c .before .before .before .before in
-    let s = p4 in
-    let r = rw (c .before .if1 .taken) at (s .pre .1 .0) in
-    (s .pre .0, (r, exact (writtenVolume (s .args .v)) (rw (c .before .if1 .taken) at (s .pre .1 .1)) (r .few)))
+    let after-test = c .before in
+    let start = after-test .before .before .before in
+    let r = rw (after-test .if1 .taken) at (start .pre .1 .0) in
+    (start .pre .0, (r, exact (writtenVolume (start .args .v)) (rw (after-test .if1 .taken) at (start .pre .1 .1)) (r .few)))
 
 same-length : tie.Need-same-length
 same-length c = search needs
 
 returns : tie.Need-returns
 returns c =
-    let p4 = c .before .before .before .before in
-    rw (p4 .if1 .taken) (c .before .before .put-volume .ensures)
+    let after-put-volume = c .before .before in
+    let after-test = after-put-volume .before .before in
+    rw (after-test .if1 .taken) (after-put-volume .put-volume .ensures)
 
 returns-2 : tie.Need-returns-2
 returns-2 c = rw (c .if1 .left) (wrote-none _ _ (omega arith))

@@ -1,3 +1,4 @@
+-- The part that is copied is the body at its place in the body buffer, so its bytes are what is written.
 use Rattle.canonical.proofs.WroteLaws.{length-part, wrote-body}
 use native.Mathlib.Omega.{arith}
 use borrow.Author.Needs.{needs}
@@ -19,7 +20,10 @@ same-length c = search needs
 
 returns : tie.Need-returns
 returns c =
-    wrote-body (c .before .before .before .before .before .before .before .pre .0) (c .before .before .before .part .ensures) (c .before .before .put-bytes .ensures) (omega arith)
+    let after-put-bytes = c .before .before in
+    let after-part = after-put-bytes .before in
+    let start = after-part .before .before .before .before in
+    wrote-body (start .pre .0) (after-part .part .ensures) (after-put-bytes .put-bytes .ensures) (omega arith)
 
 pub put-body-spec : {M : Type 1} → statement M
 put-body-spec =

@@ -1,3 +1,4 @@
+-- A text ends with one zero character, and the kind settles whether that is two bytes or one.
 use Rattle.octets.proofs.WroteLaws.{wrote-number}
 use Rattle.octets.proofs.PartLaws.{put-byte}
 use Rattle.octets.specs.Numbers.{little}
