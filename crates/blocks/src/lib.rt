@@ -211,10 +211,6 @@ pub fn blocks(s: &[u8], c: Cursor) -> BlocksRead
     if s.len() < start {
         return stopped(Fault::Cut, start);
     }
-    // Many shortcuts have no block at all.
-    if let BlockStep::Terminal = step(&s[start..]) {
-        return read_to(start, start, no_firsts());
-    }
     let mut firsts = no_firsts();
     let p = run(s, start, &mut firsts);
     match step(&s[p..]) {

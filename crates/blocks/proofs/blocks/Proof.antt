@@ -1,6 +1,7 @@
+-- The walk passes all blocks and stops where none stands; what stands there, told by one more step, is the answer.
 use mathlib.Core.Path.{_∙_}
 use Rattle.blocks.proofs.StepLaws.{tail-part, by-block, by-end, by-fault}
-use Rattle.blocks.proofs.WalkLaws.{passed-start, read-nowhere, read-end, read-stopped, read-wrong}
+use Rattle.blocks.proofs.WalkLaws.{read-nowhere, read-end, read-stopped, read-wrong}
 use borrow.Author.Needs.{needs}
 use Rattle.blocks.proofs.blocks.Statement.{statement}
 use Rattle.blocks.proofs.blocks.Tie as tie
@@ -10,6 +11,12 @@ stopped-requires c κs = search needs
 
 returns : tie.Need-returns
 returns c = c .stopped .ensures ∙ read-nowhere _ _ (c .before .if1 .taken)
+
+no-firsts-requires : tie.Need-no-firsts-requires
+no-firsts-requires c κs = search needs
+
+run-requires : tie.Need-run-requires
+run-requires c κs = search needs
 
 sub-step : tie.Need-sub-step
 sub-step c = search needs
@@ -26,38 +33,8 @@ step-requires c κs = search needs
 enum-told : tie.Need-enum-told
 enum-told c = search needs
 
-no-firsts-requires : tie.Need-no-firsts-requires
-no-firsts-requires c κs = search needs
-
 read-to-requires : tie.Need-read-to-requires
 read-to-requires c κs = search needs
-
-returns-2 : tie.Need-returns-2
-returns-2 c = c .read-to .ensures ∙ read-end _ _ (passed-start _ _ (c .before .before .before .before .before .before .if1 .left) (c .before .no-firsts .ensures)) (c .before .before .before .before .before .before .before .before .pre) (by-end _ (rw tail-part at (c .before .before .before .before .step .ensures)) (c .before .before .enum-told .given .1))
-
-no-firsts-requires-2 : tie.Need-no-firsts-requires-2
-no-firsts-requires-2 c κs = search needs
-
-run-requires : tie.Need-run-requires
-run-requires c κs = search needs
-
-sub-step-2 : tie.Need-sub-step-2
-sub-step-2 c = search needs
-
-part-step-start-2 : tie.Need-part-step-start-2
-part-step-start-2 c = search needs
-
-part-step-end-2 : tie.Need-part-step-end-2
-part-step-end-2 c = search needs
-
-step-requires-2 : tie.Need-step-requires-2
-step-requires-2 c κs = search needs
-
-enum-told-2 : tie.Need-enum-told-2
-enum-told-2 c = search needs
-
-read-to-requires-2 : tie.Need-read-to-requires-2
-read-to-requires-2 c κs = search needs
 
 enum-known-f : tie.Need-enum-known-f
 enum-known-f c = search needs
@@ -65,26 +42,31 @@ enum-known-f c = search needs
 stopped-requires-2 : tie.Need-stopped-requires-2
 stopped-requires-2 c κs = search needs
 
-enum-told-3 : tie.Need-enum-told-3
-enum-told-3 c = search needs
+enum-told-2 : tie.Need-enum-told-2
+enum-told-2 c = search needs
 
 stopped-requires-3 : tie.Need-stopped-requires-3
 stopped-requires-3 c κs = search needs
 
+returns-2 : tie.Need-returns-2
+returns-2 c =
+    let after-step = c .before .before .before in
+    let after-run = after-step .before .before in
+    let start = after-run .before .before .before .before .before in
+    let r = after-run .run .ensures in
+    c .read-to .ensures ∙ read-end _ _ (r .0) (start .pre) (by-end _ (rw tail-part at (after-step .step .ensures)) (c .before .enum-told .given .1))
+
 returns-3 : tie.Need-returns-3
 returns-3 c =
-    let r = c .before .before .before .before .before .run .ensures in
-    c .read-to2 .ensures ∙ read-end _ _ (r .0) (c .before .before .before .before .before .before .before .before .before .before .before .before .before .pre) (by-end _ (rw tail-part at (c .before .before .before .step2 .ensures)) (c .before .enum-told2 .given .1))
+    let after-step = c .before .before .before .before in
+    let r = after-step .before .before .run .ensures in
+    c .stopped2 .ensures ∙ read-stopped _ _ (r .0) (by-fault _ (rw tail-part at (after-step .step .ensures)) (c .before .before .f .given .1))
 
 returns-4 : tie.Need-returns-4
 returns-4 c =
-    let r = c .before .before .before .before .before .before .run .ensures in
-    c .stopped2 .ensures ∙ read-stopped _ _ (r .0) (by-fault _ (rw tail-part at (c .before .before .before .before .step2 .ensures)) (c .before .before .f .given .1))
-
-returns-5 : tie.Need-returns-5
-returns-5 c =
-    let r = c .before .before .before .before .before .run .ensures in
-    c .stopped3 .ensures ∙ read-wrong _ _ (r .0) (r .1) (by-block _ (rw tail-part at (c .before .before .before .step2 .ensures)) (c .before .enum-told3 .given .1))
+    let after-step = c .before .before .before in
+    let r = after-step .before .before .run .ensures in
+    c .stopped3 .ensures ∙ read-wrong _ _ (r .0) (r .1) (by-block _ (rw tail-part at (after-step .step .ensures)) (c .before .enum-told2 .given .1))
 
 pub blocks-spec : {M : Type 1} → statement M
 blocks-spec =
@@ -92,26 +74,18 @@ blocks-spec =
     (tie.spec
     stopped-requires
     returns
+    no-firsts-requires
+    run-requires
     sub-step
     part-step-start
     part-step-end
     step-requires
     enum-told
-    no-firsts-requires
     read-to-requires
-    returns-2
-    no-firsts-requires-2
-    run-requires
-    sub-step-2
-    part-step-start-2
-    part-step-end-2
-    step-requires-2
-    enum-told-2
-    read-to-requires-2
     enum-known-f
     stopped-requires-2
-    enum-told-3
+    enum-told-2
     stopped-requires-3
+    returns-2
     returns-3
-    returns-4
-    returns-5)
+    returns-4)
