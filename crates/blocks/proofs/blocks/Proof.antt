@@ -1,3 +1,4 @@
+-- The walk passes every block, so what stands after it decides: the terminal, a fault, or a block that holds the wrong things.
 use mathlib.Core.Path.{_∙_}
 use Rattle.blocks.proofs.StepLaws.{tail-part, by-block, by-end, by-fault}
 use Rattle.blocks.proofs.WalkLaws.{passed-start, read-nowhere, read-end, read-stopped, read-wrong}
@@ -33,7 +34,13 @@ read-to-requires : tie.Need-read-to-requires
 read-to-requires c κs = search needs
 
 returns-2 : tie.Need-returns-2
-returns-2 c = c .read-to .ensures ∙ read-end _ _ (passed-start _ _ (c .before .before .before .before .before .before .if1 .left) (c .before .no-firsts .ensures)) (c .before .before .before .before .before .before .before .before .pre) (by-end _ (rw tail-part at (c .before .before .before .before .step .ensures)) (c .before .before .enum-told .given .1))
+returns-2 c =
+    let after-no-firsts = c .before in
+    let after-terminal = after-no-firsts .before in
+    let after-step = after-terminal .before .before in
+    let after-start-asked = after-step .before .before in
+    let start = after-start-asked .before .before in
+    c .read-to .ensures ∙ read-end _ _ (passed-start _ _ (after-start-asked .if1 .left) (after-no-firsts .no-firsts .ensures)) (start .pre) (by-end _ (rw tail-part at (after-step .step .ensures)) (after-terminal .enum-told .given .1))
 
 no-firsts-requires-2 : tie.Need-no-firsts-requires-2
 no-firsts-requires-2 c κs = search needs
@@ -73,18 +80,29 @@ stopped-requires-3 c κs = search needs
 
 returns-3 : tie.Need-returns-3
 returns-3 c =
-    let r = c .before .before .before .before .before .run .ensures in
-    c .read-to2 .ensures ∙ read-end _ _ (r .0) (c .before .before .before .before .before .before .before .before .before .before .before .before .before .pre) (by-end _ (rw tail-part at (c .before .before .before .step2 .ensures)) (c .before .enum-told2 .given .1))
+    let after-terminal = c .before in
+    let after-last-step = after-terminal .before .before in
+    let after-run = after-last-step .before .before in
+    let after-first-step = after-run .before .before .before .before in
+    let start = after-first-step .before .before .before .before in
+    let past = after-run .run .ensures in
+    c .read-to2 .ensures ∙ read-end _ _ (past .0) (start .pre) (by-end _ (rw tail-part at (after-last-step .step2 .ensures)) (after-terminal .enum-told2 .given .1))
 
 returns-4 : tie.Need-returns-4
 returns-4 c =
-    let r = c .before .before .before .before .before .before .run .ensures in
-    c .stopped2 .ensures ∙ read-stopped _ _ (r .0) (by-fault _ (rw tail-part at (c .before .before .before .before .step2 .ensures)) (c .before .before .f .given .1))
+    let after-fault = c .before .before in
+    let after-last-step = after-fault .before .before in
+    let after-run = after-last-step .before .before in
+    let past = after-run .run .ensures in
+    c .stopped2 .ensures ∙ read-stopped _ _ (past .0) (by-fault _ (rw tail-part at (after-last-step .step2 .ensures)) (after-fault .f .given .1))
 
 returns-5 : tie.Need-returns-5
 returns-5 c =
-    let r = c .before .before .before .before .before .run .ensures in
-    c .stopped3 .ensures ∙ read-wrong _ _ (r .0) (r .1) (by-block _ (rw tail-part at (c .before .before .before .step2 .ensures)) (c .before .enum-told3 .given .1))
+    let after-block = c .before in
+    let after-last-step = after-block .before .before in
+    let after-run = after-last-step .before .before in
+    let past = after-run .run .ensures in
+    c .stopped3 .ensures ∙ read-wrong _ _ (past .0) (past .1) (by-block _ (rw tail-part at (after-last-step .step2 .ensures)) (after-block .enum-told3 .given .1))
 
 pub blocks-spec : {M : Type 1} → statement M
 blocks-spec =
