@@ -129,7 +129,8 @@ fn put_flag(out: &mut [u8], at: usize, b: bool) -> usize
 // The presence byte, the length and the bytes.
 fn put_part(s: &[u8], p: KeyPart, at: usize, out: &mut [u8]) -> usize
     requires { ⌜ PartStands (now s) p × (at + partLength p ≤ length (now out)) ⌝ }
-    ensures { λ r. ⌜ Wrote (now (out .entry)) at (partBytes (partShown (now (s .entry)) p)) (partLength p) (now (out .exit)) r ⌝ }
+    ensures written { λ r. ⌜ Wrote (now (out .entry)) at (partBytes (partShown (now (s .entry)) p))
+        (partLength p) (now (out .exit)) r ⌝ }
 {
     let n = part_length(p);
     let q = put_flag(out, at, p.there);
@@ -140,7 +141,8 @@ fn put_part(s: &[u8], p: KeyPart, at: usize, out: &mut [u8]) -> usize
 
 fn put_key(s: &[u8], k: KeyParts, out: &mut [u8]) -> usize
     requires { ⌜ KeyStands (now s) k × (keyLength k ≤ length (now out)) ⌝ }
-    ensures { λ r. ⌜ Wrote (now (out .entry)) 0 (keyBytes (keyShown (now (s .entry)) k)) (keyLength k) (now (out .exit)) r ⌝ }
+    ensures written { λ r. ⌜ Wrote (now (out .entry)) 0 (keyBytes (keyShown (now (s .entry)) k))
+        (keyLength k) (now (out .exit)) r ⌝ }
 {
     let p = put_flag(out, 0, k.unicode);
     let p = put_part(s, k.target, p, out);

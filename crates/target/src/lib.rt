@@ -53,7 +53,8 @@ fn separators(s: &[u8], a: Place, b: Place) -> usize
 }
 
 pub fn texts_of(s: &[u8], r: Record) -> Texts
-    requires { ⌜ (firstText r .at + firstText r .len ≤ length (now s)) × (r .info .suffix .at + r .info .suffix .len ≤ length (now s)) ⌝ }
+    requires stands { ⌜ (firstText r .at + firstText r .len ≤ length (now s))
+        × (r .info .suffix .at + r .info .suffix .len ≤ length (now s)) ⌝ }
     ensures { λ t. ⌜ t ≡ textsOf (now (s .entry)) r ⌝ }
 {
     let first = first_text(r);

@@ -1,3 +1,4 @@
+-- A signature stands four bytes into its block, so a field below 4 is no block's.
 use borrow.Author.Tests.{lt-ltb, le-ltb}
 use Rattle.blocks.specs.Steps.Walk.{blockFrom}
 use borrow.Author.Needs.{needs}

@@ -1,3 +1,4 @@
+-- The size that the slot demands leaves room for the texts and the list; the other slots have no rule.
 use borrow.Author.Tests.{ne-eqb, eqb-true, leb-true}
 use lib.ListN.{length}
 use native.Mathlib.Omega.{arith}

@@ -1,3 +1,4 @@
+-- The step says what stands here by its sizes; a block is one only if what it holds is right too.
 use mathlib.Core.Path.{sym}
 use lib.Seq.{length-take-le}
 use Rattle.blocks.proofs.StepLaws.{holds-right, holds-wrong, by-block, by-end, by-fault}
@@ -18,7 +19,11 @@ inside-ok-requires : tie.Need-inside-ok-requires
 inside-ok-requires c κs = let z = by-block _ (c .before .before .before .before .step .ensures) (c .before .before .n .given .1) in rw (length-take-le _ _ (z .inside)) (z .fits)
 
 returns : tie.Need-returns
-returns c = let z = by-block _ (c .before .before .before .before .before .before .step .ensures) (c .before .before .before .before .n .given .1) in (z, holds-right _ z (c .before .inside-ok .ensures) (c .if1 .taken))
+returns c =
+    let after-inside-ok = c .before in
+    let after-n = after-inside-ok .before .before .before in
+    let after-step = after-n .before .before in
+    let z = by-block _ (after-step .step .ensures) (after-n .n .given .1) in (z, holds-right _ z (after-inside-ok .inside-ok .ensures) (c .if1 .taken))
 
 enum-told : tie.Need-enum-told
 enum-told c = search needs
@@ -27,7 +32,11 @@ enum-known-f : tie.Need-enum-known-f
 enum-known-f c = search needs
 
 returns-2 : tie.Need-returns-2
-returns-2 c = let z = by-block _ (c .before .before .before .before .before .before .step .ensures) (c .before .before .before .before .n .given .1) in holds-wrong _ z (c .before .inside-ok .ensures) (c .if1 .left)
+returns-2 c =
+    let after-inside-ok = c .before in
+    let after-n = after-inside-ok .before .before .before in
+    let after-step = after-n .before .before in
+    let z = by-block _ (after-step .step .ensures) (after-n .n .given .1) in holds-wrong _ z (after-inside-ok .inside-ok .ensures) (c .if1 .left)
 
 returns-3 : tie.Need-returns-3
 returns-3 c = by-end _ (c .before .before .step .ensures) (c .enum-told .given .1)

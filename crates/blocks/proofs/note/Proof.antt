@@ -1,3 +1,4 @@
+-- Only a slot of the table that still holds 0 is written, so the first block in it stays noted.
 use borrow.Author.Tests.{lt-ltb, le-ltb, eq-eqb, ne-eqb}
 use Rattle.blocks.specs.Steps.Walk.{taken, noted}
 use borrow.Author.Needs.{needs}

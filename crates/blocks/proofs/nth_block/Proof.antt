@@ -1,3 +1,4 @@
+-- Block k of those at the start is block `left` of those at p, and a block found lies inside, so p nears the end.
 use native.Mathlib.Omega.{arith}
 use borrow.Author.Needs.{needs}
 use Prim.Native.Nat.{_≤_, _-_}
@@ -37,19 +38,35 @@ enum-known-n : tie.Need-enum-known-n Inv-loop μ-loop
 enum-known-n c = search needs
 
 returns-2 : tie.Need-returns-2 Inv-loop μ-loop
-returns-2 c = let z = by-block _ (rw tail-part at (c .before .before .before .before .step .ensures)) (c .before .before .n .given .1) in let I = c .before .before .before .before .before .before .loop .inv in I .1 _ (nth-here _ _ (I .0) z _ (c .if2 .taken))
+returns-2 c =
+    let after-n = c .before .before in
+    let after-step = after-n .before .before in
+    let after-loop = after-step .before .before in
+    let z = by-block _ (rw tail-part at (after-step .step .ensures)) (after-n .n .given .1) in let I = after-loop .loop .inv in I .1 _ (nth-here _ _ (I .0) z _ (c .if2 .taken))
 
 sub-left : tie.Need-sub-left Inv-loop μ-loop
 sub-left c = omega arith
 
 add-p : tie.Need-add-p Inv-loop μ-loop
-add-p c = let z = by-block _ (rw tail-part at (c .before .before .before .before .step .ensures)) (c .before .before .n .given .1) in let I = c .before .before .before .before .before .before .loop .inv in omega (arith, nth-fits _ _ (I .0) z)
+add-p c =
+    let after-n = c .before .before in
+    let after-step = after-n .before .before in
+    let after-loop = after-step .before .before in
+    let z = by-block _ (rw tail-part at (after-step .step .ensures)) (after-n .n .given .1) in let I = after-loop .loop .inv in omega (arith, nth-fits _ _ (I .0) z)
 
 loop-less : tie.Need-loop-less Inv-loop μ-loop
-loop-less c = let z = by-block _ (rw tail-part at (c .before .before .before .before .step .ensures)) (c .before .before .n .given .1) in let I = c .before .before .before .before .before .before .loop .inv in omega (arith, nth-fits _ _ (I .0) z, z .least)
+loop-less c =
+    let after-n = c .before .before in
+    let after-step = after-n .before .before in
+    let after-loop = after-step .before .before in
+    let z = by-block _ (rw tail-part at (after-step .step .ensures)) (after-n .n .given .1) in let I = after-loop .loop .inv in omega (arith, nth-fits _ _ (I .0) z, z .least)
 
 loop-again : tie.Need-loop-again Inv-loop μ-loop
-loop-again c = let z = by-block _ (rw tail-part at (c .before .before .before .before .step .ensures)) (c .before .before .n .given .1) in let I = c .before .before .before .before .before .before .loop .inv in (nth-fits _ _ (I .0) z, λ b h. I .1 b (nth-next _ _ (I .0) z _ (c .if2 .left) h))
+loop-again c =
+    let after-n = c .before .before in
+    let after-step = after-n .before .before in
+    let after-loop = after-step .before .before in
+    let z = by-block _ (rw tail-part at (after-step .step .ensures)) (after-n .n .given .1) in let I = after-loop .loop .inv in (nth-fits _ _ (I .0) z, λ b h. I .1 b (nth-next _ _ (I .0) z _ (c .if2 .left) h))
 
 enum-told : tie.Need-enum-told Inv-loop μ-loop
 enum-told c = search needs

@@ -1,3 +1,4 @@
+-- Both texts lie inside 788 bytes, and each is asked for its own zero.
 use mathlib.Core.Path.{ap₂}
 use mathlib.Core.Bool.{_&&_}
 use borrow.Author.Needs.{needs}

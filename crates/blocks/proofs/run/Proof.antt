@@ -1,3 +1,4 @@
+-- The rest is what stands from p on, and the blocks up to p are noted; each block is at least 8 bytes, so the rest gets shorter.
 use mathlib.Core.Path.{_≡_}
 use native.Mathlib.Omega.{arith}
 use borrow.Author.Needs.{needs}
@@ -8,7 +9,6 @@ use Rattle.blocks.proofs.WalkLaws.{passed-start, passed-fits, passed-on
 use Rattle.blocks.proofs.run.Statement.{statement}
 use Rattle.blocks.proofs.run.Tie as tie
 
--- the rest is what stands from p on, and the blocks up to p are noted
 abbrev Inv-loop : tie.InvT-loop
 Inv-loop s start firsts₀ p₀ rest₀ firsts p rest = (rest ≡ drop p s) × Passed s start p firsts
 
@@ -38,35 +38,35 @@ note-requires c κs = search needs
 
 add-p : tie.Need-add-p Inv-loop μ-loop
 add-p c =
-    let u = c .before .before .before in
-    let z = stands-block _ (u .before .before .judged .ensures) (u .n .given .1) .0 in
-    let I = u .before .before .before .loop .inv in
+    let after-n = c .before .before .before in
+    let z = stands-block _ (after-n .before .before .judged .ensures) (after-n .n .given .1) .0 in
+    let I = after-n .before .before .before .loop .inv in
     omega (arith, passed-fits (I .1) (I .0) z)
 
 sub-rest-2 : tie.Need-sub-rest-2 Inv-loop μ-loop
 sub-rest-2 c =
-    let u = c .before .before .before in
-    omega (arith, (stands-block _ (u .before .before .judged .ensures) (u .n .given .1) .0) .inside)
+    let after-n = c .before .before .before in
+    omega (arith, (stands-block _ (after-n .before .before .judged .ensures) (after-n .n .given .1) .0) .inside)
 
 part-rest-start-2 : tie.Need-part-rest-start-2 Inv-loop μ-loop
 part-rest-start-2 c =
-    let u = c .before .before .before in
-    omega (arith, (stands-block _ (u .before .before .judged .ensures) (u .n .given .1) .0) .inside)
+    let after-n = c .before .before .before in
+    omega (arith, (stands-block _ (after-n .before .before .judged .ensures) (after-n .n .given .1) .0) .inside)
 
 part-rest-end-2 : tie.Need-part-rest-end-2 Inv-loop μ-loop
 part-rest-end-2 c = omega arith
 
 loop-less : tie.Need-loop-less Inv-loop μ-loop
 loop-less c =
-    let u = c .before .before .before .before in
-    let z = stands-block _ (u .before .before .judged .ensures) (u .n .given .1) .0 in
+    let after-n = c .before .before .before .before in
+    let z = stands-block _ (after-n .before .before .judged .ensures) (after-n .n .given .1) .0 in
     simp (tail-part, length-drop) (omega (arith, z .least, z .inside))
 
 loop-again : tie.Need-loop-again Inv-loop μ-loop
 loop-again c =
-    let u = c .before .before .before .before in
-    let I = u .before .before .before .loop .inv in
-    passed-on (I .1) (I .0) (stands-block _ (u .before .before .judged .ensures) (u .n .given .1)) (c .before .note .ensures)
+    let after-n = c .before .before .before .before in
+    let I = after-n .before .before .before .loop .inv in
+    passed-on (I .1) (I .0) (stands-block _ (after-n .before .before .judged .ensures) (after-n .n .given .1)) (c .before .note .ensures)
 
 enum-told : tie.Need-enum-told Inv-loop μ-loop
 enum-told c = search needs

@@ -1,3 +1,4 @@
+-- The table's rows one by one; a slot that it does not have takes any size.
 use Rattle.format.specs.Blocks.{sizeFits}
 use Rattle.blocks.proofs.StepLaws.{size-other}
 use Rattle.blocks.proofs.size_ok.Statement.{statement}

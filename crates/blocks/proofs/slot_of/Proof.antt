@@ -1,3 +1,4 @@
+-- The table's signatures one by one; a signature unlike all of them has slot 11.
 use borrow.Author.Tests.{ne-eqb}
 use Rattle.format.specs.Blocks.{slotOf}
 use Rattle.blocks.proofs.slot_of.Statement.{statement}

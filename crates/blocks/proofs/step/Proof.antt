@@ -1,3 +1,4 @@
+-- Each way out has its law: too short for a size, the terminal, a size below 8, one past the end, one that its slot forbids, a block.
 use mathlib.Core.Path.{sym, ap, _∙_}
 use borrow.Author.Tests.{not-true, not-false}
 use Rattle.format.specs.Blocks.{slotOf}
@@ -35,15 +36,15 @@ size-ok-requires c κs = search needs
 
 returns-5 : tie.Need-returns-5
 returns-5 c =
-    let u = c .before .before .before .before in
+    let after-size = c .before .before .before .before in
     let slot = c .before .before .slot-of .ensures ∙ ap slotOf (c .before .before .before .u32-at2 .ensures) in
-    step-wrong _ (u .before .before .before .if1 .left) (u .before .before .u32-at .ensures) (u .before .if2 .left) (u .if4 .left) slot (sym (c .before .size-ok .ensures) ∙ not-true _ (c .if5 .taken))
+    step-wrong _ (after-size .before .before .before .if1 .left) (after-size .before .before .u32-at .ensures) (after-size .before .if2 .left) (after-size .if4 .left) slot (sym (c .before .size-ok .ensures) ∙ not-true _ (c .if5 .taken))
 
 returns-6 : tie.Need-returns-6
 returns-6 c =
-    let u = c .before .before .before .before in
+    let after-size = c .before .before .before .before in
     let slot = c .before .before .slot-of .ensures ∙ ap slotOf (c .before .before .before .u32-at2 .ensures) in
-    step-sized _ (u .before .before .before .if1 .left) (u .before .before .u32-at .ensures) (u .before .if2 .left) (u .if4 .left) slot (sym (c .before .size-ok .ensures) ∙ not-false _ (c .if5 .left))
+    step-sized _ (after-size .before .before .before .if1 .left) (after-size .before .before .u32-at .ensures) (after-size .before .if2 .left) (after-size .if4 .left) slot (sym (c .before .size-ok .ensures) ∙ not-false _ (c .if5 .left))
 
 pub step-spec : {M : Type 1} → statement M
 step-spec =

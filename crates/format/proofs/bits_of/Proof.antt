@@ -1,3 +1,4 @@
+-- A negative number's flipped bits are its distance below -1, so taking them from the greatest gives its 32 bits.
 use Rattle.format.proofs.SignedLaws.{small, flipped, bits-below, bits-above, bits-small}
 use native.Mathlib.Omega.{arith}
 use Rattle.format.proofs.bits_of.Statement.{statement}

@@ -1,3 +1,4 @@
+-- The faults one by one, as the table has them.
 use Rattle.format.specs.Numbers.{numberOf}
 use borrow.Author.Needs.{needs}
 use Rattle.format.proofs.number_of.Statement.{statement}

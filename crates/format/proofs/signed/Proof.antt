@@ -1,3 +1,4 @@
+-- From 2^31 on, flipping twice gives the number back, so the flipped bits are those of the signed reading.
 use Rattle.format.specs.Header.{signed}
 use native.Mathlib.Omega.{arith}
 use Prim.Native.Nat.{suc, _-_}

@@ -1,3 +1,4 @@
+-- Each rule is asked of its own field, and together they are the head's tests.
 use Rattle.header.proofs.Laws.{head-are}
 use borrow.Author.Needs.{needs}
 use Rattle.header.proofs.head_ok.Statement.{statement}
@@ -26,8 +27,8 @@ zeros-from-66-requires c κs = search needs
 
 returns : tie.Need-returns
 returns c =
-    let after-u32-at2 = c .before .before .before .before in
-    head-are _ (after-u32-at2 .before .before .u32-at .ensures) (after-u32-at2 .before .flags-ok .ensures) (after-u32-at2 .u32-at2 .ensures)
+    let after-attributes = c .before .before .before .before in
+    head-are _ (after-attributes .before .before .u32-at .ensures) (after-attributes .before .flags-ok .ensures) (after-attributes .u32-at2 .ensures)
     (c .before .before .before .attributes-ok .ensures)
     (c .before .before .u16-at .ensures) (c .before .hotkey-ok .ensures) (c .zeros-from-66 .ensures)
 

@@ -1,3 +1,4 @@
+-- Each field is the number at its place; the icon's index is the signed reading of its 32 bits.
 use mir.Syntax.{w32}
 use mir.ValLaws.{toZ-ofZ}
 use Rattle.format.specs.Header.{signed}
@@ -39,10 +40,10 @@ u16-at-requires c κs = search needs
 
 returns : tie.Need-returns
 returns c =
-    let after-u32-at3 = c .before .before .before .before in
-    let after-u32-at2 = after-u32-at3 .before .before .before .before in
-    fields-are _ (after-u32-at2 .before .u32-at .ensures) (after-u32-at2 .u32-at2 .ensures) (after-u32-at3 .before .before .before .u64-at .ensures)
-    (after-u32-at3 .before .before .u64-at2 .ensures) (after-u32-at3 .before .u64-at3 .ensures) (after-u32-at3 .u32-at3 .ensures)
+    let after-file-size = c .before .before .before .before in
+    let after-attributes = after-file-size .before .before .before .before in
+    fields-are _ (after-attributes .before .u32-at .ensures) (after-attributes .u32-at2 .ensures) (after-file-size .before .before .before .u64-at .ensures)
+    (after-file-size .before .before .u64-at2 .ensures) (after-file-size .before .u64-at3 .ensures) (after-file-size .u32-at3 .ensures)
     (toZ-ofZ w32 (c .before .before .signed .result) (record { sfits = c .before .before .signed .ok }) ∙ c .before .before .signed .ensures ∙ ap signed (c .before .before .before .u32-at4 .ensures)) (c .before .u32-at5 .ensures) (c .u16-at .ensures)
 
 pub header-fields-spec : {M : Type 1} → statement M

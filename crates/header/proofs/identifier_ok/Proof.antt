@@ -1,3 +1,4 @@
+-- Sixteen bytes are right when the four numbers in them are.
 use native.Mathlib.Omega.{arith}
 use Rattle.header.proofs.Laws.{identifier-are}
 use borrow.Author.Needs.{needs}

@@ -1,3 +1,4 @@
+-- Two commands are kept as they are; every other is shown as 1.
 use borrow.Author.Tests.{ne-eqb}
 use Rattle.header.proofs.window.Statement.{statement}
 use Rattle.header.proofs.window.Tie as tie

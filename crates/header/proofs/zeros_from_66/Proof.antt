@@ -1,3 +1,4 @@
+-- Ten bytes are zero when the two numbers in them are.
 use Rattle.header.proofs.Laws.{zeros-are}
 use native.Mathlib.Omega.{arith}
 use borrow.Author.Needs.{needs}

@@ -1,3 +1,4 @@
+-- Each of the four with those before it: six pairs, as the definition lists them.
 use Rattle.info.proofs.TestLaws.{four-apart}
 use borrow.Author.Needs.{needs}
 use Rattle.info.proofs.apart_four.Statement.{statement}

@@ -1,3 +1,4 @@
+-- The size field must be there, the size must lie inside and be no less than the least: one law for each.
 use Rattle.info.proofs.StructLaws.{end-low, end-cut, end-past, end-small, end-at}
 use Rattle.octets.proofs.CursorLaws.{take-got, take-lost, skip-got, skip-lost}
 use native.Mathlib.Omega.{arith}

@@ -1,3 +1,4 @@
+-- A field that is asked for has its room; one that is not there counts as 0.
 use Rattle.info.specs.Steps.Found.{fieldIf}
 use borrow.Author.Needs.{needs}
 use Rattle.info.proofs.field.Statement.{statement}

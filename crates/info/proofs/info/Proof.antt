@@ -1,3 +1,4 @@
+-- Each refusal has its law, in the order of the tests; past them the part from the start to the declared end is read.
 use Rattle.info.proofs.InfoLaws.{info-cut, info-small, info-past, info-head, info-piece, info-got}
 use Rattle.octets.proofs.CursorLaws.{take-got, take-lost, skip-got, skip-lost}
 use lib.ListN.{length-take, length-drop}
@@ -86,13 +87,13 @@ returns-5 c =
 
 returns-6 : tie.Need-returns-6
 returns-6 c =
-    let after-if2 = c .before .before .before .before in
-    let after-next = after-if2 .before .before .before .before in
+    let after-head-asked = c .before .before .before .before in
+    let after-next = after-head-asked .before .before .before .before in
     let after-skip = after-next .before .before in
     let after-size = after-skip .before .before .before in
     let t = take-got _ _ _ (after-size .before .before .take-u32 .ensures) (after-size .size .given .1) in
     let u = skip-got _ _ _ (after-skip .skip .ensures) (after-next .next .given .1) in
-    info-got _ _ (t .0) (t .1) (omega arith) (u .0) (u .1) (after-if2 .before .info-head-ok .ensures) (after-if2 .if2 .left)
+    info-got _ _ (t .0) (t .1) (omega arith) (u .0) (u .1) (after-head-asked .before .info-head-ok .ensures) (after-head-asked .if2 .left)
     (c .before .before .before .info-pieces .ensures) (c .before .if3 .left)
 
 pub info-spec : {M : Type 1} → statement M

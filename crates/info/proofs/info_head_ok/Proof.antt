@@ -1,3 +1,4 @@
+-- A head of a right length has room for its last field; the other rules are one test of the code.
 use Rattle.info.proofs.InfoLaws.{head-fails, head-room, head-passes}
 use native.Mathlib.Omega.{arith}
 use borrow.Author.Needs.{needs}
@@ -51,9 +52,9 @@ absent-zero-requires-3 c κs = search needs
 
 field-requires : tie.Need-field-requires
 field-requires c κs =
-    let after-u32-at4 = c .before .before .before .before in
-    let after-u32-at2 = after-u32-at4 .before .before .before .before in
-    λ e. omega (arith, head-room _ (after-u32-at2 .before .before .u32-at .ensures) (after-u32-at2 .before .if1 .left) e)
+    let after-local-offset = c .before .before .before .before in
+    let after-flags = after-local-offset .before .before .before .before in
+    λ e. omega (arith, head-room _ (after-flags .before .before .u32-at .ensures) (after-flags .before .if1 .left) e)
 
 absent-zero-requires-4 : tie.Need-absent-zero-requires-4
 absent-zero-requires-4 c κs = search needs
@@ -61,10 +62,10 @@ absent-zero-requires-4 c κs = search needs
 returns-2 : tie.Need-returns-2
 returns-2 c =
     let after-bit-1 = c .before .before .before .before in
-    let after-u32-at3 = after-bit-1 .before .before .before .before in
-    head-passes _ (after-u32-at3 .before .before .before .before .u32-at .ensures) (after-u32-at3 .before .before .before .if1 .left)
-    (after-u32-at3 .before .before .u32-at2 .ensures) (after-u32-at3 .before .bit-0 .ensures)
-    (after-u32-at3 .u32-at3 .ensures) (after-bit-1 .before .before .before .absent-zero .ensures) (after-bit-1 .before .before .u32-at4 .ensures)
+    let after-volume-offset = after-bit-1 .before .before .before .before in
+    head-passes _ (after-volume-offset .before .before .before .before .u32-at .ensures) (after-volume-offset .before .before .before .if1 .left)
+    (after-volume-offset .before .before .u32-at2 .ensures) (after-volume-offset .before .bit-0 .ensures)
+    (after-volume-offset .u32-at3 .ensures) (after-bit-1 .before .before .before .absent-zero .ensures) (after-bit-1 .before .before .u32-at4 .ensures)
     (after-bit-1 .before .absent-zero2 .ensures)
     (after-bit-1 .bit-1 .ensures) (c .before .before .before .u32-at5 .ensures) (c .before .before .absent-zero3 .ensures) (c .before .field .ensures)
     (c .absent-zero4 .ensures)

@@ -1,3 +1,4 @@
+-- The head passed its tests, so its fields are there; each offset gives its own piece, and the six ends are small enough to compare.
 use Rattle.info.proofs.InfoLaws.{passed-room, six, pieces-are}
 use native.Mathlib.Omega.{arith}
 use borrow.Author.Needs.{needs}
@@ -48,70 +49,70 @@ network-requires c κs = search needs
 
 u32-at-requires-6 : tie.Need-u32-at-requires-6
 u32-at-requires-6 c κs =
-    let after-u32-at4 = c .before .before .before .before in
-    let after-u32-at2 = after-u32-at4 .before .before .before .before in
-    after-u32-at2 .before .before .before .pre .0
+    let after-local-offset = c .before .before .before .before in
+    let after-flags = after-local-offset .before .before .before .before in
+    after-flags .before .before .before .pre .0
 
 cast-text-at-2 : tie.Need-cast-text-at-2
 cast-text-at-2 c = search needs
 
 text-at-requires-2 : tie.Need-text-at-requires-2
 text-at-requires-2 c κs =
-    let after-text-at = c .before .before .before .before in
-    let after-bit-0 = after-text-at .before .before .before .before in
+    let after-local-text = c .before .before .before .before in
+    let after-bit-0 = after-local-text .before .before .before .before in
     after-bit-0 .before .before .before .before .pre .1
 
 field-requires : tie.Need-field-requires
 field-requires c κs =
     let after-bit-1 = c .before .before .before .before in
-    let after-u32-at3 = after-bit-1 .before .before .before .before in
-    let after-u32-at = after-u32-at3 .before .before .before in
-    λ e. omega (arith, passed-room _ (after-u32-at .u32-at .ensures) (after-u32-at .before .before .pre .2) e)
+    let after-volume-offset = after-bit-1 .before .before .before .before in
+    let after-head = after-volume-offset .before .before .before in
+    λ e. omega (arith, passed-room _ (after-head .u32-at .ensures) (after-head .before .before .pre .2) e)
 
 text-at-requires-3 : tie.Need-text-at-requires-3
 text-at-requires-3 c κs =
-    let after-u32-at5 = c .before .before .before .before in
-    let after-volume = after-u32-at5 .before .before .before .before in
-    let after-u32-at = after-volume .before .before .before .before in
-    after-u32-at .before .before .pre .1
+    let after-network-offset = c .before .before .before .before in
+    let after-volume = after-network-offset .before .before .before .before in
+    let after-head = after-volume .before .before .before .before in
+    after-head .before .before .pre .1
 
 field-requires-2 : tie.Need-field-requires-2
 field-requires-2 c κs =
     let after-network = c .before .before .before .before in
-    let after-u32-at4 = after-network .before .before .before .before in
-    let after-u32-at2 = after-u32-at4 .before .before .before .before in
-    passed-room _ (after-u32-at2 .before .u32-at .ensures) (after-u32-at2 .before .before .before .pre .2)
+    let after-local-offset = after-network .before .before .before .before in
+    let after-flags = after-local-offset .before .before .before .before in
+    passed-room _ (after-flags .before .u32-at .ensures) (after-flags .before .before .before .pre .2)
 
 text-at-requires-4 : tie.Need-text-at-requires-4
 text-at-requires-4 c κs =
-    let after-u32-at6 = c .before .before .before .before in
-    let after-text-at = after-u32-at6 .before .before .before .before in
-    let after-bit-0 = after-text-at .before .before .before .before in
+    let after-suffix-offset = c .before .before .before .before in
+    let after-local-text = after-suffix-offset .before .before .before .before in
+    let after-bit-0 = after-local-text .before .before .before .before in
     after-bit-0 .before .before .before .before .pre .1
 
 apart-six-requires : tie.Need-apart-six-requires
 apart-six-requires c κs =
     let after-struct-known2 = c .before .before .before .before in
-    let after-text-at3 = after-struct-known2 .before .before .before .before in
-    let after-network = after-text-at3 .before .before .before .before in
-    let after-text-at = after-network .before .before .before in
-    (after-text-at .before .before .volume .ensures .1, after-text-at .text-at .ensures .1, after-network .network .ensures .1, after-text-at3 .before .before .text-at2 .ensures .1, after-text-at3 .text-at3 .ensures .1, after-struct-known2 .before .before .text-at4 .ensures .1)
+    let after-local-unicode = after-struct-known2 .before .before .before .before in
+    let after-network = after-local-unicode .before .before .before .before in
+    let after-local-text = after-network .before .before .before in
+    (after-local-text .before .before .volume .ensures .1, after-local-text .text-at .ensures .1, after-network .network .ensures .1, after-local-unicode .before .before .text-at2 .ensures .1, after-local-unicode .text-at3 .ensures .1, after-struct-known2 .before .before .text-at4 .ensures .1)
 
 returns : tie.Need-returns
 returns c =
     let after-local = c .before .before .before .before in
     let after-apart-six = after-local .before .before in
     let after-struct-known3 = after-apart-six .before .before .before .before in
-    let after-field2 = after-struct-known3 .before .before .before .before in
-    let after-u32-at6 = after-field2 .before .before .before .before in
-    let after-text-at = after-u32-at6 .before .before .before .before in
-    let after-bit-0 = after-text-at .before .before .before .before in
+    let after-suffix-unicode-offset = after-struct-known3 .before .before .before .before in
+    let after-suffix-offset = after-suffix-unicode-offset .before .before .before .before in
+    let after-local-text = after-suffix-offset .before .before .before .before in
+    let after-bit-0 = after-local-text .before .before .before .before in
     let S = six _ _ (after-bit-0 .before .before .u32-at .ensures) (after-bit-0 .before .u32-at2 .ensures) (after-bit-0 .bit-0 .ensures)
-    (after-u32-at6 .before .before .before .bit-1 .ensures) (after-text-at .before .before .before .u32-at3 .ensures)
-    (after-text-at .before .before .volume .ensures .0) (after-text-at .before .u32-at4 .ensures) (after-text-at .text-at .ensures .0)
-    (after-u32-at6 .before .before .u32-at5 .ensures) (after-u32-at6 .before .network .ensures .0) (after-u32-at6 .u32-at6 .ensures)
-    (after-field2 .before .before .before .text-at2 .ensures .0) (after-field2 .before .before .field .ensures) (after-field2 .before .text-at3 .ensures .0)
-    (after-field2 .field2 .ensures) (after-struct-known3 .before .before .before .text-at4 .ensures .0) in
+    (after-suffix-offset .before .before .before .bit-1 .ensures) (after-local-text .before .before .before .u32-at3 .ensures)
+    (after-local-text .before .before .volume .ensures .0) (after-local-text .before .u32-at4 .ensures) (after-local-text .text-at .ensures .0)
+    (after-suffix-offset .before .before .u32-at5 .ensures) (after-suffix-offset .before .network .ensures .0) (after-suffix-offset .u32-at6 .ensures)
+    (after-suffix-unicode-offset .before .before .before .text-at2 .ensures .0) (after-suffix-unicode-offset .before .before .field .ensures) (after-suffix-unicode-offset .before .text-at3 .ensures .0)
+    (after-suffix-unicode-offset .field2 .ensures) (after-struct-known3 .before .before .before .text-at4 .ensures .0) in
     pieces-are _ _ S (after-apart-six .apart-six .ensures) (after-bit-0 .before .u32-at2 .ensures) (after-bit-0 .before .before .u32-at .ensures)
 
 pub info-pieces-spec : {M : Type 1} → statement M

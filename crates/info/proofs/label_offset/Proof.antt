@@ -1,3 +1,4 @@
+-- The kind of label says which field holds its offset, and the room for that field is given.
 use native.Mathlib.Omega.{arith}
 use borrow.Author.Needs.{needs}
 use Rattle.info.proofs.label_offset.Statement.{statement}

@@ -1,3 +1,4 @@
+-- A head that passes has room for every field it speaks of; the four names and their being apart are the rest.
 use Rattle.info.proofs.NetworkLaws.{network-room, four, network-fails, network-read}
 use native.Mathlib.Omega.{arith}
 use borrow.Author.Needs.{needs}
@@ -45,35 +46,35 @@ field-requires c κs =
 text-at-requires-3 : tie.Need-text-at-requires-3
 text-at-requires-3 c κs =
     let after-network-head = c .before .before .before .before in
-    let after-if1 = after-network-head .before .before .before .before in
-    after-if1 .before .before .before .pre .1
+    let after-head-asked = after-network-head .before .before .before .before in
+    after-head-asked .before .before .before .pre .1
 
 field-requires-2 : tie.Need-field-requires-2
 field-requires-2 c κs =
-    let after-text-at = c .before .before .before .before in
-    let after-u32-at2 = after-text-at .before .before .before in
-    network-room _ (after-u32-at2 .before .before .before .network-head-ok .ensures) (after-u32-at2 .before .before .if1 .left) (after-u32-at2 .u32-at2 .ensures)
+    let after-net-text = c .before .before .before .before in
+    let after-name-offset = after-net-text .before .before .before in
+    network-room _ (after-name-offset .before .before .before .network-head-ok .ensures) (after-name-offset .before .before .if1 .left) (after-name-offset .u32-at2 .ensures)
 
 text-at-requires-4 : tie.Need-text-at-requires-4
 text-at-requires-4 c κs =
-    let after-u32-at3 = c .before .before .before .before in
-    let after-u32-at2 = after-u32-at3 .before .before .before .before in
-    let after-shared-slice-known = after-u32-at2 .before .before .before .before in
+    let after-device-offset = c .before .before .before .before in
+    let after-name-offset = after-device-offset .before .before .before .before in
+    let after-shared-slice-known = after-name-offset .before .before .before .before in
     after-shared-slice-known .before .pre .1
 
 apart-four-requires : tie.Need-apart-four-requires
 apart-four-requires c κs =
-    let after-text-at4 = c .before .before .before .before in
-    let after-text-at2 = after-text-at4 .before .before .before .before in
-    (after-text-at2 .before .before .text-at .ensures .1, after-text-at2 .text-at2 .ensures .1, after-text-at4 .before .before .text-at3 .ensures .1, after-text-at4 .text-at4 .ensures .1)
+    let after-device-unicode = c .before .before .before .before in
+    let after-device = after-device-unicode .before .before .before .before in
+    (after-device .before .before .text-at .ensures .1, after-device .text-at2 .ensures .1, after-device-unicode .before .before .text-at3 .ensures .1, after-device-unicode .text-at4 .ensures .1)
 
 u32-at-requires-4 : tie.Need-u32-at-requires-4
 u32-at-requires-4 c κs =
     let after-struct-known = c .before .before .before .before in
     let after-field = after-struct-known .before .before .before .before in
     let after-network-head = after-field .before .before .before .before in
-    let after-if1 = after-network-head .before .before .before .before in
-    after-if1 .before .before .before .pre .0
+    let after-head-asked = after-network-head .before .before .before .before in
+    after-head-asked .before .before .before .pre .0
 
 provider-requires : tie.Need-provider-requires
 provider-requires c κs = search needs
@@ -88,13 +89,13 @@ returns-2 c =
     let after-struct-known = after-apart-four .before .before .before .before in
     let after-field = after-struct-known .before .before .before .before in
     let after-network-head = after-field .before .before .before .before in
-    let after-if1 = after-network-head .before .before .before .before in
+    let after-head-asked = after-network-head .before .before .before .before in
     let f = four _ _ (after-network-head .before .before .before .u32-at .ensures) (after-network-head .before .before .u32-at2 .ensures)
     (after-network-head .before .bit-0 .ensures) (after-network-head .network-head .ensures) (after-field .before .before .before .text-at .ensures .0)
     (after-field .before .before .u32-at3 .ensures) (after-field .before .text-at2 .ensures .0)
     (after-field .field .ensures) (after-struct-known .before .before .before .text-at3 .ensures .0) (after-struct-known .before .before .field2 .ensures)
     (after-struct-known .before .text-at4 .ensures .0) in
-    network-read _ _ (after-if1 .before .network-head-ok .ensures) (after-if1 .if1 .left) f (after-apart-four .apart-four .ensures)
+    network-read _ _ (after-head-asked .before .network-head-ok .ensures) (after-head-asked .if1 .left) f (after-apart-four .apart-four .ensures)
     (after-network-head .before .before .before .u32-at .ensures) (after-network-head .before .before .u32-at2 .ensures) (after-net .before .before .u32-at4 .ensures)
     (after-net .before .provider .ensures)
     (c .network-if .ensures)

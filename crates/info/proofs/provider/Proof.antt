@@ -1,3 +1,4 @@
+-- Bit 1 of the flags keeps the provider type; without it the type is 0.
 use mathlib.Core.Path.{sym, _∙_}
 use borrow.Author.Needs.{needs}
 use Rattle.info.proofs.provider.Statement.{statement}

@@ -1,3 +1,4 @@
+-- A zero found lies inside the part, so the text before it does too; each way to have no text has its law.
 use Rattle.info.proofs.TextLaws.{text-absent, text-low, text-open, text-inside, text-ends}
 use native.Mathlib.Omega.{arith}
 use borrow.Author.Needs.{needs}

@@ -1,3 +1,4 @@
+-- From p on the answer is that of the whole list, and p passes the end by one item at most.
 use native.Mathlib.Omega.{arith}
 use borrow.Author.Needs.{needs}
 use Prim.Native.Nat.{_≤_, _+_, _-_}
@@ -8,7 +9,6 @@ use Rattle.items.proofs.Laws.{itemsAt, items-start, items-cut, items-st
 use Rattle.items.proofs.item_list.Statement.{statement}
 use Rattle.items.proofs.item_list.Tie as tie
 
--- p passes the end by one item at most
 abbrev Inv-loop : tie.InvT-loop
 Inv-loop l last p₀ p = (p ≤ length l + 65535) × (itemsAt l p ≡ itemList l)
 

@@ -1,3 +1,4 @@
+-- The zero is sought from byte 8 of the block: the text ends before it, or with the block where there is none.
 use Rattle.keying.proofs.Laws.{text-ended, text-whole}
 use borrow.Author.Needs.{needs}
 use Rattle.keying.proofs.block_text.Statement.{statement}
@@ -23,13 +24,19 @@ sub-t7 c = search needs
 
 returns : tie.Need-returns
 returns c =
-    let u = c .before .before .before .before .before .before .before in
-    text-whole _ _ (u .pre .0) (u .pre .1) (c .before .before .before .before .part .ensures) (c .before .before .before .zero-from .ensures) (c .before .enum-told .given .1)
+    let after-no-zero = c .before in
+    let after-zero-from = after-no-zero .before .before in
+    let after-part = after-zero-from .before in
+    let start = after-part .before .before .before in
+    text-whole _ _ (start .pre .0) (start .pre .1) (after-part .part .ensures) (after-zero-from .zero-from .ensures) (after-no-zero .enum-told .given .1)
 
 returns-2 : tie.Need-returns-2
 returns-2 c =
-    let u = c .before .before .before .before .before .before .before in
-    text-ended _ _ (u .pre .0) (u .pre .1) (c .before .before .before .before .part .ensures) (c .before .before .before .zero-from .ensures) (c .before .len .given .1)
+    let after-zero = c .before in
+    let after-zero-from = after-zero .before .before in
+    let after-part = after-zero-from .before in
+    let start = after-part .before .before .before in
+    text-ended _ _ (start .pre .0) (start .pre .1) (after-part .part .ensures) (after-zero-from .zero-from .ensures) (after-zero .len .given .1)
 
 pub block-text-spec : {M : Type 1} → statement M
 block-text-spec =

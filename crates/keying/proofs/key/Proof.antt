@@ -1,3 +1,4 @@
+-- An accepted outline gives the key's parts; they fit the room that was asked for, so what is put is the key, and otherwise nothing is put.
 use native.Mathlib.Omega.{arith}
 use Rattle.reader.proofs.OutlineLaws.{outline-read, first-accepted}
 use Rattle.keying.proofs.Laws.{key-left, accepts, key-room, key-written}
@@ -19,25 +20,25 @@ enum-told-2 c = search needs
 
 returns : tie.Need-returns
 returns c =
-    let u = c .before .before in
-    key-left _ _ (outline-read _ (u .before .before .before .outline-of .ensures) (u .finish .ensures)) (c .enum-told2 .given .1)
+    let after-finish = c .before .before in
+    key-left _ _ (outline-read _ (after-finish .before .before .before .outline-of .ensures) (after-finish .finish .ensures)) (c .enum-told2 .given .1)
 
 parts-of-requires : tie.Need-parts-of-requires
 parts-of-requires c κs =
-    let u = c .before .before in
-    let o = u .before .before .before in
-    let e = c .enum-told .given .1 in
-    let out = o .before .before .before .args .out .now in
-    (accepts _ out (outline-read _ (o .outline-of .ensures) (u .finish .ensures)) e, first-accepted _ (o .outline-of .ensures) (u .finish .ensures) e)
+    let after-finish = c .before .before in
+    let after-outline-of = after-finish .before .before .before in
+    let accepted = c .enum-told .given .1 in
+    let out = after-outline-of .before .before .before .args .out .now in
+    (accepts _ out (outline-read _ (after-outline-of .outline-of .ensures) (after-finish .finish .ensures)) accepted, first-accepted _ (after-outline-of .outline-of .ensures) (after-finish .finish .ensures) accepted)
 
 key-length-requires : tie.Need-key-length-requires
 key-length-requires c κs = search needs
 
 returns-2 : tie.Need-returns-2
 returns-2 c =
-    let t = c .before .before .before in
-    let u = t .before .before in
-    key-room _ _ (outline-read _ (u .before .before .before .outline-of .ensures) (u .finish .ensures)) (t .enum-told .given .1) (c .before .before .parts-of .ensures .0) (c .before .before .parts-of .ensures .1) (c .before .key-length .ensures) (c .if1 .taken)
+    let after-accepted = c .before .before .before in
+    let after-finish = after-accepted .before .before in
+    key-room _ _ (outline-read _ (after-finish .before .before .before .outline-of .ensures) (after-finish .finish .ensures)) (after-accepted .enum-told .given .1) (c .before .before .parts-of .ensures .0) (c .before .before .parts-of .ensures .1) (c .before .key-length .ensures) (c .if1 .taken)
 
 put-key-requires : tie.Need-put-key-requires
 put-key-requires c κs = search needs
@@ -47,10 +48,13 @@ same-length c = search needs
 
 returns-3 : tie.Need-returns-3
 returns-3 c =
-    let k = c .before .before .before .before .before in
-    let t = k .before .before in
-    let u = t .before .before in
-    key-written _ _ (outline-read _ (u .before .before .before .outline-of .ensures) (u .finish .ensures)) (t .enum-told .given .1) (k .before .parts-of .ensures .0) (k .before .parts-of .ensures .1) (k .key-length .ensures) (omega arith) (c .before .before .put-key .ensures)
+    let after-put-key = c .before .before in
+    let after-key-length = after-put-key .before .before .before in
+    let after-parts-of = after-key-length .before in
+    let after-accepted = after-parts-of .before in
+    let after-finish = after-accepted .before .before in
+    let after-outline-of = after-finish .before .before .before in
+    key-written _ _ (outline-read _ (after-outline-of .outline-of .ensures) (after-finish .finish .ensures)) (after-accepted .enum-told .given .1) (after-parts-of .parts-of .ensures .0) (after-parts-of .parts-of .ensures .1) (after-key-length .key-length .ensures) (omega arith) (after-put-key .put-key .ensures)
 
 pub key-spec : {M : Type 1} → statement M
 key-spec =

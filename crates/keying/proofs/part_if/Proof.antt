@@ -1,3 +1,4 @@
+-- A part that is absent shows no text, whatever texts it was given.
 use Rattle.keying.specs.Steps.KeyParts.{only}
 use Rattle.keying.proofs.Laws.{part-there, part-absent}
 use borrow.Author.Needs.{needs}

@@ -1,3 +1,4 @@
+-- The record is accepted, so each text that it names stands in the shortcut, and the first row of the table gives the environment's block.
 use mathlib.Core.Path.{refl}
 use Rattle.keying.proofs.Laws.{accepted-texts, row-block, parts-shown, parts-stand}
 use borrow.Author.Needs.{needs}
@@ -38,11 +39,11 @@ environment-requires c κs =
 
 returns : tie.Need-returns
 returns c =
-    let u = c .before .before .before .before in
-    let v = u .before .before .before in
-    let p = v .before .before .pre in (
-      parts-shown _ _ (p .0) refl (v .has-target .ensures) (u .before .before .texts-of .ensures) (u .before .part-if .ensures) (u .only .ensures) (c .before .before .before .part-if2 .ensures) (c .before .before .only2 .ensures) (c .before .part-if3 .ensures) (p .1) (c .environment .ensures),
-      parts-stand _ _ (p .0) refl (v .has-target .ensures) (u .before .before .texts-of .ensures) (u .before .part-if .ensures) (u .only .ensures) (c .before .before .before .part-if2 .ensures) (c .before .before .only2 .ensures) (c .before .part-if3 .ensures) (p .1) (c .environment .ensures),
+    let after-only = c .before .before .before .before in
+    let after-has-target = after-only .before .before .before in
+    let given = after-has-target .before .before .pre in (
+      parts-shown _ _ (given .0) refl (after-has-target .has-target .ensures) (after-only .before .before .texts-of .ensures) (after-only .before .part-if .ensures) (after-only .only .ensures) (c .before .before .before .part-if2 .ensures) (c .before .before .only2 .ensures) (c .before .part-if3 .ensures) (given .1) (c .environment .ensures),
+      parts-stand _ _ (given .0) refl (after-has-target .has-target .ensures) (after-only .before .before .texts-of .ensures) (after-only .before .part-if .ensures) (after-only .only .ensures) (c .before .before .before .part-if2 .ensures) (c .before .before .only2 .ensures) (c .before .part-if3 .ensures) (given .1) (c .environment .ensures),
     )
 
 pub parts-of-spec : {M : Type 1} → statement M

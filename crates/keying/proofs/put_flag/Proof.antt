@@ -1,3 +1,4 @@
+-- One byte with the value 0 or 1 is the flag in little-endian order.
 use Rattle.keying.proofs.Laws.{flag-put}
 use borrow.Author.Needs.{needs}
 use Rattle.keying.proofs.put_flag.Statement.{statement}

@@ -1,3 +1,4 @@
+-- The key's parts stand one after another, so what was put is their bytes end to end.
 use Rattle.keying.proofs.Laws.{key-put}
 use borrow.Author.Needs.{needs}
 use Rattle.keying.proofs.put_key.Statement.{statement}
@@ -23,7 +24,12 @@ same-length c = search needs
 
 returns : tie.Need-returns
 returns c =
-    key-put _ _ (c .before .before .before .before .before .before .before .before .before .before .before .before .before .before .before .before .before .before .put-flag .ensures) (c .before .before .before .before .before .before .before .before .before .before .before .before .before .before .put-part .ensures) (c .before .before .before .before .before .before .before .before .before .before .put-part2 .ensures) (c .before .before .before .before .before .before .put-part3 .ensures) (c .before .before .put-part4 .ensures)
+    let after-environment = c .before .before in
+    let after-workdir = after-environment .before .before .before .before in
+    let after-arguments = after-workdir .before .before .before .before in
+    let after-target = after-arguments .before .before .before .before in
+    let after-unicode = after-target .before .before .before .before in
+    key-put _ _ (after-unicode .put-flag .ensures) (after-target .put-part .ensures) (after-arguments .put-part2 .ensures) (after-workdir .put-part3 .ensures) (after-environment .put-part4 .ensures)
 
 pub put-key-spec : {M : Type 1} → statement M
 put-key-spec =

@@ -1,3 +1,4 @@
+-- The presence byte, the length and the texts adjoin, and the length is that of the texts, so together they are the part.
 use Rattle.keying.proofs.Laws.{part-put}
 use borrow.Author.Needs.{needs}
 use Rattle.keying.proofs.put_part.Statement.{statement}
@@ -32,8 +33,12 @@ same-length c = search needs
 
 returns : tie.Need-returns
 returns c =
-    let u = c .before .before .before .before .before .before .before .before .before .before .before .before .before .before .before in
-    part-put _ _ (u .pre .0) (u .pre .1) (c .before .before .before .before .before .before .before .before .before .before .before .before .part-length .ensures) (c .before .before .before .before .before .before .before .before .before .before .put-flag .ensures) (c .before .before .before .before .before .before .put-u32 .ensures) (c .before .before .put-texts .ensures)
+    let after-put-texts = c .before .before in
+    let after-length = after-put-texts .before .before .before .before in
+    let after-presence = after-length .before .before .before .before in
+    let after-part-length = after-presence .before .before in
+    let start = after-part-length .before .before .before in
+    part-put _ _ (start .pre .0) (start .pre .1) (after-part-length .part-length .ensures) (after-presence .put-flag .ensures) (after-length .put-u32 .ensures) (after-put-texts .put-texts .ensures)
 
 pub put-part-spec : {M : Type 1} → statement M
 put-part-spec =

@@ -1,3 +1,4 @@
+-- A block found lies inside, so p never passes the end and nears it each time.
 use native.Mathlib.Omega.{arith}
 use borrow.Author.Needs.{needs}
 use Prim.Native.Nat.{_≤_, _-_}
@@ -42,23 +43,23 @@ line-requires c κs = search needs
 
 add-p : tie.Need-add-p Inv-loop μ-loop
 add-p c =
-    let u = c .before .before .before in
-    let p = u .before .before .before .before .loop .inv in
-    let z = by-block _ (rw tail-part at (u .before .before .step .ensures)) (u .n .given .1) in
+    let after-n = c .before .before .before in
+    let p = after-n .before .before .before .before .loop .inv in
+    let z = by-block _ (rw tail-part at (after-n .before .before .step .ensures)) (after-n .n .given .1) in
     omega (arith, nth-fits _ _ p z)
 
 loop-less : tie.Need-loop-less Inv-loop μ-loop
 loop-less c =
-    let u = c .before .before .before in
-    let p = u .before .before .before .before .loop .inv in
-    let z = by-block _ (rw tail-part at (u .before .before .step .ensures)) (u .n .given .1) in
+    let after-n = c .before .before .before in
+    let p = after-n .before .before .before .before .loop .inv in
+    let z = by-block _ (rw tail-part at (after-n .before .before .step .ensures)) (after-n .n .given .1) in
     omega (arith, nth-fits _ _ p z, z .least)
 
 loop-again : tie.Need-loop-again Inv-loop μ-loop
 loop-again c =
-    let u = c .before .before .before in
-    let p = u .before .before .before .before .loop .inv in
-    let z = by-block _ (rw tail-part at (u .before .before .step .ensures)) (u .n .given .1) in
+    let after-n = c .before .before .before in
+    let p = after-n .before .before .before .before .loop .inv in
+    let z = by-block _ (rw tail-part at (after-n .before .before .step .ensures)) (after-n .n .given .1) in
     nth-fits _ _ p z
 
 enum-told : tie.Need-enum-told Inv-loop μ-loop

@@ -1,3 +1,4 @@
+-- p never passes the end, and the pieces leave at most 4096 bytes for the last one.
 use native.Mathlib.Omega.{arith}
 use borrow.Author.Needs.{needs}
 use Prim.Native.Nat.{_≤_, _-_}

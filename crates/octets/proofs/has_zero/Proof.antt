@@ -1,3 +1,4 @@
+-- A zero is among the characters when the search from the start finds one.
 use mathlib.Core.Path.{sym}
 use Rattle.octets.proofs.ZeroLaws.{zero-after, zero-nowhere}
 use borrow.Author.Needs.{needs}

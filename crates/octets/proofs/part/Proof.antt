@@ -1,3 +1,4 @@
+-- Bytes that stand are cut out where they are; the others are asked for in vain, and nothing is cut.
 use native.Mathlib.Omega.{arith}
 use native.Mathlib.Nat.{add-sub-cancel-left}
 use Rattle.octets.proofs.PartLaws.{part-in, part-out}

@@ -1,3 +1,4 @@
+-- The first i bytes are put; the length is kept by itself, so that each store is seen to be in range.
 use native.Mathlib.Omega.{arith}
 use Prim.Native.Nat.{_≤_, _-_}
 use mathlib.Core.Path.{_≡_, refl}
@@ -6,7 +7,6 @@ use Rattle.octets.proofs.PartLaws.{putting, put-none, put-more, put-who
 use Rattle.octets.proofs.put_bytes.Statement.{statement}
 use Rattle.octets.proofs.put_bytes.Tie as tie
 
--- the length is kept by itself, so that each store is seen to be in range
 abbrev Inv-loop : tie.InvT-loop
 Inv-loop out₀ at src i₀ out i = (i ≤ length src) × (length out ≡ length out₀) × (out ≡ putting out₀ at src i)
 

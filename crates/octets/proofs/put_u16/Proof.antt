@@ -1,3 +1,4 @@
+-- A number put as two halves that adjoin is the number put whole; here a half is a byte.
 use native.Mathlib.Omega.{arith}
 use lib.ListN.{length-set}
 use Rattle.octets.proofs.PartLaws.{put-byte, put-halves}

@@ -1,3 +1,4 @@
+-- A number put as two halves that adjoin is the number put whole.
 use native.Mathlib.Omega.{arith}
 use Rattle.octets.proofs.PartLaws.{put-halves}
 use borrow.Author.Needs.{needs}
@@ -24,9 +25,9 @@ same-length c = search needs
 
 returns : tie.Need-returns
 returns c =
-    let after-put-u162 = c .before .before in
-    let after-put-u16 = after-put-u162 .before .before .before .before in
-    put-halves 2 _ _ _ (omega arith) (after-put-u16 .put-u16 .ensures) (after-put-u162 .put-u162 .ensures)
+    let after-upper = c .before .before in
+    let after-lower = after-upper .before .before .before .before in
+    put-halves 2 _ _ _ (omega arith) (after-lower .put-u16 .ensures) (after-upper .put-u162 .ensures)
 
 pub put-u32-spec : {M : Type 1} → statement M
 put-u32-spec =

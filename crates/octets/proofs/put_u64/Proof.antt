@@ -1,3 +1,4 @@
+-- A number put as two halves that adjoin is the number put whole.
 use native.Mathlib.Omega.{arith}
 use Rattle.octets.proofs.PartLaws.{put-halves}
 use borrow.Author.Needs.{needs}
@@ -24,9 +25,9 @@ same-length c = search needs
 
 returns : tie.Need-returns
 returns c =
-    let after-put-u322 = c .before .before in
-    let after-put-u32 = after-put-u322 .before .before .before .before in
-    put-halves 4 _ _ _ (omega arith) (after-put-u32 .put-u32 .ensures) (after-put-u322 .put-u322 .ensures)
+    let after-upper = c .before .before in
+    let after-lower = after-upper .before .before .before .before in
+    put-halves 4 _ _ _ (omega arith) (after-lower .put-u32 .ensures) (after-upper .put-u322 .ensures)
 
 pub put-u64-spec : {M : Type 1} → statement M
 put-u64-spec =

@@ -1,3 +1,4 @@
+-- The bytes are too few for n, or the difference leaves room for the place: either way the sum is judged.
 use Prim.Native.Nat.{ℕ}
 use mathlib.Core.Path.{_≡_}
 use borrow.Author.Tests.{leb-true, leb-false}

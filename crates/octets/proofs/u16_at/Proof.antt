@@ -1,3 +1,4 @@
+-- A number is its lower half and its upper half, here a byte each.
 use native.Mathlib.Omega.{arith}
 use mathlib.Core.Path.{_∙_}
 use Rattle.octets.proofs.ReadLaws.{number-byte, number-halves}

@@ -1,3 +1,4 @@
+-- A number is its lower half and its upper half, two bytes each.
 use native.Mathlib.Omega.{arith}
 use Rattle.octets.proofs.ReadLaws.{number-halves}
 use borrow.Author.Needs.{needs}

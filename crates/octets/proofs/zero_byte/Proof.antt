@@ -1,3 +1,4 @@
+-- The search from i answers as the search from the start, and what was passed is counted by the place itself.
 use Rattle.octets.proofs.ReadLaws.{number-byte}
 use Rattle.octets.proofs.ZeroLaws.{scan-end, scan-zero, scan-other}
 use Rattle.octets.specs.Steps.Scans.{scanAt}
@@ -11,7 +12,6 @@ use native.Mathlib.Omega.{arith}
 use Rattle.octets.proofs.zero_byte.Statement.{statement}
 use Rattle.octets.proofs.zero_byte.Tie as tie
 
--- what was passed is counted by the place itself
 abbrev Inv-loop : tie.InvT-loop
 Inv-loop s from i₀ i = (from ≤ i) × (scanAt false s i (i - from) ≡ zeroFrom false s from)
 

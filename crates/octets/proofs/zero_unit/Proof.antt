@@ -1,3 +1,4 @@
+-- The search from i with n units passed answers as the search from the start; n is at most i, so it cannot wrap.
 use Rattle.octets.proofs.ZeroLaws.{scan-start, scan-end, scan-zero, scan-other}
 use Rattle.octets.specs.Steps.Scans.{scanAt}
 use Rattle.octets.specs.Steps.Scans.{zeroFrom}
@@ -10,7 +11,6 @@ use native.Mathlib.Omega.{arith}
 use Rattle.octets.proofs.zero_unit.Statement.{statement}
 use Rattle.octets.proofs.zero_unit.Tie as tie
 
--- n is at most i, so that it cannot wrap
 abbrev Inv-loop : tie.InvT-loop
 Inv-loop s from last i₀ n₀ i n = (n ≤ i) × (scanAt true s i n ≡ zeroFrom true s from)
 

@@ -1,3 +1,4 @@
+-- Only a reading that goes on has a cursor.
 use Rattle.reader.specs.Steps.EachSection.{atOf}
 use borrow.Author.Needs.{needs}
 use Rattle.reader.proofs.at_of.Statement.{statement}

@@ -1,3 +1,4 @@
+-- The blocks answer for themselves; a refusal takes the places of their signatures with it.
 use Rattle.reader.specs.Steps.EachSection.{settledBlocks, blocksOn}
 use borrow.Author.Needs.{needs}
 use Rattle.reader.proofs.blocks_on.Statement.{statement}
@@ -18,14 +19,15 @@ blocks-off-requires c κs = search needs
 returns : tie.Need-returns
 unfolding blocksOn settledBlocks
 returns c =
-    let w = c .before .before .before .before in
-    rw (← (w .blocks2 .ensures), c .before .taken .given .1)
+    let after-blocks = c .before .before .before .before in
+    rw (← (after-blocks .blocks2 .ensures), c .before .taken .given .1)
 
 returns-2 : tie.Need-returns-2
 unfolding blocksOn settledBlocks
 returns-2 c =
-    let w = c .before .before .before .before in
-    rw (← (w .before .blocks2 .ensures), c .before .before .taken2 .given .1) (c .blocks-off .ensures)
+    let after-refused = c .before .before in
+    let after-blocks = after-refused .before .before .before in
+    rw (← (after-blocks .blocks2 .ensures), after-refused .taken2 .given .1) (c .blocks-off .ensures)
 
 pub blocks-on-spec : {M : Type 1} → statement M
 blocks-on-spec =

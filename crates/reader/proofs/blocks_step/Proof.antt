@@ -1,3 +1,4 @@
+-- A reading that goes on takes the blocks at its cursor; one that stopped keeps its fault.
 use Rattle.reader.specs.Steps.EachSection.{blocksStep}
 use borrow.Author.Needs.{needs}
 use Rattle.reader.proofs.blocks_step.Statement.{statement}

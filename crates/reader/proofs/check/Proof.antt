@@ -1,3 +1,4 @@
+-- Equal readings have equal verdicts.
 use Rattle.format.specs.declared.Reading.{Reading}
 use mathlib.Core.Path.{ap}
 use borrow.Author.Needs.{needs}

@@ -1,3 +1,4 @@
+-- Each end is where the reading stood after its section.
 use Rattle.reader.specs.Steps.EachSection.{endsOf}
 use borrow.Author.Needs.{needs}
 use Rattle.reader.proofs.ends_of.Statement.{statement}
@@ -27,7 +28,13 @@ at-of-requires-7 c κs = search needs
 returns : tie.Need-returns
 unfolding endsOf
 returns c =
-    rw (c .before .before .before .before .before .before .at-of .ensures, c .before .before .before .before .before .at-of2 .ensures, c .before .before .before .before .at-of3 .ensures, c .before .before .before .at-of4 .ensures, c .before .before .at-of5 .ensures, c .before .at-of6 .ensures, c .at-of7 .ensures)
+    let after-arguments = c .before in
+    let after-workdir = after-arguments .before in
+    let after-relative = after-workdir .before in
+    let after-name = after-relative .before in
+    let after-info = after-name .before in
+    let after-items = after-info .before in
+    rw (after-items .at-of .ensures, after-info .at-of2 .ensures, after-name .at-of3 .ensures, after-relative .at-of4 .ensures, after-workdir .at-of5 .ensures, after-arguments .at-of6 .ensures, c .at-of7 .ensures)
 
 pub ends-of-spec : {M : Type 1} → statement M
 ends-of-spec =

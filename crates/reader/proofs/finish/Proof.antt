@@ -1,3 +1,4 @@
+-- A reading is accepted when its cursor ends on the last byte; bytes left over are a fault of their own.
 use Rattle.reader.specs.Steps.Finish.{finished}
 use borrow.Author.Tests.{eq-eqb, ne-eqb}
 use borrow.Author.Needs.{needs}

@@ -1,3 +1,4 @@
+-- An absent link info leaves the cursor where it was; a present one answers for itself.
 use Rattle.reader.specs.Steps.EachSection.{infoOn, settledInfo}
 use borrow.Author.Tests.{not-true, not-false}
 use borrow.Author.Needs.{needs}

@@ -1,3 +1,4 @@
+-- A reading that goes on takes the link info at its cursor; one that stopped keeps its fault.
 use Rattle.reader.specs.Steps.EachSection.{infoStep}
 use borrow.Author.Needs.{needs}
 use Rattle.reader.proofs.info_step.Statement.{statement}

@@ -1,3 +1,4 @@
+-- An absent list leaves the cursor where it was; a present one is settled as it was taken.
 use Rattle.reader.specs.Steps.EachSection.{itemsOn}
 use borrow.Author.Tests.{not-true, not-false}
 use borrow.Author.Needs.{needs}

@@ -1,3 +1,4 @@
+-- A reading that goes on takes the list at its cursor; one that stopped keeps its fault.
 use Rattle.reader.specs.Steps.EachSection.{itemsStep}
 use borrow.Author.Needs.{needs}
 use Rattle.reader.proofs.items_step.Statement.{statement}

@@ -1,3 +1,4 @@
+-- Each section starts where the one before it left the reading, so the eight steps together are the outline.
 use Rattle.reader.proofs.OutlineLaws.{outline-is}
 use borrow.Author.Needs.{needs}
 use Rattle.reader.proofs.outline_from.Statement.{statement}
@@ -29,21 +30,28 @@ string-step-requires-5 c κs = search needs
 
 blocks-step-requires : tie.Need-blocks-step-requires
 blocks-step-requires c κs =
-    let u = c .before .before .before .before in
-    let v = u .before .before .before .before in
-    let w = v .before .before .before .before in
-    w .before .before .before .before .pre
+    let after-arguments = c .before .before .before in
+    let after-relative = after-arguments .before .before .before .before in
+    let after-info = after-relative .before .before .before .before in
+    let after-items = after-info .before .before in
+    let start = after-items .before .before .before in
+    start .pre
 
 ends-of-requires : tie.Need-ends-of-requires
 ends-of-requires c κs = search needs
 
 returns : tie.Need-returns
 returns c =
-    let icon = c .before .before .before .before .before in
-    let workdir = icon .before .before .before .before in
-    let name = workdir .before .before .before .before in
-    let items = name .before .before .before .before in
-    outline-is _ _ _ (items .before .bit-0 .ensures) (items .items-step .ensures) (name .before .before .info-step .ensures) (name .string-step .ensures) (workdir .before .before .string-step2 .ensures) (workdir .string-step3 .ensures) (icon .before .before .string-step4 .ensures) (icon .string-step5 .ensures) (c .before .before .before .blocks-step .ensures) (c .ends-of .ensures)
+    let after-blocks = c .before .before .before in
+    let after-icon = after-blocks .before .before in
+    let after-arguments = after-icon .before .before in
+    let after-workdir = after-arguments .before .before in
+    let after-relative = after-workdir .before .before in
+    let after-name = after-relative .before .before in
+    let after-info = after-name .before .before in
+    let after-items = after-info .before .before in
+    let after-bit-0 = after-items .before in
+    outline-is _ _ _ (after-bit-0 .bit-0 .ensures) (after-items .items-step .ensures) (after-info .info-step .ensures) (after-name .string-step .ensures) (after-relative .string-step2 .ensures) (after-workdir .string-step3 .ensures) (after-arguments .string-step4 .ensures) (after-icon .string-step5 .ensures) (after-blocks .blocks-step .ensures) (c .ends-of .ensures)
 
 pub outline-from-spec : {M : Type 1} → statement M
 outline-from-spec =

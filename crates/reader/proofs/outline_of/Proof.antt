@@ -1,3 +1,4 @@
+-- The length is judged first, then the header; only a header that was taken leads to the sections.
 use Rattle.reader.proofs.OutlineLaws.{outline-long, outline-got, outline-refused}
 use native.Mathlib.Omega.{arith}
 use borrow.Author.Needs.{needs}

@@ -1,3 +1,4 @@
+-- An outline, finished at the shortcut's length, is the reading.
 use Rattle.reader.proofs.OutlineLaws.{outline-read}
 use borrow.Author.Needs.{needs}
 use Rattle.reader.proofs.read.Statement.{statement}

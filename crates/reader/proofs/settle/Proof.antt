@@ -1,3 +1,4 @@
+-- A section's own answer becomes the step: its cursor goes on, or its fault stops the reading.
 use Rattle.reader.specs.Steps.EachSection.{settled}
 use borrow.Author.Needs.{needs}
 use Rattle.reader.proofs.settle.Statement.{statement}

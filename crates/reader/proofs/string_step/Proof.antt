@@ -1,3 +1,4 @@
+-- A reading that goes on takes the string at its cursor; one that stopped keeps its fault.
 use Rattle.reader.specs.Steps.EachSection.{stringStep}
 use borrow.Author.Needs.{needs}
 use Rattle.reader.proofs.string_step.Statement.{statement}

@@ -1,3 +1,4 @@
+-- A refused reading is the answer; an accepted record is written from the shortcut's own bytes.
 use Rattle.rewriting.proofs.Laws.{rewrite-left, rewrite-written}
 use borrow.Author.Needs.{needs}
 use Rattle.rewriting.proofs.rewrite.Statement.{statement}
@@ -23,7 +24,10 @@ same-length c = search needs
 
 returns-2 : tie.Need-returns-2
 returns-2 c =
-    rewrite-written _ _ (c .before .before .before .before .before .before .before .read .ensures) (c .before .before .before .before .before .enum-told .given .1) (c .before .before .write .ensures .0) (c .before .before .write .ensures .1)
+    let after-write = c .before .before in
+    let after-accepted = after-write .before .before .before in
+    let after-read = after-accepted .before .before in
+    rewrite-written _ _ (after-read .read .ensures) (after-accepted .enum-told .given .1) (after-write .write .ensures .0) (after-write .write .ensures .1)
 
 pub rewrite-spec : {M : Type 1} → statement M
 rewrite-spec =

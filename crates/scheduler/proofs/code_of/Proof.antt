@@ -1,3 +1,4 @@
+-- The value is small enough that 256 times it, and the fault's number beside it, fit 64 bits.
 use Rattle.scheduler.proofs.CodeLaws.{accepted-small, accepted-code, refused-small, refused-code}
 use native.Mathlib.Omega.{arith}
 use borrow.Author.Needs.{needs}

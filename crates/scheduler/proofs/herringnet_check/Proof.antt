@@ -1,3 +1,4 @@
+-- A verdict's position is bounded, so its code is its number and its value.
 use Rattle.scheduler.proofs.PositionLaws.{check-small}
 use borrow.Author.Needs.{needs}
 use Rattle.scheduler.proofs.herringnet_check.Statement.{statement}

@@ -1,3 +1,4 @@
+-- The key's length is bounded, so its code fits, and what was put is the key's own output.
 use native.Mathlib.Omega.{arith}
 use Rattle.scheduler.proofs.PositionLaws.{key-small}
 use borrow.Author.Needs.{needs}
@@ -9,7 +10,9 @@ key-requires c κs = search needs
 
 code-of-requires : tie.Need-code-of-requires
 code-of-requires c κs =
-    rw (c .before .before .key .ensures .0) (key-small _ _ (record { at = λ i. omega (arith, c .before .before .before .before .before .shared-slice-known .given i) }))
+    let after-key = c .before .before in
+    let after-bytes-known = after-key .before .before .before in
+    rw (after-key .key .ensures .0) (key-small _ _ (record { at = λ i. omega (arith, after-bytes-known .shared-slice-known .given i) }))
 
 same-length : tie.Need-same-length
 same-length c = search needs

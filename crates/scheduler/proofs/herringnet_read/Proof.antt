@@ -1,3 +1,4 @@
+-- The fields are filled with the record only when it is accepted; its length is bounded, so its code fits.
 use native.Mathlib.Omega.{arith}
 use Rattle.scheduler.proofs.PositionLaws.{check-small}
 use Rattle.scheduler.proofs.FieldLaws.{read-miscounted, read-refused, read-small, read-filled}
@@ -22,21 +23,33 @@ code-of-requires c κs = rw (c .before .before .before .read .ensures) (check-sm
 
 returns-2 : tie.Need-returns-2
 returns-2 c =
-    read-refused _ _ (c .before .before .before .before .before .if1 .left) (c .before .before .before .before .read .ensures) (c .before .enum-told .given .1) (c .code-of .ensures)
+    let after-refused = c .before in
+    let after-read = after-refused .before .before .before in
+    let after-count-asked = after-read .before in
+    read-refused _ _ (after-count-asked .if1 .left) (after-read .read .ensures) (after-refused .enum-told .given .1) (c .code-of .ensures)
 
 put-fields-requires : tie.Need-put-fields-requires
 put-fields-requires c κs = search needs
 
 mul-result : tie.Need-mul-result
 mul-result c =
-    record { fits = omega (arith, read-small _ (c .before .before .before .before .before .before .before .before .before .before .before .before .args .f .now) (c .before .before .before .before .before .before .before .before .before .if1 .left) (c .before .before .before .before .before .before .before .before .read .ensures) (c .before .before .before .before .before .v .given .1)) }
+    let after-put-fields = c .before .before in
+    let after-accepted = after-put-fields .before .before .before in
+    let after-read = after-accepted .before .before .before in
+    let after-count-asked = after-read .before in
+    let start = after-count-asked .before .before .before in
+    record { fits = omega (arith, read-small _ (start .args .f .now) (after-count-asked .if1 .left) (after-read .read .ensures) (after-accepted .v .given .1)) }
 
 same-length : tie.Need-same-length
 same-length c = search needs
 
 returns-3 : tie.Need-returns-3
 returns-3 c =
-    read-filled _ _ (c .before .before .before .before .before .before .before .before .before .if1 .left) (c .before .before .before .before .before .before .before .before .read .ensures) (c .before .before .before .before .before .v .given .1) (c .before .before .put-fields .ensures)
+    let after-put-fields = c .before .before in
+    let after-accepted = after-put-fields .before .before .before in
+    let after-read = after-accepted .before .before .before in
+    let after-count-asked = after-read .before in
+    read-filled _ _ (after-count-asked .if1 .left) (after-read .read .ensures) (after-accepted .v .given .1) (after-put-fields .put-fields .ensures)
 
 pub herringnet-read-spec : {M : Type 1} → statement M
 herringnet-read-spec =

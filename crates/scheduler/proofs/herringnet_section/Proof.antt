@@ -1,3 +1,4 @@
+-- A place stands within a text of at most 65536 bytes, so its two numbers fit the code.
 use Rattle.scheduler.specs.Code.{sectionCode}
 use Rattle.shown.proofs.Laws.{section-small}
 use native.Mathlib.Omega.{arith}

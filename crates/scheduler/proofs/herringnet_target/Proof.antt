@@ -1,3 +1,4 @@
+-- A target's length is bounded, so its code fits, and what was put is the target's own output.
 use Rattle.scheduler.proofs.PositionLaws.{target-small}
 use borrow.Author.Needs.{needs}
 use Rattle.scheduler.proofs.herringnet_target.Statement.{statement}

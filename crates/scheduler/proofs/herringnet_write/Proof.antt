@@ -1,3 +1,4 @@
+-- Only 49 fields that are a record are written; the record from them is the one that the definition writes.
 use Rattle.scheduler.proofs.PositionLaws.{write-small}
 use Rattle.scheduler.proofs.FieldLaws.{write-miscounted, write-no-record, is-record, write-answered}
 use borrow.Author.Needs.{needs}
@@ -15,7 +16,10 @@ returns-2 c = write-no-record _ _ _ (c .before .before .if1 .left) (c .before .a
 
 record-from-requires : tie.Need-record-from-requires
 record-from-requires c κs =
-    (c .before .before .if1 .left, is-record _ (c .before .before .before .before .before .before .args .d .now) (c .before .before .before .before .before .before .args .out .now) (c .before .before .if1 .left) (c .before .are-record .ensures) (c .if2 .left))
+    let after-are-record = c .before in
+    let after-count-asked = after-are-record .before in
+    let start = after-count-asked .before .before .before .before in
+    (after-count-asked .if1 .left, is-record _ (start .args .d .now) (start .args .out .now) (after-count-asked .if1 .left) (after-are-record .are-record .ensures) (c .if2 .left))
 
 write-requires : tie.Need-write-requires
 write-requires c κs = search needs
@@ -28,7 +32,12 @@ same-length c = search needs
 
 returns-3 : tie.Need-returns-3
 returns-3 c =
-    write-answered _ _ _ (c .before .before .before .before .before .before .before .before .if1 .left) (c .before .before .before .before .before .before .before .are-record .ensures) (c .before .before .before .before .before .before .if2 .left) (c .before .before .before .before .before .record-from .ensures) (c .before .before .before .write .ensures .0) (c .before .before .before .write .ensures .1) (c .code-of .ensures)
+    let after-write = c .before .before .before in
+    let after-record-from = after-write .before .before in
+    let after-record-asked = after-record-from .before in
+    let after-are-record = after-record-asked .before in
+    let after-count-asked = after-are-record .before in
+    write-answered _ _ _ (after-count-asked .if1 .left) (after-are-record .are-record .ensures) (after-record-asked .if2 .left) (after-record-from .record-from .ensures) (after-write .write .ensures .0) (after-write .write .ensures .1) (c .code-of .ensures)
 
 pub herringnet-write-spec : {M : Type 1} → statement M
 herringnet-write-spec =

@@ -1,3 +1,4 @@
+-- A section's length is its end less its beginning where its flag is set; without the flag there is no place.
 use Rattle.shown.specs.Steps.Asked.{between}
 use borrow.Author.Needs.{needs}
 use Rattle.shown.proofs.between.Statement.{statement}

@@ -1,3 +1,4 @@
+-- The bytes shown are those at the section's place, and a place that stands in the text gives all of its bytes.
 use Rattle.shown.proofs.Laws.{section-shown}
 use borrow.Author.Needs.{needs}
 use Rattle.shown.proofs.section.Statement.{statement}

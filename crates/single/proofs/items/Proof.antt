@@ -1,3 +1,4 @@
+-- The size, then so many bytes that must be a list; a list ends with two zero bytes, so the body is two shorter.
 use mathlib.Core.Path.{refl}
 use Rattle.single.proofs.Laws.{items-no-size, items-cut, items-bad, items-two, items-got}
 use Rattle.octets.proofs.CursorLaws.{take-got, take-lost, skip-got, skip-lost}

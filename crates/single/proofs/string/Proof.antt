@@ -1,3 +1,4 @@
+-- The count, then so many characters: each that is missing has its law, and with both there the body lies between.
 use Rattle.single.proofs.Laws.{string-no-count, string-cut, string-got}
 use Rattle.octets.proofs.CursorLaws.{take-got, take-lost, skip-got, skip-lost}
 use borrow.Author.Needs.{needs}

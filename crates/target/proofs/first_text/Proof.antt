@@ -1,3 +1,4 @@
+-- Bit 0 of the link info's flags chooses the local path, else the net name.
 use Rattle.target.specs.Steps.Texts.{firstText}
 use mathlib.Core.Path.{sym, _∙_}
 use borrow.Author.Needs.{needs}

@@ -1,3 +1,4 @@
+-- The first text stands where it was asked to, so its last byte can be looked at.
 use Rattle.target.specs.Steps.Texts.{textsOf}
 use borrow.Author.Needs.{needs}
 use Rattle.target.proofs.texts_of.Statement.{statement}

@@ -1,3 +1,4 @@
+-- Digits below ten count from `0`, the others from `a`.
 use native.Mathlib.Omega.{arith}
 use Rattle.lines.proofs.HexLaws.{digit-low, digit-high}
 use borrow.Author.Needs.{needs}

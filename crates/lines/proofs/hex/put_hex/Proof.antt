@@ -1,3 +1,4 @@
+-- The first 2i bytes are the digits of the first i; two more digits make it i + 1.
 use lib.ListN.{length, length-set}
 use mathlib.Core.Path.{_≡_, refl}
 use Prim.Native.Nat.{_≤_, _-_}
@@ -47,8 +48,11 @@ loop-less c = omega arith
 
 loop-again : tie.Need-loop-again Inv-loop μ-loop
 loop-again c =
-    let l = c .before .before .before .before .loop in
-    (omega arith, simp length-set (l .inv .1), hex-more _ _ (c .before .before .before .before .before .before .before .pre) (l .inv .2) (omega arith) (c .before .digit .ensures) (c .digit2 .ensures))
+    let after-digit = c .before in
+    let after-loop = after-digit .before .before .before in
+    let start = after-loop .before .before .before in
+    let l = after-loop .loop in
+    (omega arith, simp length-set (l .inv .1), hex-more _ _ (start .pre) (l .inv .2) (omega arith) (after-digit .digit .ensures) (c .digit2 .ensures))
 
 same-length : tie.Need-same-length Inv-loop μ-loop
 same-length c = c .before .loop .inv .1

@@ -1,3 +1,4 @@
+-- Whether the bytes stand decides, and where they do the sum that moves the cursor cannot wrap.
 use native.Mathlib.Omega.{arith}
 use Rattle.octets.proofs.CursorLaws.{skip-cut, skip-to}
 use borrow.Author.Needs.{needs}

@@ -1,3 +1,4 @@
+-- Eight units without a zero are four and four more.
 use Rattle.octets.proofs.ZeroLaws.{others-more}
 use borrow.Author.Needs.{needs}
 use Rattle.octets.proofs.zeros.eight_units.Statement.{statement}

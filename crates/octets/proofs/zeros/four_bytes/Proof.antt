@@ -1,3 +1,4 @@
+-- A byte is the number of one byte, so four tests of bytes are the test of four characters.
 use Rattle.octets.proofs.ReadLaws.{number-byte}
 use Rattle.octets.proofs.ZeroLaws.{four-others}
 use borrow.Author.Needs.{needs}

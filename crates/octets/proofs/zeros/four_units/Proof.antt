@@ -1,3 +1,4 @@
+-- A unit is the number of two bytes, so four tests of units are the test of four characters.
 use Rattle.octets.proofs.ZeroLaws.{four-others}
 use borrow.Author.Needs.{needs}
 use Rattle.octets.proofs.zeros.four_units.Statement.{statement}

@@ -1,3 +1,4 @@
+-- Sixteen bytes without a zero are four, four times over.
 use Rattle.octets.proofs.ZeroLaws.{others-more}
 use borrow.Author.Needs.{needs}
 use Rattle.octets.proofs.zeros.sixteen_bytes.Statement.{statement}

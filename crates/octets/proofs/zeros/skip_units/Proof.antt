@@ -1,3 +1,4 @@
+-- No unit before i is zero, and eight more without a zero keep it so.
 use Rattle.octets.proofs.ZeroLaws.{passed-none, passed-more}
 use Rattle.octets.specs.Steps.Scans.{Passed}
 use lib.ListN.{length}
