@@ -1,7 +1,7 @@
 -- The tests of each list by name, and both ways between the names and the list: whoever uses a test picks it by its name.
 use mathlib.Core.Path.{_≡_}
 use mathlib.Core.List.{List, [], _∷_, map}
-use mathlib.Core.Bool.{true, false, not, _&&_, _||_}
+use mathlib.Core.Bool.{true, false, not, _||_}
 use Prim.Native.Nat.{ℕ, _≤_}
 use lib.ListN.{length, take, drop}
 use lib.Dec.{leb}
@@ -12,8 +12,8 @@ use Rattle.format.specs.Header.{headerSizeOk, identifierOk, flagsOk, att
 use Rattle.format.specs.Hotkey.{hotkeyOk}
 use Rattle.format.specs.Pieces.{Piece, textEnds, textPiece, structTests, absentZero, uncut, testsOf, eachOk, span, apartTests, pieceTests}
 use Rattle.format.specs.Volume.{labelUnicode, labelOffset, labelLeast, volumeRules, volumePiece}
-use Rattle.format.specs.Network.{networkFlags, hasDevice, networkUnicode, networkHead, networkPieces, networkHeadTests, networkPiece}
-use Rattle.format.specs.Info.{infoHead, longHead, headOk, infoFlags, hasLocal, hasNetwork, infoPieces, infoHeadTests}
+use Rattle.format.specs.Network.{networkFlags, hasDevice, networkUnicode, networkHead, networkPieces, networkHeadTests, networkPiece, hasDeviceUnicode}
+use Rattle.format.specs.Info.{infoHead, longHead, headOk, infoFlags, hasLocal, hasNetwork, infoPieces, infoHeadTests, hasLocalUnicode}
 use Rattle.format.proofs.Chains.{Pass, pass-split, pass-join}
 use Rattle.format.proofs.Intervals.{allApart, tests-apart, apart-tests}
 
@@ -108,7 +108,7 @@ pub record NetworkPiecesHold (v : List ℕ) : Type 0 where
   pub net : Pass (testsOf (networkHead (networkUnicode v)) (textPiece true false v (u32At v 8)))
   pub device : Pass (testsOf (networkHead (networkUnicode v)) (textPiece (hasDevice v) false v (u32At v 12)))
   pub netUnicode : Pass (testsOf (networkHead (networkUnicode v)) (textPiece (networkUnicode v) true v (u32At v 20)))
-  pub deviceUnicode : Pass (testsOf (networkHead (networkUnicode v)) (textPiece (networkUnicode v && hasDevice v) true v (u32At v 24)))
+  pub deviceUnicode : Pass (testsOf (networkHead (networkUnicode v)) (textPiece (hasDeviceUnicode v) true v (u32At v 24)))
   pub apart : allApart (map span (networkPieces v)) ≡ true
 
 abbrev pub networkPieceTests : List ℕ → List Test
@@ -145,7 +145,7 @@ pub record InfoPiecesHold (l : List ℕ) : Type 0 where
   pub local : Pass (testsOf (infoHead l) (textPiece (hasLocal l) false l (u32At l 16)))
   pub network : Pass (testsOf (infoHead l) (networkPiece (hasNetwork l) l (u32At l 20)))
   pub suffix : Pass (testsOf (infoHead l) (textPiece true false l (u32At l 24)))
-  pub localUnicode : Pass (testsOf (infoHead l) (textPiece (longHead l && hasLocal l) true l (u32At l 28)))
+  pub localUnicode : Pass (testsOf (infoHead l) (textPiece (hasLocalUnicode l) true l (u32At l 28)))
   pub suffixUnicode : Pass (testsOf (infoHead l) (textPiece (longHead l) true l (u32At l 32)))
   pub apart : allApart (map span (infoPieces l)) ≡ true
 
