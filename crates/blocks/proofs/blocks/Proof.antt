@@ -52,7 +52,8 @@ returns-2 : tie.Need-returns-2
 returns-2 c =
     let after-step = c .before .before .before in
     let after-run = after-step .before .before in
-    let start = after-run .before .before .before .before .before in
+    let after-no-firsts = after-run .before .before in
+    let start = after-no-firsts .before .before .before in
     let r = after-run .run .ensures in
     c .read-to .ensures ∙ read-end _ _ (r .0) (start .pre) (by-end _ (rw tail-part at (after-step .step .ensures)) (c .before .enum-told .given .1))
 
