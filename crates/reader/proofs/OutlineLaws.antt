@@ -6,7 +6,7 @@ use Prim.Native.Nat.{ℕ, _+_, _≤_, _<_}
 use native.Mathlib.Omega.{arith}
 use lib.ListN.{length, take, drop}
 use lib.Dec.{leb, eqb}
-use borrow.Author.Tests.{le-leb, lt-leb, leb-true, leb-false}
+use borrow.Author.Tests.{le-leb, lt-leb, leb-true, leb-false, eq-eqb}
 use Rattle.octets.specs.declared.Cursor.{Cursor}
 use Rattle.format.specs.declared.Fault.{Fault}
 use Rattle.format.specs.declared.Fault.the-variants.{Long as LONG, Cut as CUT, Trail as TRAIL}
@@ -238,6 +238,11 @@ unfolding reading refusedAt
 long-reading s h = rw (long-shortcut s h)
 
 -- ---- for the code
+
+-- the cursor stands at the shortcut's end
+pub finished-whole : {n : ℕ} {t : Next} {c : Cursor} {r : Record} → t ≡ On c → c .at ≡ n → record { verdict = Accepted (c .at); held = r } ≡ finished n t r
+unfolding finished
+finished-whole e k = rw (e, eq-eqb _ _ k)
 
 -- the outline from its steps
 pub outline-is : (s : List ℕ) (h : Header) (c : Cursor) {items name relative workdir arguments icon : Step} {info : InfoStep} {blocks : BlocksStep} {e : SectionEnds} {there : Bool}

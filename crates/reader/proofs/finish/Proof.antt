@@ -1,6 +1,7 @@
 -- A reading is accepted when its cursor ends on the last byte; bytes left over are a fault of their own.
+use Rattle.reader.proofs.OutlineLaws.{finished-whole}
 use Rattle.reader.specs.Steps.Finish.{finished}
-use borrow.Author.Tests.{eq-eqb, ne-eqb}
+use borrow.Author.Tests.{ne-eqb}
 use borrow.Author.Needs.{needs}
 use Rattle.reader.proofs.finish.Statement.{statement}
 use Rattle.reader.proofs.finish.Tie as tie
@@ -9,8 +10,7 @@ enum-known-next : tie.Need-enum-known-next
 enum-known-next c = search needs
 
 returns : tie.Need-returns
-unfolding finished
-returns c = rw (c .before .before .next .given .1, eq-eqb _ _ (c .if1 .taken))
+returns c = finished-whole (c .before .before .next .given .1) (c .if1 .taken)
 
 refused-requires : tie.Need-refused-requires
 refused-requires c κs = search needs
