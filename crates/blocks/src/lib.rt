@@ -18,7 +18,7 @@ pub enum BlockStep {
     Refused(Fault),
 }
 
-// All blocks before the terminal as one body, with the cursor after the terminal; or the fault and the start of the block at fault.
+// The blocks up to the terminal as a single body, with the cursor after it; or the fault and where its block starts.
 // Beside it, for each slot where its signature first stands; 0 where it does not, and after a refusal.
 pub struct BlocksRead {
     pub taken: Taken,
@@ -67,7 +67,7 @@ fn size_ok(slot: usize, n: usize) -> bool
     }
 }
 
-// A zero byte among the 260 from byte 8, and a zero unit among the 260 units from byte 268.
+// Both texts end in their room: 260 bytes from 8 on, and as many units from 268 on.
 fn path_texts(b: &[u8]) -> bool
     requires { ⌜ 0x314 ≤ length (now b) ⌝ }
     ensures { λ r. ⌜ r ≡ pathTexts (now (b .entry)) ⌝ }

@@ -93,7 +93,7 @@ fn put_network_fields(out: &mut [u8], at: usize, n: Network, s: NetworkStarts) -
     add_fields(out, p, n.unicode, s.net_unicode, device_unicode)
 }
 
-// Net name, device name, then the Unicode ones.
+// The two byte names, then their Unicode twins.
 fn put_network_names(out: &mut [u8], at: usize, n: Network, d: &[u8]) -> usize
     requires { ⌜ NetworkInBuffer (now d) n ⌝ }
     requires { ⌜ Room (now out) at (namesSize n) ⌝ }

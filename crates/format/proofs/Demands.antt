@@ -68,7 +68,7 @@ pub absent-zero : (s : List ℕ) (r : Record) → Accepts s r → present r ≡ 
 unfolding Accepts
 absent-zero s r e = accepted-present s r (length s) e
 
--- its sections lie end to end and their lengths add up to the file's
+-- its sections follow one another without a gap, from the first byte to the last
 pub sections-end-to-end : (s : List ℕ) (r : Record) → Accepts s r → EndToEnd 0 (listing s) (length s)
 unfolding Accepts listing
 sections-end-to-end s r e =
@@ -192,7 +192,7 @@ module _ (r : Record) (d : List ℕ) (fits : FitsRecord r) (bs : Bytes d) where
 
 -- ---- no beginning passes
 
--- every proper beginning of an accepted shortcut is refused with 2, at a position not after the cut
+-- whoever cuts an accepted shortcut short gets CUT, reported no later than where it was cut
 pub beginning-cut : (s : List ℕ) (r : Record) → Accepts s r → (k : ℕ) → k < length s → CutAt k (take k s)
 unfolding Accepts
 beginning-cut s r e k h =

@@ -68,7 +68,7 @@ keyed s out n e = go (shortcut s) refl
     go (got c k) i = room c k i (leb (length (keyBytes (keyOf s c))) (length out)) refl
     go (refused f p) i = absurd (none (sym (key-refused s (length out) i) ∙ e))
 
--- ---- two accepted shortcuts have equal keys exactly when bit 7 and all four parts, presence included, are equal
+-- ---- keys of accepted shortcuts are equal exactly if all that they are made of is: bit 7, and each part with its presence
 
 pub same-key : (s t out other : List ℕ) (n m : ℕ) → keyAnswer s out ≡ Accepted n → keyAnswer t other ≡ Accepted m
     → (take n (keyOutput s out) ≡ take m (keyOutput t other)) ↔ SameParts (keyIn s) (keyIn t)

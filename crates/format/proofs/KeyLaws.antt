@@ -121,7 +121,7 @@ key-fits s c h =
       environment = if-fits (leb 1 (b .len)) (blockText s b) (omega (arith, body-small s b, length-drop 8 (bytesAt s b), length-take (beforeZero text) text));
     }
 
--- two accepted shortcuts have equal keys exactly when bit 7 and all four parts, presence included, are equal
+-- keys of accepted shortcuts are equal exactly if bit 7 is, and each part with its presence
 pub equal-keys : (s t : List ℕ) (c d : Sections) (n m : ℕ) → shortcut s ≡ got c n → shortcut t ≡ got d m
     → (keyBytes (keyOf s c) ≡ keyBytes (keyOf t d)) ↔ SameParts (keyOf s c) (keyOf t d)
 equal-keys s t c d n m e f =

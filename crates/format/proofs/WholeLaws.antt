@@ -195,7 +195,7 @@ shortest s c n bs e =
     record { valid = f .valid; short = rw (canonical-is (toContents a)) (f .short); all = refl; limit = l })
     c n e
 
--- every proper beginning of an accepted shortcut is cut
+-- an accepted shortcut without its end is cut
 pub beginning : (s : List ℕ) (c : Contents) (n : ℕ) → decode s ≡ got c n → (k : ℕ) → k < length s → CutBy k (decode (take k s))
 unfolding decode fileR
 beginning s c n e k h =

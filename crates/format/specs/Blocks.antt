@@ -52,17 +52,17 @@ sizeIn [] k n = true
 sizeIn (r ∷ rs) zero n = obeys (r .1) n
 sizeIn (r ∷ rs) (suc k) n = sizeIn rs k n
 
--- Other signatures pass and may repeat; so may known ones
+-- a signature without a row has every size
 unfoldable pub sizeFits : ℕ → ℕ → Bool
 sizeFits slot n = sizeIn signatures slot n
 
 -- ---- one block
 
--- The three of 0x314 hold a zero byte among the 260 from byte 8 and a zero unit among the 260 units from byte 268; bytes after these are kept
+-- both texts of a path block end in their room, 260 bytes from 8 on and 260 units from 268 on; what follows an end is free
 abbrev pub pathTexts : List ℕ → Bool
 pathTexts b = textEnds false (take 260 (drop 8 b)) && textEnds true (take 520 (drop 268 b))
 
--- what a block b holds: the three of 0x314 their texts, A000000C from byte 8 an item list without its size field
+-- what a block b holds: the three path blocks (A0000001, A0000006, A0000007) their texts, A000000C items from byte 8 to its end
 unfoldable pub insideFits : ℕ → List ℕ → Bool
 insideFits slot b =
     cond (eqb slot 0 || eqb slot 5 || eqb slot 6) (pathTexts b)
@@ -95,7 +95,7 @@ pub data Standing : Type 0 where
   aBlock : Standing
   aTerminal : Standing
 
--- A block: four bytes of size (else CUT). A size below 4 is the terminal block, of four bytes
+-- a size has four bytes, else CUT; below 4 it is no size but makes the terminal, which is those four bytes
 abbrev pub blockStep : Reader Standing
 blockStep p s =
     tests p (leb 4 (length s) else CUT ∷ [])

@@ -17,7 +17,7 @@ use Rattle.format.specs.Network.{noNetwork}
 use Rattle.format.specs.Info.{noInfo}
 use Rattle.format.specs.Bodies.{labelPlace, labelKind}
 
--- ---- which parts are present: what is held for an absent section or part does not count, and is put to zero here
+-- ---- which parts are present: whatever a record has for the others counts for nothing, and is put to zero here
 
 abbrev pub presentNetwork : Network → Network
 presentNetwork n = record {
@@ -145,7 +145,7 @@ unfoldable pub contents : List ℕ → Record → Contents
 unfolding present
 contents d r = bodiesOf d (present r)
 
--- Two records are the same when their fields are equal and each body has the same bytes, wherever it stands. Spoken of where both are placed
+-- sameness: equal contents, so places play no part. Spoken of where both are placed
 unfoldable pub Same : List ℕ → Record → List ℕ → Record → Type 0
 unfolding contents
 Same d r e q = contents d r ≡ contents e q

@@ -44,7 +44,7 @@ pub data Writes (r : Record) (d : List ℕ) (room : ℕ) : Outcome (List ℕ) �
   written : (w : List ℕ) → placed (length d) r ≡ true → ReadsAs w r d → length w ≤ room → ((s : List ℕ) → ReadsAs s r d → length w ≤ length s)
       → Writes r d room (got w (length w))
 
--- the shortcut s is cut: refused with 2, at a position not after the place k
+-- the shortcut s is cut: CUT, reported at k or before
 pub record CutAt (k : ℕ) (s : List ℕ) : Type 0 where
   pub position : ℕ
   pub early : position ≤ k

@@ -33,7 +33,7 @@ identifierOk l = eqb (numberAt 16 l 4) (number classIdentifier)
 abbrev pub flagsOk : ℕ → Bool
 flagsOk f = eqb (f / 2 ^ 27) 0
 
--- FileAttributes has bits 3, 6 and 15 to 31 zero (house: bit 7 is free)
+-- bits 3, 6 and all from 15 on are clear in FileAttributes (house: bit 7 may be set)
 abbrev pub attributesOk : ℕ → Bool
 attributesOk a = not (bit 3 a) && not (bit 6 a) && eqb (a / 2 ^ 15) 0
 
@@ -73,6 +73,6 @@ headerFields l = record {
 abbrev pub header : Reader Header
 header p s = tests p (leb 76 (length s) else CUT ∷ headerRules (take 76 s)) (got (headerFields (take 76 s)) 76)
 
--- The window shown is 3 or 7 where ShowCommand is that, and 1 otherwise
+-- a ShowCommand of 3 or 7 is the window shown; every other shows 1
 abbrev pub windowShown : ℕ → ℕ
 windowShown c = cond (eqb c 3) 3 (cond (eqb c 7) 7 1)

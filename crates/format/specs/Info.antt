@@ -23,14 +23,14 @@ infoHead l = u32At l 4
 abbrev pub longHead : List ℕ → Bool
 longHead l = leb 0x24 (infoHead l)
 
--- LinkInfoHeaderSize is 0x1C, or at least 0x24 and at most LinkInfoSize
+-- a head is short, 0x1C bytes, or long, 0x24 and more, and then no longer than LinkInfo
 abbrev pub headOk : List ℕ → Bool
 headOk l = eqb (infoHead l) 0x1C || (longHead l && leb (infoHead l) (length l))
 
 abbrev pub infoFlags : List ℕ → ℕ
 infoFlags l = u32At l 8
 
--- VolumeID and LocalBasePath are present by bit 0, the network link by bit 1, the suffix always
+-- bit 0 tells of VolumeID and local path, bit 1 of the network link; the suffix is there with every LinkInfo
 abbrev pub hasLocal : List ℕ → Bool
 hasLocal l = localThere (infoFlags l)
 
@@ -40,7 +40,7 @@ hasNetwork l = networkThere (infoFlags l)
 abbrev pub hasLocalUnicode : List ℕ → Bool
 hasLocalUnicode l = localUnicodeThere (longHead l) (infoFlags l)
 
--- With a long head the Unicode suffix is present, and the Unicode local path by bit 0 (house); bytes of a head beyond 0x24 are skipped.
+-- a long head brings the Unicode suffix and, with bit 0, the Unicode local path (house); nobody looks at its bytes after the first 0x24.
 -- Offset fields: VolumeID at 12, LocalBasePath 16, network link 20, CommonPathSuffix 24; with a long head LocalBasePathUnicode 28, CommonPathSuffixUnicode 32
 abbrev pub infoPieces : List ℕ → List Piece
 infoPieces l =
@@ -52,7 +52,7 @@ infoPieces l =
     ∷ textPiece (longHead l) true l (u32At l 32)
     ∷ []
 
--- INFO unless the head is right; flags at 8 use bits 0 and 1 only; offset fields of absent parts are 0
+-- the fixed head, INFO: its size, its flags, then zeros in the offset fields of absent parts
 abbrev pub infoHeadTests : List ℕ → List Test
 infoHeadTests l =
     headOk l else INFO
@@ -92,7 +92,7 @@ infoFields p l = record {
   «suffix_unicode» = textPlace (longHead l) true p l (u32At l 32);
 }
 
--- Tests in order: four bytes present (CUT); LinkInfoSize at least 0x1C (INFO); size within the file (CUT); then the rules
+-- the size field is there (CUT), holds no less than a short head (INFO) and no more than is left (CUT); then the rules
 abbrev pub info : Reader Info
 info p s =
     tests p

@@ -9,7 +9,7 @@ use Rattle.format.specs.declared.Place.{Place}
 use Rattle.format.specs.declared.Fault.the-variants.{Cut as CUT, Items as ITEMS}
 use Rattle.format.specs.Tests.{Test, _else_, tests, got, Reader, place}
 
--- items, each with a 2-byte size that counts itself, at least 2; then two zero bytes exactly at the end.
+-- item after item by their sizes, each of two bytes and counted in, up to the two zero bytes that end the list and are its last.
 -- k bytes of the item at hand are still to come; at 0 a size stands next
 unfoldable pub walk : ℕ → List ℕ → Bool
 walk zero [] = false
@@ -25,14 +25,14 @@ walk (suc k) (a ∷ l) = walk k l
 abbrev pub itemList : List ℕ → Bool
 itemList l = walk 0 l
 
--- Two bytes of size, then that many bytes
+-- the size field, and as many bytes as it says
 abbrev pub itemsLength : List ℕ → ℕ
 itemsLength s = 2 + u16At s 0
 
 abbrev pub itemsRules : List ℕ → List Test
 itemsRules l = itemList (drop 2 l) else ITEMS ∷ []
 
--- The body is the items without the two zero bytes
+-- the two zero bytes at the end are no part of the body
 abbrev pub items : Reader Place
 items p s =
     tests p (leb 2 (length s) else CUT ∷ leb (itemsLength s) (length s) else CUT ∷ itemsRules (take (itemsLength s) s))

@@ -56,12 +56,12 @@ keyOf s c =
 
 -- ---- its bytes
 
--- Each of the four is a presence byte (0 or 1), a 4-byte length, and the bytes; an absent one has length 0 and no bytes
+-- presence in one byte, length in four, then the bytes; of an absent part five zeros
 abbrev pub partBytes : Part → List ℕ
 partBytes noPart = little 1 0 ++ little 4 0
 partBytes (somePart w) = little 1 1 ++ (little 4 (length w) ++ w)
 
--- a byte 0 or 1 for flag bit 7, then target text, arguments, working directory, and the environment
+-- flag bit 7 as a byte, then the parts one after another
 unfoldable pub keyBytes : Key → List ℕ
 keyBytes k =
     little 1 (oneOr0 (k .unicode)) ++ (partBytes (k .target) ++ (partBytes (k .arguments) ++ (partBytes (k .workdir) ++ partBytes (k .environment))))

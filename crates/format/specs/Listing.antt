@@ -15,7 +15,7 @@ pub record Row : Type 0 where
   pub start : ℕ
   pub len : ℕ
 
--- Names are header, items, info, name, relative, workdir, arguments, icon, block, end: 0 to 9 in this order
+-- the ten names have numbers, 0 header to 9 end, in the order of the sections
 abbrev pub row : {A : Type 0} → ℕ → Section A → List Row
 row k c = cond (c .there) (record { name = k; start = c .start; len = c .len } ∷ []) []
 
@@ -45,7 +45,7 @@ unfoldable pub listing : List ℕ → List Row
 unfolding shortcut
 listing s = rowsBy (shortcut s)
 
--- from p to q the sections lie end to end, and their lengths add up
+-- from p to q each section starts where the one before it ended
 abbrev pub EndToEnd : ℕ → List Row → ℕ → Type 0
 EndToEnd p [] q = p ≡ q
 EndToEnd p (x ∷ xs) q = (x .start ≡ p) × EndToEnd (p + x .len) xs q
@@ -54,7 +54,7 @@ EndToEnd p (x ∷ xs) q = (x .start ≡ p) × EndToEnd (p + x .len) xs q
 abbrev pub rowBytes : List ℕ → Row → List ℕ
 rowBytes s x = bytesAt s (place (x .start) (x .len))
 
--- ---- a section asked for by name, a number 0 to 9; a block also by its number, from 0
+-- ---- a section by the number of its name, a block by a second number too
 
 abbrev pub named : ℕ → List Row → List Row
 named k [] = []
@@ -65,7 +65,7 @@ nth j [] = noPlace
 nth zero (x ∷ xs) = place (x .start) (x .len)
 nth (suc j) (x ∷ xs) = nth j xs
 
--- where it stands, all of it, as listed; the empty place for what is absent or stands in a refused shortcut
+-- where it stands, all of it, as listed; the empty place if there is no such row, as in every refused shortcut
 unfoldable pub sectionPlace : List ℕ → ℕ → ℕ → Place
 unfolding listing
 sectionPlace s name block = nth (cond (eqb name 8) block 0) (named name (listing s))

@@ -19,14 +19,14 @@ networkFlags v = u32At v 4
 abbrev pub hasDevice : List ℕ → Bool
 hasDevice v = deviceThere (networkFlags v)
 
--- NetNameOffset above 0x14 means that Unicode offsets for net name and device name stand at 20 and 24
+-- a NetNameOffset of more than 0x14 leaves room for two offset fields, at 20 and 24: the Unicode names
 abbrev pub networkUnicode : List ℕ → Bool
 networkUnicode v = ltb 0x14 (u32At v 8)
 
 abbrev pub hasDeviceUnicode : List ℕ → Bool
 hasDeviceUnicode v = deviceUnicodeThere (networkUnicode v) (networkFlags v)
 
--- and the head is 0x1C long; otherwise it is 0x14 long
+-- the head ends after the last offset field
 abbrev pub networkHead : Bool → ℕ
 networkHead unicode = cond unicode 0x1C 0x14
 
@@ -41,7 +41,7 @@ networkPieces v =
     ∷ textPiece (hasDeviceUnicode v) true v (u32At v 24)
     ∷ []
 
--- flags at 4, bits 0 and 1 only; NetNameOffset at least 0x14; the fields at 20 and 24 inside the declared size; device names absent: their offsets are 0
+-- flags, NetNameOffset, the two Unicode offset fields inside the declared size, then the offsets of device names that are not there
 abbrev pub networkHeadTests : List ℕ → List Test
 networkHeadTests v =
     leb (networkFlags v) 3 else PIECE
@@ -74,7 +74,7 @@ noNetwork = record {
   «device_unicode» = noPlace;
 }
 
--- v starts at p in the file; provider type at 16, kept where bit 1 is set (house: any value), else ignored, as an absent part
+-- v starts at p in the file; without bit 1 the provider type at 16 is no more than an absent part (house: with it, every value is good)
 abbrev pub networkFields : ℕ → List ℕ → Network
 networkFields p v = record {
   flags = networkFlags v;

@@ -19,7 +19,7 @@ pub record Piece : Type 0 where
 
 -- ---- strings
 
--- A string ends with its first zero byte; a Unicode string with its first zero 16-bit unit, counted from its start, at any alignment
+-- the first zero character ends a string; units are counted off from the string's own start, wherever that is
 abbrev pub textEnds : Bool → List ℕ → Bool
 textEnds unicode s = hasZero (characters unicode s)
 
@@ -63,11 +63,11 @@ uncut there end l = not there || leb end (length l)
 
 -- ---- the tests of all pieces of a structure
 
--- A present piece starts at or after the head and ends within its structure
+-- a piece that is there does not start in the head, and keeps its own tests
 abbrev pub testsOf : ℕ → Piece → List Test
 testsOf head x = cond (x .present) (leb head (x .offset) else PIECE ∷ x .own) []
 
--- where its offset field stands
+-- each where its offset field stands
 abbrev pub eachOk : ℕ → List Piece → List Test
 eachOk head [] = []
 eachOk head (x ∷ xs) = testsOf head x ++ eachOk head xs

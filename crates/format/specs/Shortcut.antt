@@ -21,7 +21,7 @@ use Rattle.format.specs.Info.{info, noInfo}
 use Rattle.format.specs.Strings.{string}
 use Rattle.format.specs.Blocks.{blocks}
 
--- A shortcut has at most 65,536 bytes
+-- the longest shortcut
 abbrev pub most : ℕ
 most = 65536
 
@@ -41,7 +41,7 @@ found P p s = andThen (P p s) (λ a n. got (record { there = true; start = p; le
 abbrev pub sectionIf : {A : Type 0} → Bool → A → Reader A → Reader (Section A)
 sectionIf there d P = optional there (absent d) (found P)
 
--- Flag bits 2 to 6 in order; two bytes each where bit 7 is set
+-- a string by its flag bit k, its characters by bit 7
 abbrev pub stringSection : ℕ → ℕ → Reader (Section Place)
 stringSection flags k = sectionIf (stringThere k flags) noPlace (string (stringsUnicode flags))
 
@@ -84,7 +84,7 @@ abbrev pub sum : List ℕ → ℕ
 sum [] = 0
 sum (n ∷ ns) = n + sum ns
 
--- The record holds all blocks before the terminal as one body
+-- the blocks are a single body, from the first one's start to the terminal's
 abbrev pub recordOf : Sections → Record
 recordOf c =
     let (header, (items, (info, (name, (relative, (workdir, (arguments, (icon, blocks)))))))) = c in

@@ -10,7 +10,7 @@ use Rattle.format.specs.declared.Place.{Place}
 use Rattle.format.specs.declared.Fault.the-variants.{Cut as CUT}
 use Rattle.format.specs.Tests.{_else_, tests, got, Reader, place}
 
--- Each is a 2-byte count of characters and the characters, two bytes each in Unicode, else one. No terminator; zeros inside are kept
+-- a count of characters in two bytes, then so many of them; nothing ends a string but its count
 abbrev pub stringLength : Bool → List ℕ → ℕ
 stringLength unicode s = 2 + bytesOf unicode (u16At s 0)
 

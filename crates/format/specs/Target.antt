@@ -20,7 +20,7 @@ targeted flags infoFlags = not (bit 8 flags) && infoThere flags && (localThere i
 abbrev pub hasTarget : Record → Bool
 hasTarget r = targeted (r .header .flags) (r .info .flags)
 
--- One byte 5C is put between the first text and the suffix if the suffix is not empty and the first text is not empty and does not end in 5C
+-- a backslash is wanted between two texts that both have bytes, unless the first brings it
 abbrev pub separated : List ℕ → List ℕ → Bool
 separated first suffix =
     not (eqb (length suffix) 0) && not (eqb (length first) 0) && not (eqb (getD first (length first - 1) 0) 0x5C)
@@ -34,12 +34,12 @@ separator first suffix = cond (separated first suffix) backslash []
 abbrev pub joined : List ℕ → List ℕ → List ℕ
 joined first suffix = first ++ (separator first suffix ++ suffix)
 
--- With LinkInfo bit 0: local path, then suffix, as bytes. Otherwise with bit 1: net name, then suffix
+-- the first text is the local path where there is one, else the net name
 abbrev pub targetText : List ℕ → Record → List ℕ
 targetText s r =
     joined (cond (localThere (r .info .flags)) (bytesAt s (r .info .local)) (bytesAt s (r .info .network .net))) (bytesAt s (r .info .suffix))
 
--- The target call tests as reading does, then 13, then 12
+-- after the tests of reading: 13, then 12
 unfoldable pub target : List ℕ → ℕ → Outcome (List ℕ)
 unfolding shortcut
 target s room =

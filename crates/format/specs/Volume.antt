@@ -14,7 +14,7 @@ use Rattle.format.specs.Tests.{Test, _else_, place, noPlace}
 use Rattle.format.specs.Pieces.{Piece, textPiece, textLength, structTests, uncut, testsOf}
 
 -- In what follows v is VolumeID's own bytes.
--- label offset at 12; if that is 0x14, the label is Unicode, at the offset held at 16; otherwise it is a byte string at that offset
+-- 0x14 at 12 is no offset: it says that the label is Unicode and has its offset at 16. Every other number there is a byte label's offset
 abbrev pub labelUnicode : List ℕ → Bool
 labelUnicode v = eqb (u32At v 12) 0x14
 

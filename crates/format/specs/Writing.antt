@@ -97,7 +97,7 @@ volumeBytes v =
     ∷ textBytes (v .unicode) (v .label)
     ∷ [])
 
--- the network link: net name, device name, then the Unicode ones
+-- the network link: the byte names, then their Unicode twins
 module _ (n : NetworkContents) where
   abbrev pub netBytes : List ℕ
   netBytes = textBytes false (n .net)
@@ -142,7 +142,7 @@ module _ (n : NetworkContents) where
       ∷ deviceUnicodeBytes
       ∷ [])
 
--- LinkInfo has head 0x1C, or 0x24 with Unicode, then VolumeID, local path, network link, suffix, Unicode local path, Unicode suffix, no gaps
+-- LinkInfo: the head, then its pieces in this order, each right after the one before it
 module _ (i : InfoContents) where
   abbrev pub infoVolumeBytes : List ℕ
   infoVolumeBytes = ifThere (localThere (i .flags)) volumeBytes (i .volume)
@@ -324,7 +324,7 @@ writing r d room =
 
 -- ---- what a call leaves in the output buffer it was lent
 
--- Success changes only the first n bytes, n being the length returned; every refusal changes no byte of the output buffer
+-- a success puts its bytes in front and leaves the rest; a refusal leaves it all
 unfoldable pub outputOf : Outcome (List ℕ) → List ℕ → List ℕ
 unfolding put
 outputOf (got w n) out = put out 0 w

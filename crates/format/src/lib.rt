@@ -29,7 +29,7 @@ pub struct Header {
     pub hotkey: u16,
 }
 
-// A volume label is one of two kinds.
+// A label has a kind, and with either kind a place.
 pub enum Label {
     Byte(Place),
     Unicode(Place),

@@ -1,4 +1,4 @@
-// Prints the cache key of one shortcut from standard input in hex, or the listing's refusal line.
+// The cache key of the shortcut on standard input, as hex; where it is refused, the line that the listing has.
 fn main() {
     // One byte more than a shortcut may have: what lies beyond it is not looked at.
     let mut room = [0u8; 65537];

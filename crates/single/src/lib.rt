@@ -33,7 +33,7 @@ pub fn string(s: &[u8], c: Cursor, unicode: bool) -> Taken
     Taken::Got(Place { at, len: n }, next)
 }
 
-// The body is the items without the two zero bytes at the end.
+// The two zero bytes at the end are no part of the body.
 pub fn items(s: &[u8], c: Cursor) -> Taken
     ensures { λ r. ⌜ r ≡ itemsAt (now (s .entry)) (c .at) ⌝ }
 {

@@ -68,7 +68,7 @@ pub record Passed (s : List ℕ) (a p : ℕ) (row : List ℕ) : Type 0 where
   pub is : (y : List ℕ) → blocks a (drop a (s ++ y)) ≡ after lengths (blocks p (drop p (s ++ y)))
   pub first : length s ≤ most → row ≡ firsts s a lengths
 
--- all blocks before the terminal as one body, that starts at p
+-- what stands from p up to the terminal, as a single body
 abbrev pub blocksTaken : ℕ → Outcome (List ℕ) → Taken
 blocksTaken p (got lengths n) = Got (place p (sum lengths)) (record { at = p + n })
 blocksTaken p (refused f q) = Refused f q
