@@ -64,9 +64,10 @@ pathTexts b = textEnds false (take 260 (drop 8 b)) && textEnds true (take 520 (d
 
 -- what a block b holds: the three path blocks (A0000001, A0000006, A0000007) their texts, A000000C items from byte 8 to its end
 unfoldable pub insideFits : ℕ → List ℕ → Bool
+unfolding slotOf
 insideFits slot b =
-    cond (eqb slot 0 || eqb slot 5 || eqb slot 6) (pathTexts b)
-    (cond (eqb slot 10) (itemList (drop 8 b))
+    cond (eqb slot (slotOf 0xA0000001) || eqb slot (slotOf 0xA0000006) || eqb slot (slotOf 0xA0000007)) (pathTexts b)
+    (cond (eqb slot (slotOf 0xA000000C)) (itemList (drop 8 b))
     true)
 
 abbrev pub slotAt : List ℕ → ℕ

@@ -109,7 +109,7 @@ pub struct Reading {
     pub held: Record,
 }
 
-// ---- zeros, for what is absent and beside a refusal: constants, since a call into another crate stays a call
+// ---- zeros, for what is absent and beside a refusal: constants, since functions made a check a tenth dearer
 
 pub const NO_PLACE: Place = Place { at: 0, len: 0 };
 
