@@ -2,7 +2,7 @@
 use mathlib.Core.Path.{_≡_}
 use mathlib.Core.List.{List}
 use mathlib.Core.Bool.{Bool, true, not, cond, _&&_}
-use Prim.Native.Nat.{ℕ, zero, suc, _+_}
+use Prim.Native.Nat.{ℕ, zero, suc, _+_, _*_, _/_}
 use lib.ListN.{drop}
 use lib.Dec.{eqb}
 use Rattle.octets.specs.Numbers.{numberAt}
@@ -30,6 +30,14 @@ other u s i = not (eqb (numberAt (bytesOf u 1) s i) 0)
 unfoldable pub others : Bool → List ℕ → ℕ → ℕ → Bool
 others u s i zero = true
 others u s i (suc k) = others u s i k && other u s (i + bytesOf u k)
+
+-- how many characters stand before the first zero one from the place i on
+abbrev pub before : Bool → List ℕ → ℕ → ℕ
+before u s i = beforeZero (characters u (drop i s))
+
+-- past all whole sixteens of bytes in front of the first that has a zero character
+unfoldable pub sixteens : Bool → List ℕ → ℕ → ℕ
+sixteens u s i = i + bytesOf u (before u s i) / 16 * 16
 
 -- a scan from the place i on may go on from the place r
 pub record Passed (u : Bool) (s : List ℕ) (i r : ℕ) : Type 0 where
