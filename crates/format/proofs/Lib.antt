@@ -30,3 +30,4 @@ pub mod KeyDemands
 pub mod KeyRoom
 pub mod KeySame
 pub mod ProbeLaws
+pub mod OneOutcome
