@@ -2,11 +2,12 @@
 use mathlib.Core.Path.{sym, _∙_}
 use denote.Ref.{now}
 use Rattle.octets.proofs.Outcomes.{OneAnswer, OneOutcome}
+use Rattle.blocks.proofs.WalkLaws.{passed-once}
 use Rattle.blocks.proofs.step as step
 use Rattle.blocks.proofs.run as run
 use Rattle.blocks.proofs.blocks as blocks
 use Rattle.blocks.proofs.block_from as block-from
-use Rattle.blocks.proofs.WalkLaws.{passed-once}
+use Rattle.blocks.proofs.nth_block as nth-block
 
 pub step-one-outcome : OneAnswer step.ended step.Reads.Post
 step-one-outcome κs a r q s t p o = p ∙ sym o
@@ -19,3 +20,6 @@ blocks-one-outcome κs a r q s t p o = p ∙ sym o
 
 pub block-from-one-outcome : OneAnswer block-from.ended block-from.Reads.Post
 block-from-one-outcome κs a r q s t p o = p ∙ sym o
+
+pub nth-block-one-outcome : OneAnswer nth-block.ended nth-block.Reads.Post
+nth-block-one-outcome κs a r q s t p o = p ∙ sym o

@@ -9,7 +9,7 @@ ghost use Prim.Native.Nat.{_+_, _≤_, _<_};
 ghost use lib.ListN.{length};
 ghost use Rattle.format.specs.Blocks.{slotOf, sizeFits, pathTexts, insideFits};
 ghost use Rattle.format.specs.Shortcut.{most};
-ghost use Rattle.blocks.specs.Steps.Walk.{bySize, Stands, noFirsts, fieldOf, noted, Passed, NoBlock, blocksRead, readTo, stoppedAt, blockFrom, NthOf};
+ghost use Rattle.blocks.specs.Steps.Walk.{bySize, Stands, noFirsts, fieldOf, noted, Passed, NoBlock, blocksRead, readTo, stoppedAt, blockFrom, nthBlock};
 
 // A block of so many bytes, with the slot of its signature; or the terminal block; or neither.
 pub enum BlockStep {
@@ -237,7 +237,7 @@ pub fn block_from(s: &[u8], field: u32) -> Place
 
 // Where block number k stands, of those that start at `from`; the empty place where there are not so many.
 pub fn nth_block(s: &[u8], from: usize, k: usize) -> Place
-    ensures { λ r. ⌜ NthOf (now (s .entry)) from k r ⌝ }
+    ensures { λ r. ⌜ r ≡ nthBlock (now (s .entry)) from k ⌝ }
 {
     if s.len() < from {
         return format::NO_PLACE;

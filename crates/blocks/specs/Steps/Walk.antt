@@ -123,6 +123,17 @@ stoppedAt f p = record { taken = Refused f p; firsts = noFirsts }
 unfoldable pub blockFrom : List ℕ → ℕ → Place
 blockFrom s field = cond (ltb field 4) noPlace (place (field - 4) (u32At s (field - 4)))
 
+-- what is made of a block's size; the empty place where there is no block
+abbrev pub ifBlock : BlockStep → (ℕ → Place) → Place
+ifBlock (Block n k) f = f n
+ifBlock Terminal f = noPlace
+ifBlock (NotOne e) f = noPlace
+
+-- the block number k from p on, by their sizes
+unfoldable pub nthBlock : List ℕ → ℕ → ℕ → Place
+nthBlock s p zero = ifBlock (bySize (drop p s)) (λ n. place p n)
+nthBlock s p (suc k) = ifBlock (bySize (drop p s)) (λ n. nthBlock s (p + n) k)
+
 -- the place of number k, of blocks of these lengths from p on
 abbrev pub nthPlace : ℕ → List ℕ → ℕ → Place
 nthPlace p [] k = noPlace
