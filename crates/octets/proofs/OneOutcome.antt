@@ -32,16 +32,16 @@ pub cursor-new-one-outcome : OneAnswer cursor-new.ended cursor-new.Reads.Post
 cursor-new-one-outcome κs a r q s t p o = p ∙ sym o
 
 pub cursor-take-u16-one-outcome : OneAnswer cursor-take-u16.ended cursor-take-u16.Reads.Post
-cursor-take-u16-one-outcome κs a r q s t p o = p ∙ sym o
+cursor-take-u16-one-outcome κs a r q s t p o = p .is ∙ sym (o .is)
 
 pub cursor-take-u32-one-outcome : OneAnswer cursor-take-u32.ended cursor-take-u32.Reads.Post
-cursor-take-u32-one-outcome κs a r q s t p o = p ∙ sym o
+cursor-take-u32-one-outcome κs a r q s t p o = p .is ∙ sym (o .is)
 
 pub cursor-skip-one-outcome : OneAnswer cursor-skip.ended cursor-skip.Reads.Post
-cursor-skip-one-outcome κs a r q s t p o = p ∙ sym o
+cursor-skip-one-outcome κs a r q s t p o = p .is ∙ sym (o .is)
 
 pub zero-from-one-outcome : OneAnswer zero-from.ended zero-from.Reads.Post
-zero-from-one-outcome κs a r q s t p o = p ∙ sym o
+zero-from-one-outcome κs a r q s t p o = p .is ∙ sym (o .is)
 
 pub has-zero-one-outcome : OneAnswer has-zero.ended has-zero.Reads.Post
 has-zero-one-outcome κs a r q s t p o = p ∙ sym o

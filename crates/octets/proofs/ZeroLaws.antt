@@ -10,8 +10,8 @@ use lib.Dec.{eqb, leb, leb·suc-suc}
 use borrow.Author.Tests.{lt-ltb, leb-true, leb-false, eqb-false, ne-eqb, not-true, not-false}
 use Rattle.octets.specs.Numbers.{number, numberAt}
 use Rattle.octets.specs.Characters.{bytesOf, units, characters, beforeZero, hasZero}
-use Rattle.octets.specs.Steps.Scans.{zeroFrom}
-use Rattle.octets.specs.Steps.Scans.{scanOn, scanAt, other, others, before, sixteens, Passed}
+use Rattle.octets.specs.Steps.Cursors.{okOrCut}
+use Rattle.octets.specs.Steps.Scans.{zeroFrom, zeroNumber, zeroValue, Scans, scanOn, scanAt, other, others, before, sixteens, Passed}
 use Rattle.octets.specs.declared.Zero.{Zero}
 use Rattle.octets.specs.declared.Zero.the-variants.{After, Nowhere}
 use Rattle.octets.proofs.AndLaws.{and-true, and-assoc, and-yes}
@@ -216,6 +216,21 @@ module _ (u : Bool) (s : List ℕ) (i : ℕ) where
         go false f = omega (arith, some-bytes u, bytes-of-add u (before u s i) 1, bytes-of-le u {m = before u s i + 1} {n = k} (omega (arith, leb-false k (before u s i) f)))
 
 -- ---- from an answer to the facts
+
+pub scans : (u : Bool) (s : List ℕ) (i : ℕ) {z : Zero} → z ≡ zeroFrom u s i → Scans u s i z
+unfolding zeroFrom zeroNumber zeroValue
+scans u s i e = record { is = e; number = rw e (number (hasZero l)); value = rw e (value (hasZero l)) }
+  where
+    l : List ℕ
+    l = characters u (drop i s)
+
+    number : (b : Bool) → zeroNumber (cond b (After (beforeZero l)) Nowhere) ≡ okOrCut b
+    number true = refl
+    number false = refl
+
+    value : (b : Bool) → zeroValue (cond b (After (beforeZero l)) Nowhere) ≡ cond b (beforeZero l) 0
+    value true = refl
+    value false = refl
 
 pub after-not-nowhere : {z : Zero} {n : ℕ} → z ≡ After n → z ≡ Nowhere → ⊥
 after-not-nowhere p q = let o : _≡_ {A = ℕ} 0 1 = cc in omega arith
