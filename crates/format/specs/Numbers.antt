@@ -1,9 +1,10 @@
 -- Numbers returned: the number of each fault in the table of document 01, and the number and the value of every answer.
-use Prim.Native.Nat.{ℕ}
+use Prim.Native.Nat.{ℕ, _+_}
 use Rattle.format.specs.declared.Fault.{Fault}
 use Rattle.format.specs.declared.Fault.the-variants.{Long, Cut, Magic, Head, Items, Info, Piece, Block, Trail, Place, Unwritable, Room, NoTarget}
 use Rattle.format.specs.declared.Verdict.{Verdict}
 use Rattle.format.specs.declared.Verdict.the-variants.{Accepted, Refused}
+use Rattle.format.specs.Tests.{Outcome, got, refused}
 
 -- No | Name
 unfoldable pub numberOf : Fault → ℕ
@@ -31,3 +32,12 @@ answerNumber (Refused f p) = numberOf f
 unfoldable pub answerValue : Verdict → ℕ
 answerValue (Accepted n) = n
 answerValue (Refused f p) = p
+
+-- the same of what reading from p on comes to: where it ends, or the position of a refusal
+abbrev pub outcomeNumber : {A : Type 0} → Outcome A → ℕ
+outcomeNumber (got a n) = 0
+outcomeNumber (refused f q) = numberOf f
+
+abbrev pub outcomeValue : {A : Type 0} → ℕ → Outcome A → ℕ
+outcomeValue p (got a n) = p + n
+outcomeValue p (refused f q) = q
