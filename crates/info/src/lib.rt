@@ -426,7 +426,13 @@ fn info_pieces(l: &[u8], start: usize) -> Pieces
     let both = format::local_unicode_there(long, flags);
     let a = volume(local, l, start, head, octets::u32_at(l, 12) as usize);
     let b = text_at(local, false, l, start, head, octets::u32_at(l, 16) as usize);
-    let c = network(format::network_there(flags), l, start, head, octets::u32_at(l, 20) as usize);
+    let c = network(
+        format::network_there(flags),
+        l,
+        start,
+        head,
+        octets::u32_at(l, 20) as usize,
+    );
     let d = text_at(true, false, l, start, head, octets::u32_at(l, 24) as usize);
     let e = text_at(both, true, l, start, head, field(long, l, 28));
     let f = text_at(long, true, l, start, head, field(long, l, 32));

@@ -22,7 +22,9 @@ pub fn has_target(r: Record) -> bool
 {
     let f = r.header.flags;
     let i = r.info.flags;
-    !(f / 256 % 2 == 1) & format::info_there(f) & (format::local_there(i) | format::network_there(i))
+    !(f / 256 % 2 == 1)
+        & format::info_there(f)
+        & (format::local_there(i) | format::network_there(i))
 }
 
 // The local path, or the net name where there is none.
