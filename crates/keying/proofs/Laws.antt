@@ -267,8 +267,8 @@ module _ (s : List ℕ) (r : Record) (e : Accepts s r) where
         let f = r .header .flags in
         record {
           target = rw (target, has, texts) (part-stands s (hasTarget r) (textsOf s r) small (texts-stand s r (length s) e));
-          arguments = rw (arguments, hu, ea) (part-stands s (stringThere argumentsBit f) (only (r .arguments)) small (i .1 .1 .1 .1 .1 .1 .1 .1 .1 .1 .1 .1 .1 .0, omega arith, omega arith));
-          workdir = rw (workdir, hv, ew) (part-stands s (stringThere workdirBit f) (only (r .workdir)) small (i .1 .1 .1 .1 .1 .1 .1 .1 .1 .1 .1 .1 .0, omega arith, omega arith));
+          arguments = rw (arguments, hu, ea) (part-stands s (stringThere argumentsBit f) (only (r .arguments)) small (i .arguments, omega arith, omega arith));
+          workdir = rw (workdir, hv, ew) (part-stands s (stringThere workdirBit f) (only (r .workdir)) small (i .workdir, omega arith, omega arith));
           environment = environment .stands;
         }
 

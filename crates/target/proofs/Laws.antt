@@ -41,8 +41,8 @@ unfolding firstText
 texts-inside s r n e =
     let i = accepted-bodies s r n e in
     record {
-      first = either (localThere (r .info .flags)) (r .info .local) (r .info .network .net) (i .1 .1 .0) (i .1 .1 .1 .0);
-      suffix = i .1 .1 .1 .1 .1 .1 .1 .0;
+      first = either (localThere (r .info .flags)) (r .info .local) (r .info .network .net) (i .local) (i .net);
+      suffix = i .suffix;
       small = accepted-limit s r n e;
     }
   where
