@@ -76,19 +76,41 @@ header-refused s {r} {f} {q} e k = go (header 0 s) refl (sym k ∙ e)
 
 -- ---- the sections after it
 
-abbrev Held : {A : Type 0} → Bool → ℕ → ℕ → A → Section A → Type 0
-Held b p e a c = c ≡ sectionOf b p e a
+-- the sections of a tail by name
+abbrev pub itemsIn : Tail → Section Place
+itemsIn v = v .0
+
+abbrev pub infoIn : Tail → Section Info
+infoIn v = v .1 .0
+
+abbrev pub nameIn : Tail → Section Place
+nameIn v = v .1 .1 .0
+
+abbrev pub relativeIn : Tail → Section Place
+relativeIn v = v .1 .1 .1 .0
+
+abbrev pub workdirIn : Tail → Section Place
+workdirIn v = v .1 .1 .1 .1 .0
+
+abbrev pub argumentsIn : Tail → Section Place
+argumentsIn v = v .1 .1 .1 .1 .1 .0
+
+abbrev pub iconIn : Tail → Section Place
+iconIn v = v .1 .1 .1 .1 .1 .1 .0
+
+abbrev pub blocksIn : Tail → Section (List ℕ)
+blocksIn v = v .1 .1 .1 .1 .1 .1 .1
 
 -- each section stands where the outline says, and holds what it holds
 pub record Outlined (s : List ℕ) (h : Header) (o : Outline) (v : Tail) : Type 0 where
-  pub items : v .0 ≡ sectionOf (itemsThere (h .flags)) 76 (o .ends .items) (o .held .items)
-  pub info : v .1 .0 ≡ sectionOf (infoThere (h .flags)) (o .ends .items) (o .ends .info) (o .held .info)
-  pub name : v .1 .1 .0 ≡ sectionOf (stringThere nameBit (h .flags)) (o .ends .info) (o .ends .name) (o .held .name)
-  pub relative : v .1 .1 .1 .0 ≡ sectionOf (stringThere relativeBit (h .flags)) (o .ends .name) (o .ends .relative) (o .held .relative)
-  pub workdir : v .1 .1 .1 .1 .0 ≡ sectionOf (stringThere workdirBit (h .flags)) (o .ends .relative) (o .ends .workdir) (o .held .workdir)
-  pub arguments : v .1 .1 .1 .1 .1 .0 ≡ sectionOf (stringThere argumentsBit (h .flags)) (o .ends .workdir) (o .ends .arguments) (o .held .arguments)
-  pub icon : v .1 .1 .1 .1 .1 .1 .0 ≡ sectionOf (stringThere iconBit (h .flags)) (o .ends .arguments) (o .ends .icon) (o .held .icon)
-  pub blocks : BlocksFact s (o .ends .icon) (o .next) (o .held .blocks) (o .firsts) (v .1 .1 .1 .1 .1 .1 .1)
+  pub items : itemsIn v ≡ sectionOf (itemsThere (h .flags)) 76 (o .ends .items) (o .held .items)
+  pub info : infoIn v ≡ sectionOf (infoThere (h .flags)) (o .ends .items) (o .ends .info) (o .held .info)
+  pub name : nameIn v ≡ sectionOf (stringThere nameBit (h .flags)) (o .ends .info) (o .ends .name) (o .held .name)
+  pub relative : relativeIn v ≡ sectionOf (stringThere relativeBit (h .flags)) (o .ends .name) (o .ends .relative) (o .held .relative)
+  pub workdir : workdirIn v ≡ sectionOf (stringThere workdirBit (h .flags)) (o .ends .relative) (o .ends .workdir) (o .held .workdir)
+  pub arguments : argumentsIn v ≡ sectionOf (stringThere argumentsBit (h .flags)) (o .ends .workdir) (o .ends .arguments) (o .held .arguments)
+  pub icon : iconIn v ≡ sectionOf (stringThere iconBit (h .flags)) (o .ends .arguments) (o .ends .icon) (o .held .icon)
+  pub blocks : BlocksFact s (o .ends .icon) (o .next) (o .held .blocks) (o .firsts) (blocksIn v)
 
 pub outline-runs : (s : List ℕ) (h : Header) → Runs s (tail (h .flags)) 76 (outlineFrom s h (record { at = 76 }) .next) (Outlined s h (outlineFrom s h (record { at = 76 })))
 unfolding outlineFrom atOf endsOf
@@ -114,21 +136,21 @@ outline-runs s h =
     record {
       on = λ c e.
           let x = r .on c e in
-          let y = x .fact in
+          let (items, (info, (name, (relative, (workdir, (arguments, (icon, blocks))))))) = x .fact in
           record {
             value = x .value;
             count = x .count;
             is = x .is;
             ends = x .ends;
             fact = record {
-              items = y .0;
-              info = y .1 .0;
-              name = y .1 .1 .0;
-              relative = y .1 .1 .1 .0;
-              workdir = y .1 .1 .1 .1 .0;
-              arguments = y .1 .1 .1 .1 .1 .0;
-              icon = y .1 .1 .1 .1 .1 .1 .0;
-              blocks = y .1 .1 .1 .1 .1 .1 .1;
+              items = items;
+              info = info;
+              name = name;
+              relative = relative;
+              workdir = workdir;
+              arguments = arguments;
+              icon = icon;
+              blocks = blocks;
             };
           };
       off = r .off;
@@ -157,15 +179,15 @@ record-held : (s : List ℕ) (h : Header) (v : Tail) → Outlined s h (outline s
 record-held s h v F =
     let f : ℕ = h .flags in
     let o : Outline = outline s h in
-    let a : v .0 .read ≡ o .held .items = holds (itemsThere f) 76 (o .ends .items) (o .held .items) (F .items) in
-    let b : v .1 .0 .read ≡ o .held .info = holds (infoThere f) (o .ends .items) (o .ends .info) (o .held .info) (F .info) in
-    let c : v .1 .1 .0 .read ≡ o .held .name = holds (stringThere nameBit f) (o .ends .info) (o .ends .name) (o .held .name) (F .name) in
-    let d : v .1 .1 .1 .0 .read ≡ o .held .relative = holds (stringThere relativeBit f) (o .ends .name) (o .ends .relative) (o .held .relative) (F .relative) in
-    let e : v .1 .1 .1 .1 .0 .read ≡ o .held .workdir = holds (stringThere workdirBit f) (o .ends .relative) (o .ends .workdir) (o .held .workdir) (F .workdir) in
-    let g : v .1 .1 .1 .1 .1 .0 .read ≡ o .held .arguments = holds (stringThere argumentsBit f) (o .ends .workdir) (o .ends .arguments) (o .held .arguments) (F .arguments) in
-    let i : v .1 .1 .1 .1 .1 .1 .0 .read ≡ o .held .icon = holds (stringThere iconBit f) (o .ends .arguments) (o .ends .icon) (o .held .icon) (F .icon) in
-    let j : place (v .1 .1 .1 .1 .1 .1 .1 .start) (sum (v .1 .1 .1 .1 .1 .1 .1 .read)) ≡ o .held .blocks
-    = ap (λ (p : ℕ). place p (sum (v .1 .1 .1 .1 .1 .1 .1 .read))) (F .blocks .start) ∙ sym (F .blocks .body) in
+    let a : itemsIn v .read ≡ o .held .items = holds (itemsThere f) 76 (o .ends .items) (o .held .items) (F .items) in
+    let b : infoIn v .read ≡ o .held .info = holds (infoThere f) (o .ends .items) (o .ends .info) (o .held .info) (F .info) in
+    let c : nameIn v .read ≡ o .held .name = holds (stringThere nameBit f) (o .ends .info) (o .ends .name) (o .held .name) (F .name) in
+    let d : relativeIn v .read ≡ o .held .relative = holds (stringThere relativeBit f) (o .ends .name) (o .ends .relative) (o .held .relative) (F .relative) in
+    let e : workdirIn v .read ≡ o .held .workdir = holds (stringThere workdirBit f) (o .ends .relative) (o .ends .workdir) (o .held .workdir) (F .workdir) in
+    let g : argumentsIn v .read ≡ o .held .arguments = holds (stringThere argumentsBit f) (o .ends .workdir) (o .ends .arguments) (o .held .arguments) (F .arguments) in
+    let i : iconIn v .read ≡ o .held .icon = holds (stringThere iconBit f) (o .ends .arguments) (o .ends .icon) (o .held .icon) (F .icon) in
+    let j : place (blocksIn v .start) (sum (blocksIn v .read)) ≡ o .held .blocks
+    = ap (λ (p : ℕ). place p (sum (blocksIn v .read))) (F .blocks .start) ∙ sym (F .blocks .body) in
     same-record h (o .held) (sym (header-held s h)) a b c d e g i j
   where
     same-record : (g : Header) (r : Record) {x₁ x₃ x₄ x₅ x₆ x₇ x₈ : Place} {x₂ : Info} → g ≡ r .header → x₁ ≡ r .items → x₂ ≡ r .info → x₃ ≡ r .name → x₄ ≡ r .relative

@@ -34,7 +34,7 @@ use Rattle.reader.specs.Steps.EachSection.{atOf, outlineFrom}
 use Rattle.reader.specs.Steps.Finish.{outlineOff, outlineAfter, outlineOf}
 use Rattle.shown.specs.Steps.Asked.{between}
 use Rattle.reader.proofs.Runs.{sectionOf, on-not-off}
-use Rattle.reader.proofs.OutlineLaws.{outline, Outlined, header-got, header-refused, headerSection, header-held, outline-runs, sections-refused, sections-got, shortcut-refused, shortcut-ends, header-refused-shortcut, long-shortcut}
+use Rattle.reader.proofs.OutlineLaws.{blocksIn, outline, Outlined, header-got, header-refused, headerSection, header-held, outline-runs, sections-refused, sections-got, shortcut-refused, shortcut-ends, header-refused-shortcut, long-shortcut}
 
 -- ---- rows by name
 
@@ -137,7 +137,7 @@ accepted-listing : (s : List ℕ) {c : Sections} {n : ℕ} → shortcut s ≡ go
 unfolding listing
 accepted-listing s e = rw e
 
-outlined-rows : (s : List ℕ) (h : Header) (v : Tail) → Outlined s h (outline s h) v → rowsOf (headerSection h, v) ≡ rowsFrom (outline s h) (v .1 .1 .1 .1 .1 .1 .1 .read)
+outlined-rows : (s : List ℕ) (h : Header) (v : Tail) → Outlined s h (outline s h) v → rowsOf (headerSection h, v) ≡ rowsFrom (outline s h) (blocksIn v .read)
 outlined-rows s h v F =
     let e = header-held s h in
     rw (e, F .items, F .info, F .name, F .relative, F .workdir, F .arguments, F .icon, F .blocks .start)
@@ -156,8 +156,8 @@ all-rows s o c e k d = go (cases s o e)
         let z : shortcut s ≡ got (headerSection h, r .value) (c .at) = shortcut-ends s l (sections-got s h i (r .is)) ∙ rw (n, eq-eqb (c .at) (length s) d) in
         rw x
         (record {
-          lengths = r .value .1 .1 .1 .1 .1 .1 .1 .read;
-          count = r .value .1 .1 .1 .1 .1 .1 .1 .len;
+          lengths = blocksIn (r .value) .read;
+          count = blocksIn (r .value) .len;
           is = F .blocks .is;
           last = F .blocks .last ∙ ap atOf y ∙ d;
           rows = accepted-listing s z ∙ outlined-rows s h (r .value) F;
