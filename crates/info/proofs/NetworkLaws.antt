@@ -120,17 +120,17 @@ module _ (p : ℕ) (v : List ℕ) {ok : Bool} (ex : ok ≡ all (networkHeadTests
         go : (k : Bool) → fourPass a b c d far ≡ k → networkIf k (fourFields flags provider (ltb 0x14 name) a b c d) ≡ networkIf k (networkFields p v)
         go true e =
             let h : ℕ = networkHead (networkUnicode v) in
-            let w = every-out (a .ok ∷ b .ok ∷ c .ok ∷ d .ok ∷ far ∷ []) (simp (and-yes, ← and-assoc) e) in
+            let (net, (device, (netUnicode, (deviceUnicode, apart)))) = every-out (a .ok ∷ b .ok ∷ c .ok ∷ d .ok ∷ far ∷ []) (simp (and-yes, ← and-assoc) e) in
             ap Good (rw (
               ep,
               et,
               ek,
               eg,
               en,
-              text-body true false v p h (u32At v 8) (f .net) (w .0),
-              text-body (hasDevice v) false v p h (u32At v 12) (f .device) (w .1 .0),
-              text-body (networkUnicode v) true v p h (u32At v 20) (f .netUnicode) (w .1 .1 .0),
-              text-body (hasDeviceUnicode v) true v p h (u32At v 24) (f .deviceUnicode) (w .1 .1 .1 .0),
+              text-body true false v p h (u32At v 8) (f .net) net,
+              text-body (hasDevice v) false v p h (u32At v 12) (f .device) device,
+              text-body (networkUnicode v) true v p h (u32At v 20) (f .netUnicode) netUnicode,
+              text-body (hasDeviceUnicode v) true v p h (u32At v 24) (f .deviceUnicode) deviceUnicode,
             ))
         go false e = refl
 
