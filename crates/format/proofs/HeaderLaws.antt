@@ -15,8 +15,8 @@ use Rattle.format.specs.declared.Fault.the-variants.{Cut as CUT}
 use Rattle.format.specs.Tests.{got, refused, tests, Outcome}
 use Rattle.format.specs.Header.{classIdentifier, headerSizeOk, identifierOk, flagsOk, attributesOk, zerosFrom66, headerRules, signed, headerFields, header}
 use Rattle.format.specs.Hotkey.{hotkeyOk}
-use Rattle.format.specs.Ranges.{FitsSigned, FitsHeader}
 use Rattle.format.specs.Writing.{bits, headerBytes, writableHeader}
+use Rattle.format.proofs.Ranges.{FitsSigned, FitsHeader}
 use Rattle.format.proofs.Bools.{by-order}
 use Rattle.format.proofs.Chains.{Ok, Law, law-same}
 use Rattle.format.proofs.Holds.{header-holds, header-passes, header-writable, writable-header}

@@ -18,8 +18,8 @@ use Rattle.format.specs.Info.{infoSize, infoRules}
 use Rattle.format.specs.Strings.{stringLength}
 use Rattle.format.specs.Shortcut.{most}
 use Rattle.format.specs.Contents.{InfoContents, Contents}
-use Rattle.format.specs.Ranges.{FitsHeader}
 use Rattle.format.specs.Writing.{ifThere, headerBytes, itemsBytes, infoBytes, stringBytes, blocksBytes, canonical, writable, writableItems, writableInfo, writableString, writableStringOf}
+use Rattle.format.proofs.Ranges.{FitsHeader}
 use Rattle.format.proofs.Bools.{clash}
 use Rattle.format.proofs.Chains.{passed, got-elim, no-value, CutBy, Law, IfThere, ok-there, there-ok, optional-law, chainE, ChainV, chain-law}
 use Rattle.format.proofs.Holds.{all-writable, writable-all}
