@@ -23,7 +23,8 @@ use Rattle.format.specs.Listing.{Row, EndToEnd, row, blockRows, rowsOf, rowsBy,
 use Rattle.header.specs.Steps.Taken.{headerAt}
 use Rattle.header.specs.declared.HeaderTaken.{HeaderTaken}
 use Rattle.header.specs.declared.HeaderTaken.the-variants.{Got, Refused}
-use Rattle.blocks.specs.Steps.Walk.{nthPlace, NthOf}
+use Rattle.blocks.specs.Steps.Walk.{nthPlace, nthBlock}
+use Rattle.blocks.proofs.NthLaws.{nth-of}
 use Rattle.format.proofs.BlockLaws.{blocks-walked}
 use Rattle.format.proofs.AcceptedLaws.{shortcut-whole}
 use Rattle.format.proofs.FoundLaws.{read-end-to-end}
@@ -230,10 +231,10 @@ module _ (s : List ℕ) (block : ℕ) where
         rw (R .rows)
         (simp (named-append, named-row, low 7 (omega arith), append-nil) (sym (nth-section 7 (stringThere iconBit f) (o .ends .arguments) (o .ends .icon) (o .held .icon))))
 
-    pub place-8 : {b : Place} → NthOf s (o .ends .icon) block b → b ≡ sectionPlace s 8 block
+    pub place-8 : {b : Place} → b ≡ nthBlock s (o .ends .icon) block → b ≡ sectionPlace s 8 block
     unfolding sectionPlace
-    place-8 N =
-        rw (R .rows) (N .is (R .lengths) (R .count) (R .is) ∙ simp (named-append, named-row) (sym (nth-block block (o .ends .icon) (R .lengths))))
+    place-8 e =
+        rw (R .rows) (nth-of e .is (R .lengths) (R .count) (R .is) ∙ simp (named-append, named-row) (sym (nth-block block (o .ends .icon) (R .lengths))))
 
     pub place-9 : place (length s - 4) 4 ≡ sectionPlace s 9 block
     unfolding sectionPlace
