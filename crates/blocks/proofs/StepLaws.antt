@@ -13,7 +13,8 @@ use Rattle.octets.proofs.NumberLaws.{number-same}
 use Rattle.format.specs.declared.Fault.{Fault}
 use Rattle.format.specs.declared.Fault.the-variants.{Cut as CUT, Block as BLOCK}
 use Rattle.format.specs.Tests.{Outcome, got, refused, _else_, tests}
-use Rattle.format.specs.Numbers.{outcomeNumber, outcomeValue}
+use Rattle.format.specs.Numbers.{outcomeNumber}
+use Rattle.format.specs.Steps.Answers.{outcomeEnd}
 use Rattle.format.specs.Blocks.{SizeRule, signatures, sizeIn, slotOf, sizeFits, insideFits, slotAt, blockRules, blockSize, Standing, aBlock, aTerminal, blockStep}
 use Rattle.format.proofs.Bools.{by-order}
 use Rattle.format.proofs.Chains.{no-value}
@@ -66,7 +67,7 @@ module _ (s : List ℕ) where
       by : Bool → Bool → Bool → Bool → Bool → Outcome Standing
       by a b c d e = tests 0 (a else CUT ∷ []) (cond b (got aTerminal 4) (tests 0 (c else BLOCK ∷ d else CUT ∷ e else BLOCK ∷ []) (got aBlock n)))
 
-      numbered : (a b c d e : Bool) → (stepNumber (stepOf (slotAt s) (by a b c d e)) ≡ outcomeNumber (by a b c d e)) × (stepValue (stepOf (slotAt s) (by a b c d e)) ≡ outcomeValue 0 (by a b c d e))
+      numbered : (a b c d e : Bool) → (stepNumber (stepOf (slotAt s) (by a b c d e)) ≡ outcomeNumber (by a b c d e)) × (stepValue (stepOf (slotAt s) (by a b c d e)) ≡ outcomeEnd 0 (by a b c d e))
       numbered false b c d e = (refl, refl)
       numbered true true c d e = (refl, refl)
       numbered true false false d e = (refl, refl)

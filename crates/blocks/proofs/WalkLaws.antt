@@ -14,9 +14,9 @@ use Rattle.format.specs.declared.Fault.{Fault}
 use Rattle.format.specs.declared.Fault.the-variants.{Cut as CUT, Block as BLOCK}
 use Rattle.format.specs.Tests.{Outcome, got, refused, andThen}
 use Rattle.format.specs.Blocks.{slotOf, insideFits, slotAt, blockSize, aBlock, aTerminal, blockStep, blocks}
-use Rattle.format.specs.Numbers.{outcomeNumber, outcomeValue}
+use Rattle.format.specs.Numbers.{outcomeNumber}
 use Rattle.format.specs.Steps.Firsts.{firsts}
-use Rattle.format.specs.Steps.Answers.{takenNumber, takenValue}
+use Rattle.format.specs.Steps.Answers.{outcomeEnd, takenNumber, takenValue}
 use Rattle.format.specs.Shortcut.{most, sum}
 use Rattle.format.proofs.BlockLaws.{none-left, blocks-step}
 use Rattle.blocks.specs.Steps.Walk.{Sized, NoBlock, noFirsts, fieldOf, noted, notedAll, Walked, after, Passed, blocksTaken, blocksRead, AllRead, readTo, stoppedAt}
@@ -134,7 +134,7 @@ module _ (s : List ℕ) (a : ℕ) where
       number (got ls n) = refl
       number (refused f q) = refl
 
-      value : (o : Outcome (List ℕ)) → takenValue (blocksTaken a o) ≡ outcomeValue a o
+      value : (o : Outcome (List ℕ)) → takenValue (blocksTaken a o) ≡ outcomeEnd a o
       value (got ls n) = refl
       value (refused f q) = refl
 

@@ -1,5 +1,6 @@
 -- Numbers returned: the number of each fault in the table of document 01, and the number and the value of every answer.
-use Prim.Native.Nat.{ℕ, _+_}
+use Prim.Native.Nat.{ℕ}
+use mathlib.Core.Path.{_≡_}
 use Rattle.format.specs.declared.Fault.{Fault}
 use Rattle.format.specs.declared.Fault.the-variants.{Long, Cut, Magic, Head, Items, Info, Piece, Block, Trail, Place, Unwritable, Room, NoTarget}
 use Rattle.format.specs.declared.Verdict.{Verdict}
@@ -33,11 +34,16 @@ unfoldable pub answerValue : Verdict → ℕ
 answerValue (Accepted n) = n
 answerValue (Refused f p) = p
 
--- the same of what reading from p on comes to: where it ends, or the position of a refusal
+-- ---- the same of what reading or writing comes to
+
 abbrev pub outcomeNumber : {A : Type 0} → Outcome A → ℕ
 outcomeNumber (got a n) = 0
-outcomeNumber (refused f q) = numberOf f
+outcomeNumber (refused f p) = numberOf f
 
-abbrev pub outcomeValue : {A : Type 0} → ℕ → Outcome A → ℕ
-outcomeValue p (got a n) = p + n
-outcomeValue p (refused f q) = q
+abbrev pub outcomeValue : {A : Type 0} → Outcome A → ℕ
+outcomeValue (got a n) = n
+outcomeValue (refused f p) = p
+
+-- the answer has the outcome's number and value
+abbrev pub Numbered : {A : Type 0} → Verdict → Outcome A → Type 0
+Numbered v o = (answerNumber v ≡ outcomeNumber o) × (answerValue v ≡ outcomeValue o)

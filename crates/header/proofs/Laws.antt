@@ -14,7 +14,8 @@ use Rattle.octets.proofs.NumberLaws.{number-split}
 use Rattle.format.specs.declared.Header.{Header}
 use Rattle.format.specs.declared.Fault.the-variants.{Cut as CUT, Magic as MAGIC, Head as HEAD}
 use Rattle.format.specs.Tests.{Outcome, got, refused}
-use Rattle.format.specs.Numbers.{outcomeNumber, outcomeValue}
+use Rattle.format.specs.Numbers.{outcomeNumber}
+use Rattle.format.specs.Steps.Answers.{outcomeEnd}
 use Rattle.format.specs.Steps.AllTests.{all}
 use Rattle.format.specs.Header.{classIdentifier, headerSizeOk, identifierOk, flagsOk, attributesOk, zerosFrom66, headTests, signed, headerFields, header}
 use Rattle.format.specs.Hotkey.{hotkeyOk}
@@ -96,7 +97,7 @@ module _ (s : List ℕ) where
       number (got h n) = refl
       number (refused f q) = refl
 
-      value : (o : Outcome Header) → headerValue (headerTaken o) ≡ outcomeValue 0 o
+      value : (o : Outcome Header) → headerValue (headerTaken o) ≡ outcomeEnd 0 o
       value (got h n) = omega arith
       value (refused f q) = refl
 

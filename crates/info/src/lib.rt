@@ -22,7 +22,7 @@ ghost use Rattle.format.specs.Network.{networkHead, networkHeadTests, noNetwork
 ghost use Rattle.format.specs.Info.{infoHeadTests};
 ghost use Rattle.info.specs.Steps.Found.{EndSmall, fieldIf, makeText, textFound, endAt, labelAt, volumeIn, makeVolume, volumeFound};
 ghost use Rattle.info.specs.Steps.Found.{networkIf, networkIn, makeNetwork, networkFound, piecesFound};
-ghost use Rattle.info.specs.Steps.Taken.{infoAt};
+ghost use Rattle.info.specs.Steps.Taken.{InfoRead};
 
 // LinkInfo and the cursor after it, or why it is refused and where.
 pub enum InfoTaken {
@@ -462,7 +462,7 @@ fn info_pieces(l: &[u8], start: usize) -> Pieces
 // LinkInfo at the cursor; its readers are given its part of the file, from its start to its declared end.
 pub fn info(s: &[u8], c: Cursor) -> InfoTaken
     requires { ⌜ length (now s) ≤ 65536 ⌝ }
-    ensures { λ r. ⌜ r ≡ infoAt (now (s .entry)) (c .at) ⌝ }
+    ensures { λ r. ⌜ InfoRead (now (s .entry)) (c .at) r ⌝ }
 {
     let Took::Number(size, _) = c.take_u32(s) else {
         return InfoTaken::Refused(Fault::Cut, c.at);

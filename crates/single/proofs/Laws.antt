@@ -17,8 +17,8 @@ use Rattle.format.specs.declared.Place.{Place}
 use Rattle.format.specs.declared.Taken.{Taken}
 use Rattle.format.specs.declared.Taken.the-variants.{Got, Refused}
 use Rattle.format.specs.Tests.{Outcome, got, refused, place}
-use Rattle.format.specs.Numbers.{outcomeNumber, outcomeValue}
-use Rattle.format.specs.Steps.Answers.{takenNumber, takenValue}
+use Rattle.format.specs.Numbers.{outcomeNumber}
+use Rattle.format.specs.Steps.Answers.{outcomeEnd, takenNumber, takenValue}
 use Rattle.format.specs.Items.{itemList, items}
 use Rattle.format.specs.Strings.{string}
 use Rattle.format.proofs.Chains.{drop-take}
@@ -35,7 +35,7 @@ unfolding takenNumber
 taken-number p (got b n) = refl
 taken-number p (refused f q) = refl
 
-taken-value : (p : ℕ) (o : Outcome Place) → takenValue (placeTaken p o) ≡ outcomeValue p o
+taken-value : (p : ℕ) (o : Outcome Place) → takenValue (placeTaken p o) ≡ outcomeEnd p o
 unfolding takenValue
 taken-value p (got b n) = refl
 taken-value p (refused f q) = refl
