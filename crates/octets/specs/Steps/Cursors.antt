@@ -20,7 +20,7 @@ taken w s i = cond (inside s i w) (Number (numberAt w s i) (record { at = i + w 
 unfoldable pub skipped : List ℕ → ℕ → ℕ → Skipped
 skipped s i n = cond (inside s i n) (To (record { at = i + n })) (Short (record { at = i }))
 
--- the number of each answer in the table of document 01, 0 OK or 2 CUT, and its value: the number taken, or where the cursor stands then
+-- the number of each answer (FORMAT: Numbers), 0 OK or 2 CUT, and its value: the number taken, or where the cursor stands then
 unfoldable pub tookNumber : Took → ℕ
 tookNumber (Number n c) = 0
 tookNumber (Cut c) = 2
