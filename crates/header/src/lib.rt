@@ -1,4 +1,4 @@
-// The header, and the window shown.
+// The header, and the window shown (FORMAT: Header).
 use format::Fault;
 use format::Header;
 use octets::Cursor;
