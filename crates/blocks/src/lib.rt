@@ -1,4 +1,4 @@
-// Extra blocks: what stands where one is due, and the walks over them up to the terminal block.
+// Blocks (FORMAT: Blocks): what stands where one is due, and the walks over them up to the terminal block.
 use format::Fault;
 use format::Place;
 use format::Taken;

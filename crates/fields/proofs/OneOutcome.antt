@@ -10,7 +10,7 @@ pub are-record-one-outcome : OneAnswer are-record.ended are-record.Reads.Post
 are-record-one-outcome κs a r q s t p o = p ∙ sym o
 
 pub put-fields-one-outcome : OneOutcome put-fields.ended (λ κs s. now (s .0)) put-fields.Reads.Post
-put-fields-one-outcome κs a r q s t p o = (refl, p ∙ sym o)
+put-fields-one-outcome κs a r q s t p o = (refl, p .0 ∙ sym (o .0))
 
 pub record-from-one-outcome : OneAnswer record-from.ended record-from.Reads.Post
 record-from-one-outcome κs a r q s t p o = p ∙ sym o

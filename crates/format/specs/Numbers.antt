@@ -1,4 +1,4 @@
--- Numbers returned: the number of each fault in the table of document 01, and the number and the value of every answer.
+-- FORMAT: Numbers. The number of each fault, and the number and the value of every answer.
 use Prim.Native.Nat.{ℕ}
 use mathlib.Core.Path.{_≡_}
 use Rattle.format.specs.declared.Fault.{Fault}
