@@ -31,7 +31,7 @@ use Rattle.info.specs.declared.VolumeFound.{VolumeFound}
 use Rattle.info.specs.declared.NetworkFound.{NetworkFound}
 use Rattle.info.specs.declared.Pieces.{Pieces}
 use Rattle.info.specs.Steps.Found.{fieldIf, pieceOk, textFound, volumeFound, networkFound, piecesFound}
-use Rattle.info.specs.Steps.Taken.{infoTaken, infoAt, infoNumber, infoValue, InfoRead}
+use Rattle.info.specs.Steps.Taken.{infoTaken, infoAt, infoNumber, infoValue, InfoAnswer}
 use Rattle.info.proofs.TestLaws.{judge, pieces-judged, info-faults}
 use Rattle.info.proofs.TextLaws.{text-field, zero-field}
 use Rattle.info.proofs.StructLaws.{first-number}
@@ -166,7 +166,7 @@ three-pass p a b c f g h ts r i j k = rw (i, j, k)
 
 module _ (s : List ℕ) (p : ℕ) where
   -- the number and the value of the answer
-  info-read : {r : InfoTaken} → r ≡ infoAt s p → InfoRead s p r
+  info-read : {r : InfoTaken} → r ≡ infoAt s p → InfoAnswer s p r
   unfolding infoAt infoNumber infoValue
   info-read e = record { is = e; number = rw e (number (info p (drop p s))); value = rw e (value (info p (drop p s))) }
     where
@@ -178,7 +178,7 @@ module _ (s : List ℕ) (p : ℕ) where
       value (got i n) = refl
       value (refused f q) = refl
 
-  pub info-cut : length s < p + 4 → InfoRead s p (Refused CUT p)
+  pub info-cut : length s < p + 4 → InfoAnswer s p (Refused CUT p)
   unfolding infoAt
   info-cut h = info-read (rw (length-drop, lt-leb 4 (length s - p) (omega arith)))
 
@@ -189,12 +189,12 @@ module _ (s : List ℕ) (p : ℕ) where
     starts : leb 4 (length (drop p s)) ≡ true
     starts = le-leb 4 (length (drop p s)) (rw length-drop (omega arith))
 
-    pub info-small : n < 0x1C → InfoRead s p (Refused INFO p)
+    pub info-small : n < 0x1C → InfoAnswer s p (Refused INFO p)
     unfolding infoAt
     info-small h = info-read (rw (starts, size-is, lt-leb 0x1C n h))
 
     module _ (h : 0x1C ≤ n) where
-      pub info-past : length s < p + n → InfoRead s p (Refused CUT p)
+      pub info-past : length s < p + n → InfoAnswer s p (Refused CUT p)
       unfolding infoAt
       info-past g =
           let i : leb n (length (drop p s)) ≡ false = lt-leb n (length (drop p s)) (rw length-drop (omega arith)) in
@@ -219,7 +219,7 @@ module _ (s : List ℕ) (p : ℕ) where
             ∙ rules-grouped p part (got (infoFields p part) n)
             ∙ ap (λ (y : Bool). cond y (cond (all (infoPieceTests part)) (got (infoFields p part) n) (refused PIECE p)) (refused INFO p)) (sym ex))
 
-        pub info-head : not x ≡ true → InfoRead s p (Refused INFO p)
+        pub info-head : not x ≡ true → InfoAnswer s p (Refused INFO p)
         info-head t = info-read (sym (info-is ∙ rw (not-true x t)))
 
         module _ {r : Pieces} (t : not x ≡ false) (er : r ≡ piecesFound p part) where
@@ -227,10 +227,10 @@ module _ (s : List ℕ) (p : ℕ) where
           unfolding piecesFound
           judged = sym (ap (λ (y : Pieces). y .ok) er)
 
-          pub info-piece : not (r .ok) ≡ true → InfoRead s p (Refused PIECE p)
+          pub info-piece : not (r .ok) ≡ true → InfoAnswer s p (Refused PIECE p)
           info-piece o = info-read (sym (info-is ∙ rw (not-false x t, judged ∙ not-true (r .ok) o)))
 
-          pub info-got : not (r .ok) ≡ false → InfoRead s p (Got (r .info) d)
+          pub info-got : not (r .ok) ≡ false → InfoAnswer s p (Got (r .info) d)
           info-got o =
               let i : r .ok ≡ true = not-false (r .ok) o in
               info-read (rw (pieces-say p part er i) (sym (info-is ∙ rw (not-false x t, judged ∙ i, ← q))))

@@ -27,5 +27,5 @@ unfoldable pub infoValue : InfoTaken → ℕ
 infoValue (Got i c) = c .at
 infoValue (Refused f q) = q
 
-abbrev pub InfoRead : List ℕ → ℕ → InfoTaken → Type 0
-InfoRead s p r = Answers infoNumber infoValue p (info p (drop p s)) (infoAt s p) r
+abbrev pub InfoAnswer : List ℕ → ℕ → InfoTaken → Type 0
+InfoAnswer s p r = Answers infoNumber infoValue p (info p (drop p s)) (infoAt s p) r
