@@ -18,7 +18,7 @@ use Rattle.format.specs.Steps.Answers.{outcomeEnd}
 use Rattle.format.specs.Blocks.{SizeRule, signatures, sizeIn, slotOf, sizeFits, insideFits, slotAt, blockRules, blockSize, Standing, aBlock, aTerminal, blockStep}
 use Rattle.format.proofs.Bools.{by-order}
 use Rattle.format.proofs.Chains.{no-value}
-use Rattle.blocks.specs.Steps.Walk.{Sized, stepOf, bySize, stepNumber, stepValue, StepRead, Told, Stands}
+use Rattle.blocks.specs.Steps.Walk.{Sized, stepOf, bySize, stepNumber, stepValue, StepAnswer, Told, Stands}
 use Rattle.blocks.specs.declared.BlockStep.{BlockStep}
 use Rattle.blocks.specs.declared.BlockStep.the-variants.{Block, Terminal, Refused as NotOne}
 
@@ -51,11 +51,11 @@ size-other k n r =
 
 -- a way out of the step: what it answers, and what reading says of it
 abbrev Way : List ℕ → BlockStep → Type 0
-Way s t = StepRead s t × Told s t
+Way s t = StepAnswer s t × Told s t
 
 module _ (s : List ℕ) where
   -- the number and the value of the answer
-  pub step-read : {t : BlockStep} → t ≡ bySize s → StepRead s t
+  pub step-read : {t : BlockStep} → t ≡ bySize s → StepAnswer s t
   unfolding bySize stepNumber stepValue
   step-read e =
       let z = numbered (leb 4 (length s)) (ltb n 4) (leb 8 n) (leb n (length s)) (sizeFits (slotAt s) n) in
@@ -174,7 +174,7 @@ module _ (s y : List ℕ) {n k : ℕ} (z : Sized s n k) where
 
 -- from what the code answers to its facts
 module _ (s : List ℕ) {t : BlockStep} where
-  module _ (h : StepRead s t) where
+  module _ (h : StepAnswer s t) where
     told-as : {u : BlockStep} → t ≡ u → Told s u
     told-as e = rw (sym (h .is) ∙ e) at (told s)
 

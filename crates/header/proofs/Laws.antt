@@ -23,7 +23,7 @@ use Rattle.format.proofs.Bools.{and-true, and-both, same-truth, joined-every}
 use Rattle.format.proofs.Chains.{one-fault}
 use Rattle.header.specs.declared.HeaderTaken.{HeaderTaken}
 use Rattle.header.specs.declared.HeaderTaken.the-variants.{Got, Refused}
-use Rattle.header.specs.Steps.Taken.{headerTaken, headerAt, headerNumber, headerValue, HeaderRead}
+use Rattle.header.specs.Steps.Taken.{headerTaken, headerAt, headerNumber, headerValue, HeaderAnswer}
 
 -- sixteen bytes are four numbers
 sixteen : (l : List ℕ) → 20 ≤ length l → numberAt 16 l 4 ≡ u32At l 4 + 4294967296 * (u32At l 8 + 4294967296 * (u32At l 12 + 4294967296 * u32At l 16))
@@ -89,7 +89,7 @@ head-are l {a = a} {b = b} {c = c} {d = d} ef ea eg eb eh ec ed = joined-every a
 
 module _ (s : List ℕ) where
   -- the number and the value of the answer
-  header-read : {r : HeaderTaken} → r ≡ headerAt s → HeaderRead s r
+  header-read : {r : HeaderTaken} → r ≡ headerAt s → HeaderAnswer s r
   unfolding headerAt headerNumber headerValue
   header-read e = record { is = e; number = rw e (number (header 0 s)); value = rw e (value (header 0 s)) }
     where
@@ -101,7 +101,7 @@ module _ (s : List ℕ) where
       value (got h n) = omega arith
       value (refused f q) = refl
 
-  pub header-cut : length s < 76 → HeaderRead s (Refused CUT 0)
+  pub header-cut : length s < 76 → HeaderAnswer s (Refused CUT 0)
   unfolding headerAt
   header-cut h = header-read (rw (lt-leb 76 (length s) h))
 
@@ -110,12 +110,12 @@ module _ (s : List ℕ) where
     sized : {x : Bool} → a ≡ x → headerSizeOk (u32At (take 76 s) 0) ≡ x
     sized t = ap headerSizeOk (sym en) ∙ sym ea ∙ t
 
-    pub header-size : not a ≡ true → HeaderRead s (Refused MAGIC 0)
+    pub header-size : not a ≡ true → HeaderAnswer s (Refused MAGIC 0)
     unfolding headerAt
     header-size t = header-read (rw (le-leb 76 (length s) whole, sized (not-true a t)))
 
     module _ (ta : not a ≡ false) {b : Bool} (eb : b ≡ identifierOk (take 76 s)) where
-      pub header-identifier : not b ≡ true → HeaderRead s (Refused MAGIC 0)
+      pub header-identifier : not b ≡ true → HeaderAnswer s (Refused MAGIC 0)
       unfolding headerAt
       header-identifier t = header-read (rw (le-leb 76 (length s) whole, sized (not-false a ta), sym eb ∙ not-true b t))
 
@@ -129,10 +129,10 @@ module _ (s : List ℕ) where
             rw (le-leb 76 (length s) whole, sized (not-false a ta), sym eb ∙ not-false b tb)
             (ap headerTaken (g ∙ ap (λ (x : Bool). cond x r (refused HEAD 0)) (sym ek)))
 
-        pub header-head : not k ≡ true → HeaderRead s (Refused HEAD 0)
+        pub header-head : not k ≡ true → HeaderAnswer s (Refused HEAD 0)
         header-head t = header-read (sym (judged ∙ rw (not-true k t)))
 
-        pub header-got : {h : Header} → not k ≡ false → h ≡ headerFields (take 76 s) → HeaderRead s (Got h (record { at = 76 }))
+        pub header-got : {h : Header} → not k ≡ false → h ≡ headerFields (take 76 s) → HeaderAnswer s (Got h (record { at = 76 }))
         header-got t e = header-read (rw e (sym (judged ∙ rw (not-false k t))))
 
 pub fields-are : (l : List ℕ) {a b c d e f h j : ℕ} {i : ℤ} → a ≡ u32At l 20 → b ≡ u32At l 24 → c ≡ u64At l 28 → d ≡ u64At l 36 → e ≡ u64At l 44 → f ≡ u32At l 52

@@ -37,7 +37,7 @@ use Rattle.reader.specs.declared.Step.{Step}
 use Rattle.reader.specs.declared.InfoStep.{InfoStep}
 use Rattle.reader.specs.declared.BlocksStep.{BlocksStep}
 use Rattle.reader.specs.Steps.EachSection.{itemsStep, stringStep, infoStep, blocksStep, atOf, endsOf, outlineFrom}
-use Rattle.reader.specs.Steps.Finish.{refusedAt, finished, outlineOff, outlineAfter, outlineOf, FirstsOf, nextNumber, nextValue, toTerminal, OutlineRead, ending, Finishes}
+use Rattle.reader.specs.Steps.Finish.{refusedAt, finished, outlineOff, outlineAfter, outlineOf, FirstsOf, nextNumber, nextValue, toTerminal, OutlineAnswer, ending, FinishAnswer}
 use Rattle.reader.proofs.Runs.{Reached, Runs, sectionOf, then-from, on-not-off}
 use Rattle.reader.proofs.StepLaws.{items-from, string-from, info-from, BlocksFact, blocks-from}
 
@@ -279,7 +279,7 @@ unfolding nextValue
 next-value (got c n) = omega arith
 next-value (refused f p) = refl
 
-finishes : (n : ℕ) (t : Next) (r : Record) {g : Reading} → g ≡ finished n t r → Finishes n t r g
+finishes : (n : ℕ) (t : Next) (r : Record) {g : Reading} → g ≡ finished n t r → FinishAnswer n t r g
 unfolding finished refusedAt answerNumber answerValue
 finishes n (On c) r e = record { is = e; number = rw e (number (eqb (c .at) n)); value = rw e (value (eqb (c .at) n)) }
   where
@@ -304,15 +304,15 @@ read-numbered s e = numbered (shortcut s) e
 
 -- the ways out of finishing: the cursor stands at the shortcut's end, or before it, or there was a refusal
 module _ (n : ℕ) (t : Next) (r : Record) where
-  pub finished-whole : {c : Cursor} → t ≡ On c → c .at ≡ n → Finishes n t r (record { verdict = Accepted (c .at); held = r })
+  pub finished-whole : {c : Cursor} → t ≡ On c → c .at ≡ n → FinishAnswer n t r (record { verdict = Accepted (c .at); held = r })
   unfolding finished
   finished-whole e k = finishes n t r (rw (e, eq-eqb _ _ k))
 
-  pub finished-trail : {c : Cursor} {g : Reading} → t ≡ On c → (c .at ≡ n → ⊥) → g ≡ refusedAt TRAIL (c .at) → Finishes n t r g
+  pub finished-trail : {c : Cursor} {g : Reading} → t ≡ On c → (c .at ≡ n → ⊥) → g ≡ refusedAt TRAIL (c .at) → FinishAnswer n t r g
   unfolding finished
   finished-trail e k i = finishes n t r (rw (e, ne-eqb _ _ k) i)
 
-  pub finished-off : {f : Fault} {p : ℕ} {g : Reading} → t ≡ Off f p → g ≡ refusedAt f p → Finishes n t r g
+  pub finished-off : {f : Fault} {p : ℕ} {g : Reading} → t ≡ Off f p → g ≡ refusedAt f p → FinishAnswer n t r g
   unfolding finished
   finished-off e i = finishes n t r (rw e i)
 
@@ -385,23 +385,23 @@ module _ (s : List ℕ) where
       go true k = after (headerAt s) refl
       go false k = refl
 
-  outlined : {o : Outline} → o ≡ outlineOf s → OutlineRead s o
+  outlined : {o : Outline} → o ≡ outlineOf s → OutlineAnswer s o
   outlined e = record { is = e; number = rw (e, ← outline-next) (next-number (toTerminal s)); value = rw (e, ← outline-next) (next-value (toTerminal s)) }
 
-  pub outline-long : {o : Outline} → most < length s → o ≡ outlineOff LONG 65536 → OutlineRead s o
+  pub outline-long : {o : Outline} → most < length s → o ≡ outlineOff LONG 65536 → OutlineAnswer s o
   unfolding outlineOf
   outline-long h e = outlined (rw (lt-leb (length s) most h) e)
 
-  pub outline-got : {o : Outline} {t : HeaderTaken} {h : Header} {c : Cursor} → length s ≤ most → t ≡ headerAt s → t ≡ Got h c → o ≡ outlineFrom s h c → OutlineRead s o
+  pub outline-got : {o : Outline} {t : HeaderTaken} {h : Header} {c : Cursor} → length s ≤ most → t ≡ headerAt s → t ≡ Got h c → o ≡ outlineFrom s h c → OutlineAnswer s o
   unfolding outlineOf
   outline-got k e q r = outlined (rw (le-leb (length s) most k, ← e, q) r)
 
-  pub outline-refused : {o : Outline} {t : HeaderTaken} {f : Fault} {q : ℕ} → length s ≤ most → t ≡ headerAt s → t ≡ Refused f q → o ≡ outlineOff f q → OutlineRead s o
+  pub outline-refused : {o : Outline} {t : HeaderTaken} {f : Fault} {q : ℕ} → length s ≤ most → t ≡ headerAt s → t ≡ Refused f q → o ≡ outlineOff f q → OutlineAnswer s o
   unfolding outlineOf
   outline-refused k e i r = outlined (rw (le-leb (length s) most k, ← e, i) r)
 
   -- the outline, finished, is the reading
-  pub outline-read : {o : Outline} {r : Reading} → OutlineRead s o → Finishes (length s) (o .next) (o .held) r → r ≡ reading s
+  pub outline-read : {o : Outline} {r : Reading} → OutlineAnswer s o → FinishAnswer (length s) (o .next) (o .held) r → r ≡ reading s
   unfolding outlineOf outlineOff finished
   outline-read {o} {r} O F = go (leb (length s) most) refl (O .is)
     where
@@ -420,7 +420,7 @@ module _ (s : List ℕ) where
       go false k x = q ∙ rw x (long-reading s (leb-false (length s) most k))
 
   -- the row of an accepted shortcut is that of its blocks
-  pub first-accepted : {o : Outline} {r : Reading} {n : ℕ} → OutlineRead s o → Finishes (length s) (o .next) (o .held) r → r .verdict ≡ Accepted n → FirstsOf s (r .held) (o .firsts)
+  pub first-accepted : {o : Outline} {r : Reading} {n : ℕ} → OutlineAnswer s o → FinishAnswer (length s) (o .next) (o .held) r → r .verdict ≡ Accepted n → FirstsOf s (r .held) (o .firsts)
   unfolding outlineOf outlineOff finished refusedAt
   first-accepted {o} {r} {n} O F v = ended (o .next) refl (F .is)
     where

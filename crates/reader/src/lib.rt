@@ -19,7 +19,7 @@ ghost use Rattle.format.specs.Shortcut.{shortcut, reading};
 ghost use Rattle.format.specs.Tests.{noPlace};
 ghost use Rattle.blocks.specs.Steps.Walk.{noFirsts};
 ghost use Rattle.reader.specs.Steps.EachSection.{step, stepInfo, settled, itemsOn, itemsStep, stringOn, stringStep, infoOn, infoStep, stepBlocks, blocksOn, blocksStep, atOf, endsOf, outlineFrom};
-ghost use Rattle.reader.specs.Steps.Finish.{refusedAt, outlineOff, OutlineRead, Finishes};
+ghost use Rattle.reader.specs.Steps.Finish.{refusedAt, outlineOff, OutlineAnswer, FinishAnswer};
 
 // Going on from the cursor, or refused with a fault at a position.
 pub enum Next {
@@ -318,7 +318,7 @@ fn outline_off(f: Fault, at: usize) -> Outline
 
 // What stands where: every section that was reached, the record, and how it went on.
 pub fn outline_of(s: &[u8]) -> Outline
-    ensures { λ r. ⌜ OutlineRead (now (s .entry)) r ⌝ }
+    ensures { λ r. ⌜ OutlineAnswer (now (s .entry)) r ⌝ }
 {
     if 65536 < s.len() {
         return outline_off(Fault::Long, 65536);
@@ -340,7 +340,7 @@ fn refused(f: Fault, at: usize) -> Reading
 
 // n is the shortcut's length.
 pub fn finish(n: usize, next: Next, held: Record) -> Reading
-    ensures { λ r. ⌜ Finishes n next held r ⌝ }
+    ensures { λ r. ⌜ FinishAnswer n next held r ⌝ }
 {
     match next {
         Next::On(c) => {

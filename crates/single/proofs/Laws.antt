@@ -23,7 +23,7 @@ use Rattle.format.specs.Items.{itemList, items}
 use Rattle.format.specs.Strings.{string}
 use Rattle.format.proofs.Chains.{drop-take}
 use Rattle.format.proofs.ItemsLaws.{ends}
-use Rattle.single.specs.Steps.Taken.{placeTaken, stringAt, itemsAt, StringRead, ItemsRead}
+use Rattle.single.specs.Steps.Taken.{placeTaken, stringAt, itemsAt, StringAnswer, ItemsAnswer}
 
 -- the first number of what is left
 first : (s : List ℕ) (p : ℕ) → u16At (drop p s) 0 ≡ u16At s p
@@ -43,11 +43,11 @@ taken-value p (refused f q) = refl
 -- ---- strings
 
 module _ (u : Bool) (s : List ℕ) (p : ℕ) where
-  string-read : {r : Taken} → r ≡ stringAt u s p → StringRead u s p r
+  string-read : {r : Taken} → r ≡ stringAt u s p → StringAnswer u s p r
   unfolding stringAt
   string-read e = let o = string u p (drop p s) in record { is = e; number = rw e (taken-number p o); value = rw e (taken-value p o) }
 
-  pub string-no-count : length s < p + 2 → StringRead u s p (Refused CUT p)
+  pub string-no-count : length s < p + 2 → StringAnswer u s p (Refused CUT p)
   unfolding stringAt
   string-no-count h = string-read (rw (lt-leb 2 (length (drop p s)) (omega (arith, length-drop p s))))
 
@@ -56,13 +56,13 @@ module _ (u : Bool) (s : List ℕ) (p : ℕ) where
     size : bytesOf u (u16At (drop p s) 0) ≡ n
     size = ap (bytesOf u) (first s p ∙ sym e) ∙ sym q
 
-    pub string-cut : length s < a + n → StringRead u s p (Refused CUT p)
+    pub string-cut : length s < a + n → StringAnswer u s p (Refused CUT p)
     unfolding stringAt
     string-cut o =
         let d = length-drop p s in
         string-read (rw (size, le-leb 2 (length (drop p s)) (omega arith), lt-leb (2 + n) (length (drop p s)) (omega arith)))
 
-    pub string-got : {c : Cursor} → a + n ≤ length s → c .at ≡ a + n → StringRead u s p (Got (place a n) c)
+    pub string-got : {c : Cursor} → a + n ≤ length s → c .at ≡ a + n → StringAnswer u s p (Got (place a n) c)
     unfolding stringAt
     string-got {c} o z =
         let d = length-drop p s in
@@ -72,17 +72,17 @@ module _ (u : Bool) (s : List ℕ) (p : ℕ) where
 -- ---- the item list
 
 module _ (s : List ℕ) (p : ℕ) where
-  items-read : {r : Taken} → r ≡ itemsAt s p → ItemsRead s p r
+  items-read : {r : Taken} → r ≡ itemsAt s p → ItemsAnswer s p r
   unfolding itemsAt
   items-read e = let o = items p (drop p s) in record { is = e; number = rw e (taken-number p o); value = rw e (taken-value p o) }
 
-  pub items-no-size : length s < p + 2 → ItemsRead s p (Refused CUT p)
+  pub items-no-size : length s < p + 2 → ItemsAnswer s p (Refused CUT p)
   unfolding itemsAt
   items-no-size h = items-read (rw (lt-leb 2 (length (drop p s)) (omega (arith, length-drop p s))))
 
   -- a is where the items stand, and z where they end
   module _ {n a : ℕ} (h : p + 2 ≤ length s) (e : n ≡ u16At s p) (at : a ≡ p + 2) where
-    pub items-cut : length s < a + n → ItemsRead s p (Refused CUT p)
+    pub items-cut : length s < a + n → ItemsAnswer s p (Refused CUT p)
     unfolding itemsAt
     items-cut o =
         let d = length-drop p s in
@@ -94,7 +94,7 @@ module _ (s : List ℕ) (p : ℕ) where
           let k : z - a ≡ n = omega arith in
           ap itemList (drop-take 2 n (drop p s) ∙ ap (take n) (drop-drop 2 p s)) ∙ sym (rw (k, at) at r)
 
-      pub items-bad : not b ≡ true → ItemsRead s p (Refused ITEMS p)
+      pub items-bad : not b ≡ true → ItemsAnswer s p (Refused ITEMS p)
       unfolding itemsAt
       items-bad t =
           let d = length-drop p s in
@@ -106,7 +106,7 @@ module _ (s : List ℕ) (p : ℕ) where
           let l = ap length (y .1) ∙ length-append (y .0) (0 ∷ 0 ∷ []) in
           omega (arith, length-take (z - a) (drop a s))
 
-      pub items-got : {c : Cursor} → not b ≡ false → c .at ≡ z → ItemsRead s p (Got (place a (n - 2)) c)
+      pub items-got : {c : Cursor} → not b ≡ false → c .at ≡ z → ItemsAnswer s p (Got (place a (n - 2)) c)
       unfolding itemsAt
       items-got {c} t q =
           let d = length-drop p s in

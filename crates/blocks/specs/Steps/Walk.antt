@@ -57,8 +57,8 @@ stepValue (Block n k) = n
 stepValue Terminal = 4
 stepValue (NotOne f) = 0
 
-abbrev pub StepRead : List ℕ → BlockStep → Type 0
-StepRead s t = Answers stepNumber stepValue 0 (sizeStep s) (bySize s) t
+abbrev pub StepAnswer : List ℕ → BlockStep → Type 0
+StepAnswer s t = Answers stepNumber stepValue 0 (sizeStep s) (bySize s) t
 
 -- what reading says of that step
 abbrev pub Told : List ℕ → BlockStep → Type 0
@@ -98,9 +98,9 @@ notedAll s p [] row = row
 notedAll s p (n ∷ ns) row = notedAll s (p + n) ns (noted row (slotAt (drop p s)) (fieldOf p))
 
 -- blocks of these lengths stand from a on, up to p
-abbrev pub Walked : List ℕ → ℕ → List ℕ → ℕ → Type 0
-Walked s a [] p = a ≡ p
-Walked s a (n ∷ ns) p = (blockStep a (drop a s) ≡ got aBlock n) × Walked s (a + n) ns p
+abbrev pub BlocksTo : List ℕ → ℕ → List ℕ → ℕ → Type 0
+BlocksTo s a [] p = a ≡ p
+BlocksTo s a (n ∷ ns) p = (blockStep a (drop a s) ≡ got aBlock n) × BlocksTo s (a + n) ns p
 
 -- what is read after blocks of these lengths
 abbrev pub after : List ℕ → Outcome (List ℕ) → Outcome (List ℕ)
@@ -111,7 +111,7 @@ pub record Passed (s : List ℕ) (a p : ℕ) (row : List ℕ) : Type 0 where
   pub lengths : List ℕ
   pub adds : p ≡ a + sum lengths
   pub inside : p ≤ length s
-  pub walked : Walked s a lengths p
+  pub walked : BlocksTo s a lengths p
   pub notes : row ≡ notedAll s a lengths noFirsts
   pub is : (y : List ℕ) → blocks a (drop a (s ++ y)) ≡ after lengths (blocks p (drop p (s ++ y)))
   pub first : length s ≤ most → row ≡ firsts s a lengths
@@ -129,8 +129,8 @@ firstsBy s p (refused f q) = noFirsts
 unfoldable pub blocksRead : List ℕ → ℕ → BlocksRead
 blocksRead s p = record { taken = blocksTaken p (blocks p (drop p s)); firsts = firstsBy s p (blocks p (drop p s)) }
 
-abbrev pub AllRead : List ℕ → ℕ → BlocksRead → Type 0
-AllRead s p r = Answers (λ (b : BlocksRead). takenNumber (b .taken)) (λ (b : BlocksRead). takenValue (b .taken)) p (blocks p (drop p s)) (blocksRead s p) r
+abbrev pub BlocksAnswer : List ℕ → ℕ → BlocksRead → Type 0
+BlocksAnswer s p r = Answers (λ (b : BlocksRead). takenNumber (b .taken)) (λ (b : BlocksRead). takenValue (b .taken)) p (blocks p (drop p s)) (blocksRead s p) r
 
 abbrev pub readTo : ℕ → ℕ → List ℕ → BlocksRead
 readTo a p row = record { taken = Got (place a (p - a)) (record { at = p + 4 }); firsts = row }

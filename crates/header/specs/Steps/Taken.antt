@@ -25,5 +25,5 @@ unfoldable pub headerValue : HeaderTaken → ℕ
 headerValue (Got h c) = c .at
 headerValue (Refused f q) = q
 
-abbrev pub HeaderRead : List ℕ → HeaderTaken → Type 0
-HeaderRead s r = Answers headerNumber headerValue 0 (header 0 s) (headerAt s) r
+abbrev pub HeaderAnswer : List ℕ → HeaderTaken → Type 0
+HeaderAnswer s r = Answers headerNumber headerValue 0 (header 0 s) (headerAt s) r

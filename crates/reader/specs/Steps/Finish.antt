@@ -71,13 +71,13 @@ nextValue (Off f p) = p
 abbrev pub toTerminal : List ℕ → Outcome Sections
 toTerminal s = tests most (leb (length s) most else LONG ∷ []) (sections 0 s)
 
-abbrev pub OutlineRead : List ℕ → Outline → Type 0
-OutlineRead s r = Answers (λ (o : Outline). nextNumber (o .next)) (λ (o : Outline). nextValue (o .next)) 0 (toTerminal s) (outlineOf s) r
+abbrev pub OutlineAnswer : List ℕ → Outline → Type 0
+OutlineAnswer s r = Answers (λ (o : Outline). nextNumber (o .next)) (λ (o : Outline). nextValue (o .next)) 0 (toTerminal s) (outlineOf s) r
 
 -- the terminal block ends at the cursor; bytes after it: TRAIL
 abbrev pub ending : ℕ → Next → Outcome Next
 ending n (On c) = tests (c .at) (eqb (c .at) n else TRAIL ∷ []) (got (On c) (c .at))
 ending n (Off f p) = refused f p
 
-abbrev pub Finishes : ℕ → Next → Record → Reading → Type 0
-Finishes n next held r = Answers (λ (g : Reading). answerNumber (g .verdict)) (λ (g : Reading). answerValue (g .verdict)) 0 (ending n next) (finished n next held) r
+abbrev pub FinishAnswer : ℕ → Next → Record → Reading → Type 0
+FinishAnswer n next held r = Answers (λ (g : Reading). answerNumber (g .verdict)) (λ (g : Reading). answerValue (g .verdict)) 0 (ending n next) (finished n next held) r

@@ -22,8 +22,8 @@ stringAt unicode s p = placeTaken p (string unicode p (drop p s))
 unfoldable pub itemsAt : List ℕ → ℕ → Taken
 itemsAt s p = placeTaken p (items p (drop p s))
 
-abbrev pub StringRead : Bool → List ℕ → ℕ → Taken → Type 0
-StringRead unicode s p r = Answers takenNumber takenValue p (string unicode p (drop p s)) (stringAt unicode s p) r
+abbrev pub StringAnswer : Bool → List ℕ → ℕ → Taken → Type 0
+StringAnswer unicode s p r = Answers takenNumber takenValue p (string unicode p (drop p s)) (stringAt unicode s p) r
 
-abbrev pub ItemsRead : List ℕ → ℕ → Taken → Type 0
-ItemsRead s p r = Answers takenNumber takenValue p (items p (drop p s)) (itemsAt s p) r
+abbrev pub ItemsAnswer : List ℕ → ℕ → Taken → Type 0
+ItemsAnswer s p r = Answers takenNumber takenValue p (items p (drop p s)) (itemsAt s p) r
