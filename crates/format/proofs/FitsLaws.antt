@@ -45,24 +45,24 @@ magnitude-fits (negsuc n) h = h
 -- a struct's value has its fields' values, and a number's is below the power of two that its type has
 pub type-fits : (r : Record) (vs : List Val) → Is the-row r vs → FitsRecord r
 type-fits r vs g =
-    let fields = g .1 .1 in
-    let h = fields .0 .1 .1 in
-    let i = fields .1 .1 .0 .1 .1 in
-    let v = i .1 .1 .0 .1 .1 in
-    let n = i .1 .1 .1 .1 .0 .1 .1 in
+    let (header, (items, (info, others))) = g .1 .1 in
+    let (flags, (attributes, (creation, (access, (write, (size, (icon, (command, (hotkey, z))))))))) = header .1 .1 in
+    let (infoFlags, (long, (volume, (local, (network, texts))))) = info .1 .1 in
+    let (drive, (serial, label)) = volume .1 .1 in
+    let (networkFlags, (provider, names)) = network .1 .1 in
     record {
       header = record {
-        flags = h .0 .1;
-        attributes = h .1 .0 .1;
-        creation = h .1 .1 .0 .1;
-        access = h .1 .1 .1 .0 .1;
-        write = h .1 .1 .1 .1 .0 .1;
-        «file_size» = h .1 .1 .1 .1 .1 .0 .1;
-        «icon_index» = magnitude-fits (r .header .«icon_index») (h .1 .1 .1 .1 .1 .1 .0 .1);
-        command = h .1 .1 .1 .1 .1 .1 .1 .0 .1;
-        hotkey = h .1 .1 .1 .1 .1 .1 .1 .1 .0 .1;
+        flags = flags .1;
+        attributes = attributes .1;
+        creation = creation .1;
+        access = access .1;
+        write = write .1;
+        «file_size» = size .1;
+        «icon_index» = magnitude-fits (r .header .«icon_index») (icon .1);
+        command = command .1;
+        hotkey = hotkey .1;
       };
-      info = record { flags = i .0 .1; drive = v .0 .1; serial = v .1 .0 .1; networkFlags = n .0 .1; provider = n .1 .0 .1 };
+      info = record { flags = infoFlags .1; drive = drive .1; serial = serial .1; networkFlags = networkFlags .1; provider = provider .1 };
     }
 
 -- ---- what is read from bytes

@@ -32,3 +32,4 @@ pub mod KeyDemands
 pub mod KeyRoom
 pub mod KeySame
 pub mod ProbeLaws
+pub mod OneOutcome

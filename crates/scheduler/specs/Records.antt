@@ -1,4 +1,4 @@
--- Reading into fields and writing from them: the slice of numbers is tested first.
+-- FORMAT: Numbers that fit. Reading into fields and writing from them: the slice of numbers is tested first.
 use Prim.Native.Nat.{ℕ}
 use mathlib.Core.Path.{_≡_}
 use mathlib.Core.List.{List}

@@ -1,4 +1,4 @@
-// What the scheduler calls: a number for each answer, its number and its value in one.
+// What the scheduler calls (FORMAT: The C answers): a number for each answer, its number and its value in one.
 use format::Verdict;
 ghost use mathlib.Core.Path.{_≡_};
 ghost use Prim.Native.Nat.{_≤_};
