@@ -1,4 +1,4 @@
--- The demands, proved of the definitions. Nothing is assumed but what types give: bytes are below 256, numbers fit their fields.
+-- The demands, proved of the definitions. Laws that write ask for what types give, bytes below 256 and numbers that fit their fields; no call asks it.
 use mathlib.Core.Path.{_≡_, refl, sym, ap, _∙_}
 use mathlib.Core.List.{List, [], _∷_, map}
 use mathlib.Core.Logic.{_↔_}
@@ -111,19 +111,8 @@ same-through d r e q f t p k = p ∙ k
 
 -- ---- Demand 3: the writer gives up only when it has to. r is a record over the body buffer d
 
-module _ (r : Record) (d : List ℕ) (fits : FitsRecord r) (bs : Bytes d) where
-  bytes-made : writable (contents d r) ≡ true → Bytes (canonical (contents d r))
-  bytes-made e = canonical-bytes (contents d r) ((can-valid (contents d r) (record-typed d bs r fits) e) .0)
-
-  -- what is written for a record reads back as the same record
-  pub reads-back : writable (contents d r) ≡ true → ReadsAs (canonical (contents d r)) r d
-  unfolding Same Accepts
-  reads-back e =
-      let w : List ℕ = canonical (contents d r) in
-      let f = decode-accepted w (contents d r) (length w) (writes (contents d r) (record-typed d bs r fits) e) in
-      record { bytes = bytes-made e; held = f .held; accepted = f .is; same = f .same }
-
-  -- no accepted shortcut that reads as the record is shorter
+module _ (r : Record) (d : List ℕ) where
+  -- no accepted shortcut that reads as the record is shorter than what is written
   pub none-shorter : (s : List ℕ) → ReadsAs s r d → length (canonical (contents d r)) ≤ length s
   unfolding Same Accepts
   none-shorter s x =
@@ -138,33 +127,44 @@ module _ (r : Record) (d : List ℕ) (fits : FitsRecord r) (bs : Bytes d) where
       let i = accepted-decode s (x .held) (length s) (x .accepted) in
       refuses (contents d r) e s (length s) (x .bytes) (rw (x .same) at i)
 
-  pub none-unwritable : ((s : List ℕ) → ReadsAs s r d → ⊥) → writable (contents d r) ≡ false
-  none-unwritable h = go (writable (contents d r)) refl
-    where
-      go : (b : Bool) → writable (contents d r) ≡ b → b ≡ false
-      go true e = absurd (h (canonical (contents d r)) (reads-back e))
-      go false e = refl
+  -- FitsLaws has what gives the first; a slice's type gives the second
+  module _ (fits : FitsRecord r) (bytes : Bytes d) where
+    -- what is written reads back as the record
+    pub reads-back : writable (contents d r) ≡ true → ReadsAs (canonical (contents d r)) r d
+    unfolding Same Accepts
+    reads-back e =
+        let c : Contents = contents d r in
+        let t = record-typed d bytes r fits in
+        let f = decode-accepted (canonical c) c (length (canonical c)) (writes c t e) in
+        record { bytes = canonical-bytes c ((can-valid c t e) .0); held = f .held; accepted = f .is; same = f .same }
 
-  -- the writer ends as demand 3 says, whatever the room
-  pub the-writer : (out : List ℕ) → Ends r d out (writeAnswer r d out) (writeOutput r d out)
-  unfolding writing outputOf writeAnswer writeOutput
-  the-writer out = go (placed (length d) r) refl (writable c) refl (leb (length w) (length out)) refl
-    where
-      c : Contents
-      c = contents d r
+    pub none-unwritable : ((s : List ℕ) → ReadsAs s r d → ⊥) → writable (contents d r) ≡ false
+    none-unwritable h = go (writable (contents d r)) refl
+      where
+        go : (b : Bool) → writable (contents d r) ≡ b → b ≡ false
+        go true e = absurd (h (canonical (contents d r)) (reads-back e))
+        go false e = refl
 
-      w : List ℕ
-      w = canonical c
+    -- the writer ends as demand 3 says, whatever the room
+    pub the-writer : (out : List ℕ) → Ends r d out (writeAnswer r d out) (writeOutput r d out)
+    unfolding writing outputOf writeAnswer writeOutput
+    the-writer out = go (placed (length d) r) refl (writable c) refl (leb (length w) (length out)) refl
+      where
+        c : Contents
+        c = contents d r
 
-      answered : Bool → Bool → Bool → Outcome (List ℕ)
-      answered a b e = cond a (cond b (cond e (got w (length w)) (refused ROOM 0)) (refused UNWRITABLE 0)) (refused PLACE 0)
+        w : List ℕ
+        w = canonical c
 
-      go : (a : Bool) → placed (length d) r ≡ a → (b : Bool) → writable c ≡ b → (e : Bool) → leb (length w) (length out) ≡ e
-          → Ends r d out (verdictOf (answered a b e)) (outputOf (answered a b e) out)
-      go true p true i true q = written w p (reads-back i) (leb-true _ _ q) none-shorter
-      go true p true i false q = no-room w p (reads-back i) (λ s x. let k = none-shorter s x in omega (arith, leb-false (length w) (length out) q))
-      go true p false i e q = unwritable p (unwritable-none i)
-      go false p b i e q = misplaced p
+        answered : Bool → Bool → Bool → Outcome (List ℕ)
+        answered a b e = cond a (cond b (cond e (got w (length w)) (refused ROOM 0)) (refused UNWRITABLE 0)) (refused PLACE 0)
+
+        go : (a : Bool) → placed (length d) r ≡ a → (b : Bool) → writable c ≡ b → (e : Bool) → leb (length w) (length out) ≡ e
+            → Ends r d out (verdictOf (answered a b e)) (outputOf (answered a b e) out)
+        go true p true i true q = written w p (reads-back i) (leb-true _ _ q) none-shorter
+        go true p true i false q = no-room w p (reads-back i) (λ s x. let k = none-shorter s x in omega (arith, leb-false (length w) (length out) q))
+        go true p false i e q = unwritable p (unwritable-none i)
+        go false p b i e q = misplaced p
 
 -- what it comes to for a call that has ended so, if no present body passes its buffer
 module _ {r : Record} {d out : List ℕ} (p : placed (length d) r ≡ true) where

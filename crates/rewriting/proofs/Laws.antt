@@ -32,7 +32,7 @@ kept s r out e b l z = go z
     go (misplaced q) = clash (bodies-inside s r e) q
     go (unwritable q h) = absurd (h s itself)
     go (no-room w q y h) = absurd (let z = h s itself in omega arith)
-    go (written w q y k h) = record { form = w; reads = y; short = h s itself; answer = refl; output = refl }
+    go (written w q y k h) = record { form = w; reads = y; least = h; short = h s itself; answer = refl; output = refl }
 
 -- what the call says of its answer v and its buffer x
 abbrev RewriteCall : List ℕ → List ℕ → Verdict → List ℕ → Type 0

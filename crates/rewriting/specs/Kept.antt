@@ -14,7 +14,8 @@ pub record Kept (s : List ℕ) (r : Record) (out : List ℕ) (v : Verdict) (x : 
   -- it is accepted and reads as the same record
   pub form : List ℕ
   pub reads : ReadsAs form r s
-  -- and is not longer
+  -- nothing that reads so is shorter, and so it is not longer than s
+  pub least : (t : List ℕ) → ReadsAs t r s → length form ≤ length t
   pub short : length form ≤ length s
   pub answer : v ≡ Accepted (length form)
   pub output : x ≡ put out 0 form
