@@ -18,7 +18,7 @@ ghost use Rattle.lines.specs.Steps.Windows.{Showed};
 ghost use Rattle.lines.specs.Steps.Pieces.{textOf};
 
 // So many bytes of the text are still to be passed over; so many of the buffer are filled.
-pub struct Window {
+pub(crate) struct Window {
     pub skip: usize,
     pub at: usize,
 }
