@@ -22,7 +22,7 @@ abbrev μ-loop : tie.MeasureT-loop
 μ-loop out₀ s from w p₀ t8 t9 out next p = length s - p
 
 returns : tie.Need-returns Inv-loop μ-loop
-returns c = blocks-outside _ _ _ _ (c .if1 .taken)
+returns c = blocks-outside _ _ _ _ (omega arith)
 
 loop-holds : tie.Need-loop-holds Inv-loop μ-loop
 loop-holds c = ((omega arith, omega arith, refl), λ x r h. h)
