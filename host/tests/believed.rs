@@ -14,6 +14,7 @@ const CALLS: &[(&str, &[&str])] = &[
     ("keying", &["key"]),
     ("writer", &["write"]),
     ("rewriting", &["rewrite"]),
+    ("lines", &["put_verdict", "put_listing", "put_key_line"]),
 ];
 
 /// The clauses of the contracts of a library's functions, by the function's name.

@@ -1,1 +1,11 @@
+pub mod WindowLaws
+pub mod DecimalLaws
 pub mod HexLaws
+pub mod LineLaws
+pub mod BlockRows
+pub mod ListingTexts
+pub mod KeyTexts
+pub mod Lengths
+pub mod PieceLaws
+pub mod TextRows
+pub mod OneOutcome

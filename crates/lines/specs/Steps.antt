@@ -1,2 +1,3 @@
 -- Steps of the implementation: contracts inside the libraries cite them, and nobody has to believe them.
-pub mod Hex
+pub mod Windows
+pub mod Pieces

@@ -1,75 +1,62 @@
-// The lines that the programs write, on standard output.
-mod hex;
+// What the programs write: each text is put into a lent buffer piece by piece, and the pieces are written as they are.
+mod rows;
+mod showing;
 
-use crate::hex::put_hex;
-use blocks::BlockStep;
+use crate::rows::show_blocks;
+use crate::rows::show_sections;
+use crate::showing::show;
+use crate::showing::show_decimal;
+use crate::showing::show_hex;
 use format::Fault;
 use format::Verdict;
-use reader::Next;
-use reader::SectionEnds;
+ghost use mathlib.Core.Path.{_≡_};
 ghost use Prim.Native.Nat.{_≤_};
 ghost use lib.ListN.{length};
+ghost use Rattle.octets.specs.Parts.{put};
+ghost use Rattle.lines.specs.Text.{verdictLine, listingText, keyText, piece};
+ghost use Rattle.lines.specs.Steps.Windows.{Showed};
+ghost use Rattle.lines.specs.Steps.Pieces.{textOf};
 
-fn line(name: &[u8], start: usize, len: usize) {
-    io::write_all(1, name);
-    io::write_all(1, b" ");
-    io::print_decimal(1, start as u64);
-    io::write_all(1, b" ");
-    io::print_decimal(1, len as u64);
-    io::write_all(1, b"\n");
+// So many bytes of the text are still to be passed over; so many of the buffer are filled.
+pub(crate) struct Window {
+    pub skip: usize,
+    pub at: usize,
 }
 
-// A section that is there, from p to e.
-fn line_if(there: bool, name: &[u8], p: usize, e: usize) {
-    if there {
-        if p <= e {
-            line(name, p, e - p);
+fn show_verdict(out: &mut [u8], w: Window, v: Verdict) -> Window
+    requires { ⌜ w .at ≤ length (now out) ⌝ }
+    ensures { λ r. ⌜ Showed (now (out .entry)) w (verdictLine v) (now (out .exit)) r ⌝ }
+{
+    match v {
+        Verdict::Accepted(n) => {
+            let w = show(out, w, b"ok ");
+            let w = show_decimal(out, w, n as u64);
+            show(out, w, b"\n")
+        }
+        Verdict::Refused(f, p) => {
+            let w = show(out, w, b"refused ");
+            let w = show_decimal(out, w, format::number_of(f) as u64);
+            let w = show(out, w, b" ");
+            let w = show_decimal(out, w, p as u64);
+            show(out, w, b"\n")
         }
     }
 }
 
-// The blocks of an accepted shortcut and its terminal, which starts at `from`.
-fn block_lines(s: &[u8], from: usize) {
-    if s.len() < from {
-        return;
-    }
-    let mut p = from;
-    loop {
-        match blocks::step(&s[p..]) {
-            BlockStep::Block(n, _) => {
-                line(b"block", p, n);
-                p += n;
-            }
-            BlockStep::Terminal => {
-                line(b"end", p, 4);
-                return;
-            }
-            BlockStep::Refused(_) => return,
-        }
-    }
+// The line of a verdict, from its place `from` on; answers how many bytes it put, as the two below do.
+pub fn put_verdict(v: Verdict, from: usize, out: &mut [u8]) -> usize
+    ensures answer { λ n. ⌜ n ≡ length (piece (verdictLine v) from (length (now (out .entry)))) ⌝ }
+    ensures output { λ _. ⌜ now (out .exit) ≡ put (now (out .entry)) 0 (piece (verdictLine v) from (length (now (out .entry)))) ⌝ }
+{
+    let w = show_verdict(out, Window { skip: from, at: 0 }, v);
+    w.at
 }
 
-fn section_lines(f: u32, e: SectionEnds) {
-    line(b"header", 0, 76);
-    line_if(format::bit_0(f), b"items", 76, e.items);
-    line_if(f / 2 % 2 == 1, b"info", e.items, e.info);
-    line_if(f / 4 % 2 == 1, b"name", e.info, e.name);
-    line_if(f / 8 % 2 == 1, b"relative", e.name, e.relative);
-    line_if(f / 16 % 2 == 1, b"workdir", e.relative, e.workdir);
-    line_if(f / 32 % 2 == 1, b"arguments", e.workdir, e.arguments);
-    line_if(f / 64 % 2 == 1, b"icon", e.arguments, e.icon);
-}
-
-pub fn refused_line(f: Fault, p: usize) {
-    io::write_all(1, b"refused ");
-    io::print_decimal(1, format::number_of(f) as u64);
-    io::write_all(1, b" ");
-    io::print_decimal(1, p as u64);
-    io::write_all(1, b"\n");
-}
-
-// `ok` and the length, then a line for each section; or one line with number and position.
-pub fn listing(s: &[u8]) {
+// The listing.
+pub fn put_listing(s: &[u8], from: usize, out: &mut [u8]) -> usize
+    ensures answer { λ n. ⌜ n ≡ length (piece (listingText (now (s .entry))) from (length (now (out .entry)))) ⌝ }
+    ensures output { λ _. ⌜ now (out .exit) ≡ put (now (out .entry)) 0 (piece (listingText (now (s .entry))) from (length (now (out .entry)))) ⌝ }
+{
     let o = reader::outline_of(s);
     let next = o.next;
     let held = o.held;
@@ -77,45 +64,70 @@ pub fn listing(s: &[u8]) {
     let ends = o.ends;
     let g = reader::finish(s.len(), next, held);
     let v = g.verdict;
-    match v {
-        Verdict::Accepted(n) => {
-            io::write_all(1, b"ok ");
-            io::print_decimal(1, n as u64);
-            io::write_all(1, b"\n");
-            section_lines(flags, ends);
-            block_lines(s, ends.icon);
-        }
-        Verdict::Refused(f, p) => refused_line(f, p),
-    }
+    let w = show_verdict(out, Window { skip: from, at: 0 }, v);
+    let Verdict::Accepted(_) = v else {
+        return w.at;
+    };
+    let w = show_sections(out, w, flags, ends);
+    let w = show_blocks(out, w, s, ends.icon);
+    w.at
 }
 
-fn hex_piece(w: &[u8])
-    requires { ⌜ length (now w) ≤ 4096 ⌝ }
+// The key's line.
+pub fn put_key_line(s: &[u8], from: usize, out: &mut [u8]) -> usize
+    ensures answer { λ n. ⌜ n ≡ length (piece (keyText (now (s .entry))) from (length (now (out .entry)))) ⌝ }
+    ensures output { λ _. ⌜ now (out .exit) ≡ put (now (out .entry)) 0 (piece (keyText (now (s .entry))) from (length (now (out .entry)))) ⌝ }
 {
-    let mut out = [0u8; 8192];
-    put_hex(&mut out, w);
-    io::write_all(1, octets::part(&out, 0, 2 * w.len()));
-}
-
-// Piece by piece, so that nothing is too long for the line.
-fn hex_line(w: &[u8]) {
-    let n = w.len();
-    let mut p = 0;
-    while 4096 < n - p {
-        hex_piece(&w[p..p + 4096]);
-        p += 4096;
-    }
-    hex_piece(&w[p..n]);
-    io::write_all(1, b"\n");
-}
-
-// The cache key in hex, or the refusal line.
-pub fn key_line(s: &[u8]) {
     // A key is never longer than its shortcut.
-    let mut out = [0u8; 65536];
-    let v = keying::key(s, &mut out);
-    match v {
-        Verdict::Accepted(n) => hex_line(octets::part(&out, 0, n)),
-        Verdict::Refused(f, p) => refused_line(f, p),
+    let mut bytes = [0u8; 65536];
+    let v = keying::key(s, &mut bytes);
+    let w = Window { skip: from, at: 0 };
+    let Verdict::Accepted(n) = v else {
+        let w = show_verdict(out, w, v);
+        return w.at;
+    };
+    let w = show_hex(out, w, octets::part(&bytes, 0, n));
+    let w = show(out, w, b"\n");
+    w.at
+}
+
+// ---- written on standard output
+
+fn put_text(key: bool, s: &[u8], from: usize, out: &mut [u8]) -> usize
+    ensures answer { λ n. ⌜ n ≡ length (piece (textOf key (now (s .entry))) from (length (now (out .entry)))) ⌝ }
+    ensures output { λ _. ⌜ now (out .exit) ≡ put (now (out .entry)) 0 (piece (textOf key (now (s .entry))) from (length (now (out .entry)))) ⌝ }
+{
+    if key {
+        return put_key_line(s, from, out);
     }
+    put_listing(s, from, out)
+}
+
+// In pieces of 64 KiB: the first that does not fill the buffer is the last.
+fn write_text(key: bool, s: &[u8]) {
+    let mut out = [0u8; 65536];
+    let mut from = 0;
+    loop {
+        let n = put_text(key, s, from, &mut out);
+        io::write_all(1, octets::part(&out, 0, n));
+        if n < 65536 {
+            return;
+        }
+        from += n;
+    }
+}
+
+pub fn listing(s: &[u8]) {
+    write_text(false, s);
+}
+
+pub fn key_line(s: &[u8]) {
+    write_text(true, s);
+}
+
+// A line is never longer than the buffer.
+pub fn refused_line(f: Fault, p: usize) {
+    let mut out = [0u8; 64];
+    let n = put_verdict(Verdict::Refused(f, p), 0, &mut out);
+    io::write_all(1, octets::part(&out, 0, n));
 }

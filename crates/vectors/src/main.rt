@@ -15,22 +15,33 @@ fn show(s: &[u8]) {
     io::write_all(1, w);
 }
 
-fn each(s: &[u8]) {
-    let n = s.len();
-    let mut p = 0;
-    while 4 <= n - p {
-        let size = octets::u32_at(s, p) as usize;
-        p += 4;
-        if n - p < size {
+// The next shortcut, or what is too long for one; false where there is none.
+fn next(room: &mut [u8]) -> bool {
+    let mut length = [0u8; 4];
+    if io::read_full(0, &mut length) < 4 {
+        return false;
+    }
+    let size = octets::u32_at(&length, 0) as usize;
+    if room.len() < size {
+        return false;
+    }
+    let n = io::read_full(0, &mut room[..size]);
+    show(octets::part(room, 0, n));
+    true
+}
+
+// Nothing says that the input ends, so the turns are counted.
+fn each(room: &mut [u8]) {
+    let mut turns: usize = 0;
+    while turns < 10000 {
+        if !next(room) {
             return;
         }
-        show(octets::part(s, p, size));
-        p += size;
+        turns += 1;
     }
 }
 
 fn main() {
-    let mut room = [0u8; 524288];
-    let n = io::read_full(0, &mut room);
-    each(&room[..n]);
+    let mut room = [0u8; 70000];
+    each(&mut room);
 }

@@ -7,6 +7,7 @@ mod boundary;
 mod info;
 mod key;
 mod record;
+mod texts;
 mod writer;
 
 // Not every test calls this side as the boundary is called.
@@ -14,6 +15,8 @@ mod writer;
 pub use boundary::*;
 pub use key::key;
 pub use record::*;
+#[allow(unused_imports)]
+pub use texts::*;
 pub use writer::write;
 
 pub const LIMIT: usize = 65_536;

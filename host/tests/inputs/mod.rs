@@ -5,9 +5,12 @@
 
 mod build;
 mod damage;
+mod large;
 mod random;
 
 pub use build::Draft;
+#[allow(unused_imports)]
+pub use large::large;
 pub use random::Random;
 
 const SEED: u64 = 0x4C4E_4B20_6865_7272;
