@@ -14,6 +14,8 @@
  * Every function answers one number: a number of enum herringnet_number + 256 x a value. The value is the length of a
  * success, or the position of a refusal. A refusal changes no byte of out and no number of fields. A success changes
  * only the first bytes of out, as many as the length says, and all of fields.
+ *
+ * The rules by which they answer are docs/FORMAT.md of the repository, and comments here name its headings.
  */
 #ifndef HERRINGNET_H
 #define HERRINGNET_H
@@ -40,8 +42,8 @@ extern "C" {
 /* The most bytes that a shortcut may have. */
 #define HERRINGNET_LONGEST 65536
 
-/* The numbers of answers. Positions are the start of the section at fault, 65,536 for LONG, the first byte after the
- * terminal block for TRAIL, and 0 from PLACE on. */
+/* The numbers of answers (FORMAT: Numbers). Positions are the start of the section at fault, 65,536 for LONG, the
+ * first byte after the terminal block for TRAIL, and 0 from PLACE on (FORMAT: Positions). */
 enum herringnet_number {
     HERRINGNET_OK = 0,
     HERRINGNET_LONG = 1,        /* over 65,536 bytes */
@@ -85,7 +87,7 @@ static inline const char *herringnet_name(unsigned number)
     }
 }
 
-/* The names of sections, in the order of the listing. */
+/* The names of sections, in the order of the listing (FORMAT: Sections by name). */
 enum herringnet_section_name {
     HERRINGNET_SECTION_HEADER = 0,
     HERRINGNET_SECTION_ITEMS = 1,
@@ -99,11 +101,12 @@ enum herringnet_section_name {
     HERRINGNET_SECTION_END = 9
 };
 
-/* The fields of a record, by their place in the slice of 49 numbers. A body is a place (AT) and a length (LEN) in the
- * body buffer, both in bytes; no count and no terminator is in it. What is absent counts for nothing in writing, and
- * reading puts 0 there. Present are: the items, LinkInfo and the five strings by bits 0 to 6 of LINK_FLAGS; drive,
- * serial, label and local path by bit 0 of INFO_FLAGS, the network link by bit 1; the device names by bit 0 of
- * NETWORK_FLAGS, the provider by bit 1; the Unicode names by UNICODE; the Unicode local path and suffix by LONG. */
+/* The fields of a record, by their place in the slice of 49 numbers (FORMAT: Order of the numbers). A body is a place
+ * (AT) and a length (LEN) in the body buffer, both in bytes; no count and no terminator is in it. What is absent counts
+ * for nothing in writing, and reading puts 0 there. Present are: the items, LinkInfo and the five strings by bits 0 to
+ * 6 of LINK_FLAGS; drive, serial, label and local path by bit 0 of INFO_FLAGS, the network link by bit 1; the device
+ * names by bit 0 of NETWORK_FLAGS, the provider by bit 1; the Unicode names by UNICODE, the Unicode local path and
+ * suffix by LONG, each only beside its byte twin (FORMAT: Presence). */
 enum herringnet_field {
     HERRINGNET_FIELD_LINK_FLAGS = 0,    /* 32 bits */
     HERRINGNET_FIELD_ATTRIBUTES = 1,    /* 32 bits */
@@ -157,7 +160,7 @@ enum herringnet_field {
     HERRINGNET_FIELD_COUNT = 49
 };
 
-/* Tests a shortcut by all rules. Success: its length. Refusals: 1 to 9. */
+/* Tests a shortcut by all rules (FORMAT: Order of reading). Success: its length. Refusals: 1 to 9. */
 uint64_t herringnet_check(const uint8_t *shortcut, size_t shortcut_len);
 
 /* Puts the target text into out: local path or net name, and then the suffix; a backslash between them if neither is

@@ -1,6 +1,6 @@
 //! The six proved functions, as they stand in the archive.
 //!
-//! Every answer is one number: a number of document 01's table (0 for success) + 256 × a value, which is the length
+//! Every answer is one number (FORMAT: C numbers): its number, 0 for success, + 256 × a value, which is the length
 //! of a success or the position of a refusal. A refusal changes no byte of `out` and no number of `fields`. The other
 //! modules take these answers apart. This is the only file with `unsafe` in it, so two calls of the system that the
 //! command line needs stand at its end.

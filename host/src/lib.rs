@@ -1,8 +1,9 @@
 //! Reads, checks, lists and writes Windows shortcuts (.LNK files).
 //!
 //! The work is done by the functions of Herringnet's archive, which are proved to answer as the rules of the format
-//! (document 01) say, for every input, refused ones too. This package calls them ([`boundary`]) and gives their
-//! answers Rust's types. A shortcut is a byte slice; nothing is copied that need not be.
+//! say, for every input, refused ones too. The rules are docs/FORMAT.md of the repository, and comments here
+//! name its headings. This package calls the functions ([`boundary`]) and gives their answers Rust's types. A shortcut
+//! is a byte slice; nothing is copied that need not be.
 //!
 //! ```
 #![doc = include_str!("../examples/overview.rs")]
@@ -29,7 +30,7 @@ pub use unwritable::Cause;
 
 use refusal::answer;
 
-/// The requests of document 02 whose rules this package and its archive follow.
+/// The requests whose rules this package and its archive follow; docs/requests of the repository has a note of each.
 pub const REQUESTS: [&str; 3] = ["01", "02", "03"];
 
 /// The SHA-256 of the archive that is linked, in hex.

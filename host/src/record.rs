@@ -12,8 +12,8 @@ use crate::LONGEST;
 /// The record of a shortcut. Its bodies are slices: after reading, parts of the shortcut.
 ///
 /// `Record::default()` is the record of the shortest shortcut, with 76 bytes of header and the terminal block.
-/// Two records that were read are equal exactly if they are the same in the sense of document 01: equal fields, and
-/// bodies of the same bytes, wherever they stand.
+/// Two records that were read are equal exactly if they are the same (FORMAT: Sameness): equal fields, and bodies of
+/// the same bytes, wherever they stand.
 ///
 /// ```
 #[doc = include_str!("../examples/record.rs")]

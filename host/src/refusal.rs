@@ -3,7 +3,7 @@ use crate::unwritable::Cause;
 use std::error::Error;
 use std::fmt;
 
-/// The reasons for a refusal: the names of document 01's table of numbers, and two of the boundary's own.
+/// The reasons for a refusal, each with its number and name (FORMAT: Numbers).
 #[derive(Clone, Copy, Debug, PartialEq, Eq, Hash)]
 #[non_exhaustive]
 pub enum Fault {
@@ -69,7 +69,7 @@ impl Fault {
         }
     }
 
-    /// The number in document 01's table.
+    /// Its number (FORMAT: Numbers).
     pub fn number(self) -> u8 {
         match self {
             Fault::Other(number) => number,
@@ -77,7 +77,7 @@ impl Fault {
         }
     }
 
-    /// The name in document 01's table, as `CUT`.
+    /// Its name (FORMAT: Numbers), as `CUT`.
     pub fn name(self) -> &'static str {
         self.row().2
     }
@@ -100,7 +100,7 @@ impl fmt::Display for Fault {
     }
 }
 
-/// A refusal: why, and the position that document 01 gives for it.
+/// A refusal: why, and where (FORMAT: Positions).
 #[derive(Clone, Copy, Debug, PartialEq, Eq, Hash)]
 #[non_exhaustive]
 pub struct Refusal {
@@ -118,12 +118,12 @@ impl Refusal {
         Refusal { fault, position, cause: None }
     }
 
-    /// The number in document 01's table.
+    /// Its number (FORMAT: Numbers).
     pub fn number(&self) -> u8 {
         self.fault.number()
     }
 
-    /// The name in document 01's table, as `CUT`.
+    /// Its name (FORMAT: Numbers), as `CUT`.
     pub fn name(&self) -> &'static str {
         self.fault.name()
     }

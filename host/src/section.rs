@@ -125,7 +125,7 @@ fn blocks(shortcut: &[u8], from: usize, to: usize) -> impl Iterator<Item = Secti
     })
 }
 
-/// The listing of document 01: a line of `ok` and the length, and for each section its name, start and length.
+/// The listing (FORMAT: Listing lines): a line of `ok` and the length, and for each section its name, start and length.
 ///
 /// # Errors
 ///

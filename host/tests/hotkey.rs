@@ -1,4 +1,4 @@
-//! Every hot key there is, against the two tables of 000 section 2.1.3 written out, and the two house rules.
+//! Every hot key there is, against the two tables (FORMAT: Hot key) written out, and the two house rules.
 use herringnet::record::{Header, Record};
 use herringnet::show::show;
 use herringnet::{check, Fault};

@@ -29,7 +29,7 @@ fn path_block(signature: u32, text: &[u8], unicode: &[u8]) -> Vec<u8> {
     block
 }
 
-/// Every block that document 000 names, and one that it does not.
+/// Every block that MS-SHLLINK names, and one that it does not.
 fn blocks() -> Vec<u8> {
     let mut tracker = block(0x60, 0xA000_0003, 0x11);
     put(&mut tracker, 16, b"farm-7\0left over");

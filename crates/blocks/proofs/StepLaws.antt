@@ -13,9 +13,10 @@ use Rattle.octets.proofs.NumberLaws.{number-same}
 use Rattle.format.specs.declared.Fault.{Fault}
 use Rattle.format.specs.declared.Fault.the-variants.{Cut as CUT, Block as BLOCK}
 use Rattle.format.specs.Tests.{Outcome, got, refused, _else_, tests}
-use Rattle.format.specs.Blocks.{SizeRule, signatures, sizeIn, slotOf, sizeFits, insideFits, blockRules, blockSize, Standing, aBlock, aTerminal, blockStep}
+use Rattle.format.specs.Blocks.{SizeRule, signatures, sizeIn, slotOf, sizeFits, insideFits, slotAt, blockRules, blockSize, Standing, aBlock, aTerminal, blockStep}
+use Rattle.format.proofs.Bools.{by-order}
 use Rattle.format.proofs.Chains.{no-value}
-use Rattle.blocks.specs.Steps.Walk.{Sized, BySize, Stands}
+use Rattle.blocks.specs.Steps.Walk.{Sized, stepOf, bySize, Told, Stands}
 use Rattle.blocks.specs.declared.BlockStep.{BlockStep}
 use Rattle.blocks.specs.declared.BlockStep.the-variants.{Block, Terminal, Refused as NotOne}
 
@@ -46,23 +47,33 @@ size-other k n r =
     let a₇ : 7 ≤ k = past (past (past (past a₃ (r .0 .0 .0 .0 .0 .0 .0 .1)) (r .0 .0 .0 .0 .0 .0 .1)) (r .0 .0 .0 .0 .0 .1)) (r .0 .0 .0 .0 .1) in
     size-free k n (past (past (past (past a₇ (r .0 .0 .0 .1)) (r .0 .0 .1)) (r .0 .1)) (r .1))
 
+-- a way out of the step: what it answers, and what reading says of it
+abbrev Way : List ℕ → BlockStep → Type 0
+Way s t = (t ≡ bySize s) × Told s t
+
 module _ (s : List ℕ) where
-  pub step-none : length s < 4 → (p : ℕ) → blockStep p s ≡ refused CUT p
-  step-none h p = rw (lt-leb 4 (length s) h)
+  pub step-none : length s < 4 → Way s (NotOne CUT)
+  unfolding bySize
+  step-none h = let e = lt-leb 4 (length s) h in (rw e, λ p. rw e)
 
   module _ (room : 4 ≤ length s) {n : ℕ} (e : n ≡ blockSize s) where
-    pub step-end : n < 4 → (p : ℕ) → blockStep p s ≡ got aTerminal 4
-    step-end t p = rw (le-leb 4 (length s) room, ← e, lt-ltb n 4 t)
+    pub step-end : n < 4 → Way s Terminal
+    unfolding bySize
+    step-end t = let l = le-leb 4 (length s) room in let z = lt-ltb n 4 t in (rw (l, ← e, z), λ p. rw (l, ← e, z))
 
     here : 4 ≤ n → (p : ℕ) → blockStep p s ≡ tests p (leb 8 n else BLOCK ∷ leb n (length s) else CUT ∷ blockRules (take n s)) (got aBlock n)
     here t p = rw (le-leb 4 (length s) room, ← e, le-ltb n 4 t)
 
-    pub step-small : 4 ≤ n → n < 8 → (p : ℕ) → blockStep p s ≡ refused BLOCK p
-    step-small t u p = here t p ∙ rw (lt-leb 8 n u)
+    sized : 4 ≤ n → stepOf (slotAt s) (tests 0 (leb 8 n else BLOCK ∷ leb n (length s) else CUT ∷ sizeFits (slotAt s) n else BLOCK ∷ []) (got aBlock n)) ≡ bySize s
+    unfolding bySize
+    sized t = rw (le-leb 4 (length s) room, ← e, le-ltb n 4 t)
+
+    pub step-small : 4 ≤ n → n < 8 → Way s (NotOne BLOCK)
+    step-small t u = let z = lt-leb 8 n u in (rw z at (sized t), λ p. here t p ∙ rw z)
 
     module _ (big : 8 ≤ n) where
-      pub step-past : length s < n → (p : ℕ) → blockStep p s ≡ refused CUT p
-      step-past t p = here (omega arith) p ∙ rw (le-leb 8 n big, lt-leb n (length s) t)
+      pub step-past : length s < n → Way s (NotOne CUT)
+      step-past t = let b = le-leb 8 n big in let z = lt-leb n (length s) t in (rw (b, z) at (sized (omega arith)), λ p. here (omega arith) p ∙ rw (b, z))
 
       module _ (inside : n ≤ length s) {k : ℕ} (slot : k ≡ slotOf (u32At s 4)) where
         -- a block's size and signature are those of the rest
@@ -72,11 +83,37 @@ module _ (s : List ℕ) where
             let x : u32At (take n s) 4 ≡ u32At s 4 = number-same 4 n (take n s) s 4 (take-take n n s (omega arith)) (omega arith) in
             here (omega arith) p ∙ rw (le-leb 8 n big, le-leb n (length s) inside, l, x, ← slot)
 
-        pub step-wrong : sizeFits k n ≡ false → (p : ℕ) → blockStep p s ≡ refused BLOCK p
-        step-wrong f p = judged p ∙ rw f
+        by-slot : stepOf k (tests 0 (sizeFits k n else BLOCK ∷ []) (got aBlock n)) ≡ bySize s
+        by-slot = rw (le-leb 8 n big, le-leb n (length s) inside, ← slot) at (sized (omega arith))
 
-        pub step-sized : sizeFits k n ≡ true → Sized s n k
-        step-sized f = record { size = e; least = big; inside = inside; slot = slot; fits = f }
+        pub step-wrong : sizeFits k n ≡ false → Way s (NotOne BLOCK)
+        step-wrong f = (rw f at by-slot, λ p. judged p ∙ rw f)
+
+        pub step-sized : sizeFits k n ≡ true → Way s (Block n k)
+        step-sized f = (rw f at by-slot, record { size = e; least = big; inside = inside; slot = slot; fits = f })
+
+  -- every step goes one of these ways
+  told : Told s (bySize s)
+  told =
+      by-order 4 (length s)
+      (λ room.
+      by-order 4 n
+      (λ t. by-order 8 n (λ big. by-order n (length s) (λ inside. fits big inside (sizeFits k n) refl) (λ h. way (step-past room refl big h))) (λ h. way (step-small room refl t h)))
+      (λ h. way (step-end room refl h)))
+      (λ h. way (step-none h))
+    where
+      n : ℕ
+      n = blockSize s
+
+      k : ℕ
+      k = slotOf (u32At s 4)
+
+      way : {t : BlockStep} → Way s t → Told s (bySize s)
+      way w = rw (← (w .0)) (w .1)
+
+      fits : 8 ≤ n → n ≤ length s → (b : Bool) → sizeFits k n ≡ b → Told s (bySize s)
+      fits big inside true f = way (step-sized (omega arith) refl big inside refl f)
+      fits big inside false f = way (step-wrong (omega arith) refl big inside refl f)
 
 -- a block by its sizes: what it holds decides
 module _ (s : List ℕ) {n k : ℕ} (z : Sized s n k) where
@@ -114,15 +151,18 @@ module _ (s y : List ℕ) {n k : ℕ} (z : Sized s n k) where
 
 -- from what the code answers to its facts
 module _ (s : List ℕ) {t : BlockStep} where
-  module _ (h : BySize s t) where
+  module _ (h : t ≡ bySize s) where
+    told-as : {u : BlockStep} → t ≡ u → Told s u
+    told-as e = rw (sym h ∙ e) at (told s)
+
     pub by-block : {n k : ℕ} → t ≡ Block n k → Sized s n k
-    by-block e = rw e at h
+    by-block e = told-as e
 
     pub by-end : t ≡ Terminal → (p : ℕ) → blockStep p s ≡ got aTerminal 4
-    by-end e = rw e at h
+    by-end e = told-as e
 
     pub by-fault : {f : Fault} → t ≡ NotOne f → (p : ℕ) → blockStep p s ≡ refused f p
-    by-fault e = rw e at h
+    by-fault e = told-as e
 
   module _ (h : Stands s t) where
     pub stands-block : {n k : ℕ} → t ≡ Block n k → Sized s n k × ((p : ℕ) → blockStep p s ≡ got aBlock n)

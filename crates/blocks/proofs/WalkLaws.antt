@@ -7,16 +7,17 @@ use native.Mathlib.Omega.{arith}
 use native.Mathlib.Nat.{zero-add}
 use lib.ListN.{length, take, drop, length-drop}
 use lib.Seq.{drop-drop, drop-append-le}
+use borrow.Author.Tests.{lt-ltb}
 use Rattle.octets.specs.Numbers.{u32At}
 use Rattle.octets.proofs.NumberLaws.{number-drop}
 use Rattle.format.specs.declared.Fault.{Fault}
 use Rattle.format.specs.declared.Fault.the-variants.{Cut as CUT, Block as BLOCK}
 use Rattle.format.specs.Tests.{Outcome, got, refused, andThen}
-use Rattle.format.specs.Blocks.{slotOf, insideFits, blockSize, aBlock, aTerminal, blockStep, blocks}
+use Rattle.format.specs.Blocks.{slotOf, insideFits, slotAt, blockSize, aBlock, aTerminal, blockStep, blocks}
 use Rattle.format.specs.Steps.Firsts.{firsts}
 use Rattle.format.specs.Shortcut.{most, sum}
 use Rattle.format.proofs.BlockLaws.{none-left, blocks-step}
-use Rattle.blocks.specs.Steps.Walk.{Sized, NoBlock, noFirsts, noted, after, Passed, blocksRead, readTo, stoppedAt}
+use Rattle.blocks.specs.Steps.Walk.{Sized, NoBlock, noFirsts, fieldOf, noted, notedAll, Walked, after, Passed, blocksRead, readTo, stoppedAt}
 use Rattle.blocks.proofs.StepLaws.{tail-part, holds-right, holds-wrong, longer, step-longer}
 use Rattle.blocks.proofs.FirstLaws.{firsts-more}
 
@@ -39,11 +40,13 @@ module _ (s : List ℕ) (p : ℕ) where
 -- ---- the walk from a on that has come to p
 
 pub passed-start : (s : List ℕ) (a : ℕ) {row : List ℕ} → a ≤ length s → row ≡ noFirsts → Passed s a a row
-unfolding firsts
+unfolding firsts notedAll
 passed-start s a h e = record {
   lengths = [];
   adds = omega arith;
   inside = h;
+  walked = refl;
+  notes = e;
   is = λ y. nothing (blocks a (drop a (s ++ y)));
   first = λ small. e;
 }
@@ -58,8 +61,18 @@ after-more ls n (got more m) =
     rw (append-assoc ls (n ∷ []) more, e)
 after-more ls n (refused f q) = refl
 
+-- one block more
+walked-more : (s : List ℕ) (a p : ℕ) (ls : List ℕ) {n : ℕ} → Walked s a ls p → blockStep p (drop p s) ≡ got aBlock n → Walked s a (ls ++ n ∷ []) (p + n)
+walked-more s a p [] {n} w h = (rw w h, rw w)
+walked-more s a p (m ∷ ms) w h = (w .0, walked-more s (a + m) p ms (w .1) h)
+
+noted-more : (s : List ℕ) (a n : ℕ) (ls row : List ℕ) → notedAll s a (ls ++ n ∷ []) row ≡ noted (notedAll s a ls row) (slotAt (drop (a + sum ls) s)) (fieldOf (a + sum ls))
+unfolding notedAll
+noted-more s a n [] row = let z : a + 0 ≡ a = omega arith in rw z
+noted-more s a n (m ∷ ms) row = let z : a + (m + sum ms) ≡ a + m + sum ms = omega arith in rw z (noted-more s (a + m) n ms (noted row (slotAt (drop a s)) (fieldOf a)))
+
 pub passed-more : (s : List ℕ) (a p : ℕ) {row next : List ℕ} {n k : ℕ} → Passed s a p row → Sized (drop p s) n k → ((q : ℕ) → blockStep q (drop p s) ≡ got aBlock n)
-    → (p < most → next ≡ noted row k (p + 4)) → Passed s a (p + n) next
+    → next ≡ noted row k (fieldOf p) → Passed s a (p + n) next
 passed-more s a p {row} {next} {n} {k} P z h e =
     let ls = P .lengths in
     let w : p + n ≤ length s = omega (arith, z .inside, length-drop p s, P .inside) in
@@ -69,6 +82,8 @@ passed-more s a p {row} {next} {n} {k} P z h e =
       lengths = ls ++ n ∷ [];
       adds = omega (arith, P .adds, sum-more ls n);
       inside = w;
+      walked = walked-more s a p ls (P .walked) (h p);
+      notes = e ∙ rw (P .notes, z .slot, P .adds) (sym (noted-more s a n ls noFirsts));
       is = λ y.
           let r : drop p (s ++ y) ≡ drop p s ++ y = drop-append-le p s y (P .inside) in
           let on : blocks p (drop p (s ++ y)) ≡ andThen (blocks (p + n) (drop (p + n) (s ++ y))) (λ more m. got (n ∷ more) (n + m))
@@ -76,15 +91,29 @@ passed-more s a p {row} {next} {n} {k} P z h e =
           P .is y ∙ ap (after ls) on ∙ after-more ls n (blocks (p + n) (drop (p + n) (s ++ y)));
       first = λ small.
           let big = z .least in
-          e (omega arith) ∙ rw (P .first small, slot, field) (sym (firsts-more s n a ls));
+          e ∙ rw (lt-ltb p most (omega arith), P .first small, slot, field) (sym (firsts-more s n a ls));
     }
+
+-- two walks from a on that end where no block stands went over the same blocks
+walked-once : (s : List ℕ) (a p q : ℕ) (ls ms : List ℕ) → Walked s a ls p → NoBlock s p → Walked s a ms q → NoBlock s q → ls ≡ ms
+walked-once s a p q [] [] v f w g = refl
+walked-once s a p q [] (m ∷ ms) v f w g = absurd (f m (rw (← v) (w .0)))
+walked-once s a p q (n ∷ ns) [] v f w g = absurd (g n (rw (← w) (v .0)))
+walked-once s a p q (n ∷ ns) (m ∷ ms) v f w g =
+    let e : n ≡ m = cc (v .0, w .0) in
+    rw e (ap (λ (l : List ℕ). m ∷ l) (walked-once s (a + m) p q ns ms (rw e at (v .1)) f (w .1) g))
+
+pub passed-once : {s : List ℕ} {a p q : ℕ} {row other : List ℕ} → Passed s a p row → NoBlock s p → Passed s a q other → NoBlock s q → (p ≡ q) × (row ≡ other)
+passed-once {s} {a} {p} {q} P f Q g =
+    let e = walked-once s a p q (P .lengths) (Q .lengths) (P .walked) f (Q .walked) g in
+    (P .adds ∙ rw e (sym (Q .adds)), P .notes ∙ rw e (sym (Q .notes)))
 
 -- a turn of the walk: the rest goes on where the block ends
 module _ {s : List ℕ} {a p : ℕ} {row rest : List ℕ} (P : Passed s a p row) (e : rest ≡ drop p s) {n k : ℕ} where
   pub passed-fits : Sized rest n k → p + n ≤ length s
   passed-fits z = omega (arith, z .inside, P .inside, ap length e, length-drop p s)
 
-  pub passed-on : {next : List ℕ} → Sized rest n k × ((q : ℕ) → blockStep q rest ≡ got aBlock n) → (p < most → next ≡ noted row k (p + 4))
+  pub passed-on : {next : List ℕ} → Sized rest n k × ((q : ℕ) → blockStep q rest ≡ got aBlock n) → next ≡ noted row k (fieldOf p)
       → (take (length rest - n) (drop n rest) ≡ drop (p + n) s) × Passed s a (p + n) next
   passed-on w f =
       let v : Sized (drop p s) n k × ((q : ℕ) → blockStep q (drop p s) ≡ got aBlock n) = rw e at w in

@@ -1,4 +1,4 @@
-// Extra blocks: what stands where one is due, and the walks over them up to the terminal block.
+// Blocks (FORMAT: Blocks): what stands where one is due, and the walks over them up to the terminal block.
 use format::Fault;
 use format::Place;
 use format::Taken;
@@ -9,7 +9,7 @@ ghost use Prim.Native.Nat.{_+_, _≤_, _<_};
 ghost use lib.ListN.{length};
 ghost use Rattle.format.specs.Blocks.{slotOf, sizeFits, pathTexts, insideFits};
 ghost use Rattle.format.specs.Shortcut.{most};
-ghost use Rattle.blocks.specs.Steps.Walk.{BySize, Stands, noFirsts, noted, Passed, NoBlock, blocksRead, readTo, stoppedAt, blockFrom, NthOf};
+ghost use Rattle.blocks.specs.Steps.Walk.{bySize, Stands, noFirsts, fieldOf, noted, Passed, NoBlock, blocksRead, readTo, stoppedAt, blockFrom, nthBlock};
 
 // A block of so many bytes, with the slot of its signature; or the terminal block; or neither.
 pub enum BlockStep {
@@ -93,7 +93,7 @@ fn inside_ok(slot: usize, b: &[u8]) -> bool
 
 // What stands at the start of the rest, by its sizes; what a block holds is not looked at.
 pub fn step(rest: &[u8]) -> BlockStep
-    ensures { λ t. ⌜ BySize (now (rest .entry)) t ⌝ }
+    ensures { λ t. ⌜ t ≡ bySize (now (rest .entry)) ⌝ }
 {
     let left = rest.len();
     if left < 4 {
@@ -142,14 +142,14 @@ fn no_firsts() -> [u32; 11]
 
 // Where the signature of the block at p stands; no shortcut reaches what is too far for the number.
 fn field_of(p: usize) -> u32
-    ensures { λ r. ⌜ (p < most → r ≡ p + 4) ⌝ }
+    ensures { λ r. ⌜ r ≡ fieldOf p ⌝ }
 {
     if p < 65536 { (p + 4) as u32 } else { 0 }
 }
 
 // The block at p is noted if it is the first in its slot.
 fn note(firsts: &mut [u32; 11], slot: usize, p: usize)
-    ensures { λ _. ⌜ (p < most → now (firsts .exit) ≡ noted (now (firsts .entry)) slot (p + 4)) ⌝ }
+    ensures { λ _. ⌜ now (firsts .exit) ≡ noted (now (firsts .entry)) slot (fieldOf p) ⌝ }
 {
     if slot < 11 {
         if firsts[slot] == 0 {
@@ -237,7 +237,7 @@ pub fn block_from(s: &[u8], field: u32) -> Place
 
 // Where block number k stands, of those that start at `from`; the empty place where there are not so many.
 pub fn nth_block(s: &[u8], from: usize, k: usize) -> Place
-    ensures { λ r. ⌜ NthOf (now (s .entry)) from k r ⌝ }
+    ensures { λ r. ⌜ r ≡ nthBlock (now (s .entry)) from k ⌝ }
 {
     if s.len() < from {
         return format::NO_PLACE;

@@ -1,3 +1,4 @@
 pub mod WroteLaws
 pub mod LayoutLaws
 pub mod FitsLaws
+pub mod OneOutcome

@@ -1,4 +1,4 @@
-// LinkInfo with its VolumeID and its network link.
+// LinkInfo with its VolumeID and its network link (FORMAT: Canonical LinkInfo).
 use crate::numbers::add_fields;
 use crate::numbers::add_u32;
 use crate::texts::put_text;

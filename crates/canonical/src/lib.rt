@@ -1,4 +1,4 @@
-// Puts the canonical bytes of a record into a lent buffer. A function that puts answers the place after what it put.
+// Puts the canonical bytes of a record into a lent buffer (FORMAT: Canonical form). A function that puts answers the place after what it put.
 mod info;
 mod numbers;
 mod texts;

@@ -43,14 +43,14 @@ module _ (f : List ℕ) where
   pub header-fits : headerNumbers f ≡ true → HeaderFits
   unfolding headerNumbers
   header-fits e =
-      let h = every-out (wordAt f 0 ∷ wordAt f 1 ∷ wordAt f 5 ∷ wordAt f 6 ∷ wordAt f 7 ∷ ltb (getD f 8 0) 65536 ∷ []) e in
+      let (flags, (attributes, (size, (icon, (command, (hotkey, z)))))) = every-out (_ ∷ _ ∷ _ ∷ _ ∷ _ ∷ _ ∷ []) e in
       record {
-        flags = word 0 (h .0);
-        attributes = word 1 (h .1 .0);
-        size = word 5 (h .1 .1 .0);
-        icon = word 6 (h .1 .1 .1 .0);
-        command = word 7 (h .1 .1 .1 .1 .0);
-        hotkey = ltb-true (getD f 8 0) 65536 (h .1 .1 .1 .1 .1 .0);
+        flags = word 0 flags;
+        attributes = word 1 attributes;
+        size = word 5 size;
+        icon = word 6 icon;
+        command = word 7 command;
+        hotkey = ltb-true (getD f 8 0) 65536 hotkey;
       }
 
   pub record InfoFits : Type 0 where
@@ -66,16 +66,16 @@ module _ (f : List ℕ) where
   pub info-fits : infoNumbers f ≡ true → InfoFits
   unfolding infoNumbers
   info-fits e =
-      let h = every-out (wordAt f 9 ∷ flagAt f 10 ∷ wordAt f 11 ∷ wordAt f 12 ∷ flagAt f 13 ∷ wordAt f 14 ∷ wordAt f 15 ∷ flagAt f 16 ∷ []) e in
+      let (flags, (long, (drive, (serial, (kind, (network, (provider, (unicode, z)))))))) = every-out (_ ∷ _ ∷ _ ∷ _ ∷ _ ∷ _ ∷ _ ∷ _ ∷ []) e in
       record {
-        flags = word 9 (h .0);
-        long = ltb-true (getD f 10 0) 2 (h .1 .0);
-        drive = word 11 (h .1 .1 .0);
-        serial = word 12 (h .1 .1 .1 .0);
-        kind = ltb-true (getD f 13 0) 2 (h .1 .1 .1 .1 .0);
-        network = word 14 (h .1 .1 .1 .1 .1 .0);
-        provider = word 15 (h .1 .1 .1 .1 .1 .1 .0);
-        unicode = ltb-true (getD f 16 0) 2 (h .1 .1 .1 .1 .1 .1 .1 .0);
+        flags = word 9 flags;
+        long = ltb-true (getD f 10 0) 2 long;
+        drive = word 11 drive;
+        serial = word 12 serial;
+        kind = ltb-true (getD f 13 0) 2 kind;
+        network = word 14 network;
+        provider = word 15 provider;
+        unicode = ltb-true (getD f 16 0) 2 unicode;
       }
 
   pub both-parts : areRecord f ≡ true → (headerNumbers f ≡ true) × (infoNumbers f ≡ true)

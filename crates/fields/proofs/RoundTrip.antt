@@ -2,7 +2,7 @@
 use mathlib.Core.Path.{_≡_, refl, ap}
 use mathlib.Core.List.{List, [], _∷_}
 use mathlib.Core.Bool.{Bool, true, false}
-use Prim.Native.Nat.{ℕ, zero, suc, _<_, _-_}
+use Prim.Native.Nat.{ℕ, zero, suc, _<_, _-_, _^_}
 use native.Mathlib.Omega.{arith}
 use lib.ListN.{length, getD}
 use lib.Dec.{ltb, eqb}
@@ -16,9 +16,9 @@ use Rattle.format.specs.Header.{signed}
 use Rattle.format.specs.Volume.{labelOf}
 use Rattle.format.specs.Bodies.{labelKind, labelPlace}
 use Rattle.format.specs.Writing.{bits}
-use Rattle.format.specs.Ranges.{FitsRecord}
 use Rattle.format.proofs.Bools.{by-order}
-use Rattle.format.proofs.HeaderLaws.{signed-bits, bits-fit}
+use Rattle.format.proofs.Ranges.{FitsRecord}
+use Rattle.format.proofs.HeaderLaws.{signed-bits, bits-fit, signed-fits}
 use Rattle.fields.specs.Fields.{fieldCount, numbersOf, placesOf, fieldsOf, headerNumbers, infoNumbers, areRecord, headerFrom, volumeFrom, networkFrom, infoFrom, recordFrom}
 use Rattle.fields.proofs.Laws.{header-fits, info-fits, both-parts}
 
@@ -72,6 +72,7 @@ pub fields-record : (q : Record) → FitsRecord q → areRecord (fieldsOf q) ≡
 unfolding areRecord headerNumbers infoNumbers fieldsOf numbersOf placesOf
 fields-record q t =
     let h = t .header in
+    let i = t .info in
     let word : (n : ℕ) → n < 4294967296 → ltb n 4294967296 ≡ true = λ n k. lt-ltb n 4294967296 k in
     rw (
       word (q .header .flags) (h .flags),
@@ -80,17 +81,47 @@ fields-record q t =
       word (bits (q .header .«icon_index»)) (bits-fit (q .header .«icon_index») (h .«icon_index»)),
       word (q .header .command) (h .command),
       lt-ltb (q .header .hotkey) 65536 (h .hotkey),
-      word (q .info .flags) (t .flags),
+      word (q .info .flags) (i .flags),
       flag-small (q .info .long),
-      word (q .info .volume .drive) (t .drive),
-      word (q .info .volume .serial) (t .serial),
+      word (q .info .volume .drive) (i .drive),
+      word (q .info .volume .serial) (i .serial),
       flag-small (labelKind (q .info .volume .label)),
-      word (q .info .network .flags) (t .networkFlags),
-      word (q .info .network .provider) (t .provider),
+      word (q .info .network .flags) (i .networkFlags),
+      word (q .info .network .provider) (i .provider),
       flag-small (q .info .network .unicode),
     )
 
+-- what filled the fields with them has both, of a record that fits
+pub round-trip : (q : Record) → FitsRecord q → {x : List ℕ} → x ≡ fieldsOf q → (x ≡ fieldsOf q) × ((areRecord x ≡ true) × (recordFrom x ≡ q))
+round-trip q t e = (e, (rw e (fields-record q t), rw e (record-back q t)))
+
 -- ---- the numbers
+
+-- each fits 64 bits, as those of a slice do
+pub record Longs (f : List ℕ) : Type 0 where
+  pub at : (i : ℕ) → getD f i 0 < 2 ^ 64
+
+-- the record that they are fits
+pub record-fits : (f : List ℕ) → Longs f → areRecord f ≡ true → FitsRecord (recordFrom f)
+unfolding recordFrom headerFrom infoFrom volumeFrom networkFrom
+record-fits f w e =
+    let parts = both-parts f e in
+    let h = header-fits f (parts .0) in
+    let i = info-fits f (parts .1) in
+    record {
+      header = record {
+        flags = h .flags;
+        attributes = h .attributes;
+        creation = w .at 2;
+        access = w .at 3;
+        write = w .at 4;
+        «file_size» = h .size;
+        «icon_index» = signed-fits (getD f 6 0) (h .icon);
+        command = h .command;
+        hotkey = h .hotkey;
+      };
+      info = record { flags = i .flags; drive = i .drive; serial = i .serial; networkFlags = i .network; provider = i .provider };
+    }
 
 abbrev spelled : (ℕ → ℕ) → ℕ → List ℕ
 spelled g zero = []

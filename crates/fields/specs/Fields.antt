@@ -1,4 +1,4 @@
--- The record as 49 numbers, in one fixed order.
+-- FORMAT: The record as numbers. 49 of them, in one fixed order.
 use Prim.Native.Nat.{ℕ, _+_, _*_}
 use mathlib.Core.List.{List, [], _∷_, _++_}
 use mathlib.Core.Bool.{Bool, _&&_}

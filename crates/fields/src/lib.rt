@@ -159,7 +159,9 @@ fn put_numbers(f: &mut [u64], at: usize, src: &[u64])
 
 pub fn put_fields(f: &mut [u64], q: Record)
     requires { ⌜ length (now f) ≡ fieldCount ⌝ }
-    ensures { λ _. ⌜ now (f .exit) ≡ fieldsOf q ⌝ }
+    ensures fields { λ _. ⌜ now (f .exit) ≡ fieldsOf q ⌝ }
+    ensures numbers { λ _. ⌜ areRecord (now (f .exit)) ≡ true ⌝ }
+    ensures back { λ _. ⌜ recordFrom (now (f .exit)) ≡ q ⌝ }
 {
     let numbers = numbers_of(q);
     let places = places_of(q);

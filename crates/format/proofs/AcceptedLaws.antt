@@ -2,11 +2,12 @@
 use mathlib.Core.Path.{_≡_, refl, sym, ap, _∙_}
 use mathlib.Core.List.{List, [], _∷_}
 use mathlib.Core.Bool.{true}
-use Prim.Native.Nat.{ℕ, _≤_}
+use Prim.Native.Nat.{ℕ, _+_, _≤_}
 use native.Mathlib.Omega.{arith}
 use lib.ListN.{length}
 use lib.Dec.{leb, eqb}
 use borrow.Author.Tests.{leb-true, eqb-true}
+use Rattle.format.specs.declared.Place.{Place}
 use Rattle.format.specs.declared.Record.{Record}
 use Rattle.format.specs.declared.Reading.{Reading}
 use Rattle.format.specs.declared.Fault.{Fault}
@@ -20,7 +21,7 @@ use Rattle.format.specs.Contents.{Contents, present, bodiesOf, contents}
 use Rattle.format.specs.Demands.{Refuses}
 use Rattle.format.proofs.Chains.{passed, got-elim, no-value}
 use Rattle.format.proofs.WholeLaws.{decode}
-use Rattle.format.proofs.PlaceLaws.{mapped, AllIn, all-in}
+use Rattle.format.proofs.PlaceLaws.{mapped, all-in}
 use Rattle.format.proofs.ReadingLaws.{decode-is}
 use Rattle.format.proofs.TableLaws.{placed-present}
 use Rattle.format.proofs.FoundLaws.{read-present, read-inside}
@@ -76,6 +77,17 @@ refused-read s {f} {p} e = go (shortcut s) refl e
 
 -- ---- what holds of an accepted one
 
+abbrev In : ℕ → Place → Type 0
+In n b = b .at + b .len ≤ n
+
+-- the bodies that a target and a key are made of
+pub record BodiesIn (n : ℕ) (r : Record) : Type 0 where
+  pub local : In n (r .info .local)
+  pub net : In n (r .info .network .net)
+  pub suffix : In n (r .info .suffix)
+  pub workdir : In n (r .workdir)
+  pub arguments : In n (r .arguments)
+
 module _ (s : List ℕ) (r : Record) (n : ℕ) (e : reading s ≡ record { verdict = Accepted n; held = r }) where
   reads : Read s r n
   reads = accepted-read s r n e
@@ -100,10 +112,12 @@ module _ (s : List ℕ) (r : Record) (n : ℕ) (e : reading s ≡ record { verdi
       let i = read-inside s (x .sections) n (w .read) (omega (arith, w .all)) in
       placed-present r (length s) ∙ ap (λ (q : Record). allInside (length s) (bodies q)) (accepted-present ∙ sym (x .held)) ∙ i
 
-  pub accepted-bodies : AllIn (length s) (bodies r)
+  pub accepted-bodies : BodiesIn (length s) r
   accepted-bodies =
-      all-in (length s) (bodies r)
-      (ap (λ (q : Record). allInside (length s) (bodies q)) (sym accepted-present) ∙ sym (placed-present r (length s)) ∙ accepted-inside)
+      let inside = ap (λ (q : Record). allInside (length s) (bodies q)) (sym accepted-present) ∙ sym (placed-present r (length s)) ∙ accepted-inside in
+      let (items, (label, (local, (net, (device, (netUnicode, (deviceUnicode, (suffix, (localUnicode, (suffixUnicode, (name, (relative, (workdir, (arguments, rest))))))))))))))
+      = all-in (length s) (bodies r) inside in
+      record { local = local; net = net; suffix = suffix; workdir = workdir; arguments = arguments }
 
   pub accepted-decode : decode s ≡ got (contents s r) n
   unfolding contents

@@ -1,4 +1,4 @@
--- The demands, proved of the definitions. Nothing is assumed but what types give: bytes are below 256, numbers fit their fields.
+-- The demands, proved of the definitions. Laws that write ask for what types give, bytes below 256 and numbers that fit their fields; no call asks it.
 use mathlib.Core.Path.{_≡_, refl, sym, ap, _∙_}
 use mathlib.Core.List.{List, [], _∷_, map}
 use mathlib.Core.Logic.{_↔_}
@@ -14,15 +14,16 @@ use Rattle.format.specs.declared.Record.{Record}
 use Rattle.format.specs.declared.Reading.{Reading}
 use Rattle.format.specs.declared.Fault.{Fault}
 use Rattle.format.specs.declared.Fault.the-variants.{Cut as CUT, Place as PLACE, Unwritable as UNWRITABLE, Room as ROOM}
-use Rattle.format.specs.declared.Verdict.the-variants.{Accepted}
+use Rattle.format.specs.declared.Verdict.{Verdict}
+use Rattle.format.specs.declared.Verdict.the-variants.{Accepted, Refused}
 use Rattle.format.specs.Tests.{Outcome, got, refused}
-use Rattle.format.specs.Shortcut.{Sections, shortcut, recordOf, reading}
+use Rattle.format.specs.Shortcut.{Sections, shortcut, recordOf, verdictOf, reading}
 use Rattle.format.specs.Bodies.{placed}
-use Rattle.format.specs.Contents.{present, contents, Same}
-use Rattle.format.specs.Ranges.{FitsRecord}
-use Rattle.format.specs.Writing.{endToEnd, canonical, writable, writing}
+use Rattle.format.specs.Contents.{Contents, present, contents, Same}
+use Rattle.format.specs.Writing.{endToEnd, canonical, writable, writing, outputOf, writeAnswer, writeOutput}
 use Rattle.format.specs.Listing.{Row, listing, EndToEnd, rowBytes}
-use Rattle.format.specs.Demands.{Accepts, Refuses, ReadsAs, Writes, misplaced, unwritable, no-room, written, CutAt}
+use Rattle.format.specs.Demands.{Accepts, Refuses, ReadsAs, Ends, misplaced, unwritable, no-room, written, CutAt}
+use Rattle.format.proofs.Ranges.{FitsRecord}
 use Rattle.format.proofs.Bools.{clash}
 use Rattle.format.proofs.WholeLaws.{shortest, writes, refuses, beginning, can-valid, canonical-bytes}
 use Rattle.format.proofs.FoundLaws.{read-end-to-end}
@@ -110,19 +111,8 @@ same-through d r e q f t p k = p ∙ k
 
 -- ---- Demand 3: the writer gives up only when it has to. r is a record over the body buffer d
 
-module _ (r : Record) (d : List ℕ) (fits : FitsRecord r) (bs : Bytes d) where
-  bytes-made : writable (contents d r) ≡ true → Bytes (canonical (contents d r))
-  bytes-made e = canonical-bytes (contents d r) ((can-valid (contents d r) (record-typed d bs r fits) e) .0)
-
-  -- what is written for a record reads back as the same record
-  pub reads-back : writable (contents d r) ≡ true → ReadsAs (canonical (contents d r)) r d
-  unfolding Same Accepts
-  reads-back e =
-      let w : List ℕ = canonical (contents d r) in
-      let f = decode-accepted w (contents d r) (length w) (writes (contents d r) (record-typed d bs r fits) e) in
-      record { bytes = bytes-made e; held = f .held; accepted = f .is; same = f .same }
-
-  -- no accepted shortcut that reads as the record is shorter
+module _ (r : Record) (d : List ℕ) where
+  -- no accepted shortcut that reads as the record is shorter than what is written
   pub none-shorter : (s : List ℕ) → ReadsAs s r d → length (canonical (contents d r)) ≤ length s
   unfolding Same Accepts
   none-shorter s x =
@@ -137,58 +127,61 @@ module _ (r : Record) (d : List ℕ) (fits : FitsRecord r) (bs : Bytes d) where
       let i = accepted-decode s (x .held) (length s) (x .accepted) in
       refuses (contents d r) e s (length s) (x .bytes) (rw (x .same) at i)
 
-  pub none-unwritable : ((s : List ℕ) → ReadsAs s r d → ⊥) → writable (contents d r) ≡ false
-  none-unwritable h = go (writable (contents d r)) refl
-    where
-      go : (b : Bool) → writable (contents d r) ≡ b → b ≡ false
-      go true e = absurd (h (canonical (contents d r)) (reads-back e))
-      go false e = refl
+  -- FitsLaws has what gives the first; a slice's type gives the second
+  module _ (fits : FitsRecord r) (bytes : Bytes d) where
+    -- what is written reads back as the record
+    pub reads-back : writable (contents d r) ≡ true → ReadsAs (canonical (contents d r)) r d
+    unfolding Same Accepts
+    reads-back e =
+        let c : Contents = contents d r in
+        let t = record-typed d bytes r fits in
+        let f = decode-accepted (canonical c) c (length (canonical c)) (writes c t e) in
+        record { bytes = canonical-bytes c ((can-valid c t e) .0); held = f .held; accepted = f .is; same = f .same }
 
-  -- the writer answers as demand 3 says, whatever the room
-  pub the-writer : (room : ℕ) → Writes r d room (writing r d room)
-  unfolding writing
-  the-writer room = go (placed (length d) r) refl (writable (contents d r)) refl (leb (length (canonical (contents d r))) room) refl
-    where
-      go : (a : Bool) → placed (length d) r ≡ a → (b : Bool) → writable (contents d r) ≡ b → (c : Bool) → leb (length (canonical (contents d r))) room ≡ c
-          → Writes r d room (cond a (cond b (cond c (got (canonical (contents d r)) (length (canonical (contents d r)))) (refused ROOM 0)) (refused UNWRITABLE 0)) (refused PLACE 0))
-      go true p true w true q = written (canonical (contents d r)) p (reads-back w) (leb-true _ _ q) none-shorter
-      go true p true w false q =
-          no-room (canonical (contents d r)) p (reads-back w) (λ s x. let k = none-shorter s x in omega (arith, leb-false (length (canonical (contents d r))) room q))
-      go true p false w c q = unwritable p (unwritable-none w)
-      go false p b w c q = misplaced p
+    pub none-unwritable : ((s : List ℕ) → ReadsAs s r d → ⊥) → writable (contents d r) ≡ false
+    none-unwritable h = go (writable (contents d r)) refl
+      where
+        go : (b : Bool) → writable (contents d r) ≡ b → b ≡ false
+        go true e = absurd (h (canonical (contents d r)) (reads-back e))
+        go false e = refl
 
-  -- and so UNWRITABLE exactly if no accepted shortcut reads as the record
-  pub unwritable-exactly : (room : ℕ) → placed (length d) r ≡ true → (writing r d room ≡ refused UNWRITABLE 0) ↔ ((s : List ℕ) → ReadsAs s r d → ⊥)
-  unwritable-exactly room p = (λ e. out (writing r d room) (the-writer room) e, λ h. back (writing r d room) (the-writer room) h)
-    where
-      out : (o : Outcome (List ℕ)) → Writes r d room o → o ≡ refused UNWRITABLE 0 → (s : List ℕ) → ReadsAs s r d → ⊥
-      out o (misplaced q) e s x = clash p q
-      out o (unwritable q h) e s x = h s x
-      out o (no-room w q y h) e s x = absurd (let z : _≡_ {A = ℕ} 0 1 = cc in omega arith)
-      out o (written w q y l h) e s x = absurd (let z : _≡_ {A = ℕ} 0 1 = cc in omega arith)
+    -- the writer ends as demand 3 says, whatever the room
+    pub the-writer : (out : List ℕ) → Ends r d out (writeAnswer r d out) (writeOutput r d out)
+    unfolding writing outputOf writeAnswer writeOutput
+    the-writer out = go (placed (length d) r) refl (writable c) refl (leb (length w) (length out)) refl
+      where
+        c : Contents
+        c = contents d r
 
-      back : (o : Outcome (List ℕ)) → Writes r d room o → ((s : List ℕ) → ReadsAs s r d → ⊥) → o ≡ refused UNWRITABLE 0
-      back o (misplaced q) h = clash p q
-      back o (unwritable q k) h = refl
-      back o (no-room w q y k) h = absurd (h w y)
-      back o (written w q y l k) h = absurd (h w y)
+        w : List ℕ
+        w = canonical c
+
+        answered : Bool → Bool → Bool → Outcome (List ℕ)
+        answered a b e = cond a (cond b (cond e (got w (length w)) (refused ROOM 0)) (refused UNWRITABLE 0)) (refused PLACE 0)
+
+        go : (a : Bool) → placed (length d) r ≡ a → (b : Bool) → writable c ≡ b → (e : Bool) → leb (length w) (length out) ≡ e
+            → Ends r d out (verdictOf (answered a b e)) (outputOf (answered a b e) out)
+        go true p true i true q = written w p (reads-back i) (leb-true _ _ q) none-shorter
+        go true p true i false q = no-room w p (reads-back i) (λ s x. let k = none-shorter s x in omega (arith, leb-false (length w) (length out) q))
+        go true p false i e q = unwritable p (unwritable-none i)
+        go false p b i e q = misplaced p
+
+-- what it comes to for a call that has ended so, if no present body passes its buffer
+module _ {r : Record} {d out : List ℕ} (p : placed (length d) r ≡ true) where
+  -- UNWRITABLE exactly if no accepted shortcut reads as the record
+  pub unwritable-exactly : {v : Verdict} {x : List ℕ} → Ends r d out v x → (v ≡ Refused UNWRITABLE 0) ↔ ((s : List ℕ) → ReadsAs s r d → ⊥)
+  unwritable-exactly (misplaced q) = clash p q
+  unwritable-exactly (unwritable q h) = (λ e. h, λ k. refl)
+  unwritable-exactly (no-room w q y h) = (λ e. absurd (let z : _≡_ {A = ℕ} 0 1 = cc in omega arith), λ k. absurd (k w y))
+  unwritable-exactly (written w q y l h) = (λ e. absurd (let z : _≡_ {A = ℕ} 0 1 = cc in omega arith), λ k. absurd (k w y))
 
   -- ROOM exactly if some do but none as short as the room
-  pub room-exactly : (room : ℕ) → placed (length d) r ≡ true
-      → (writing r d room ≡ refused ROOM 0) ↔ (((w : List ℕ) × ReadsAs w r d) × ((s : List ℕ) → ReadsAs s r d → room < length s))
-  room-exactly room p = (λ e. out (writing r d room) (the-writer room) e, λ h. back (writing r d room) (the-writer room) h)
-    where
-      out : (o : Outcome (List ℕ)) → Writes r d room o → o ≡ refused ROOM 0 → ((w : List ℕ) × ReadsAs w r d) × ((s : List ℕ) → ReadsAs s r d → room < length s)
-      out o (misplaced q) e = clash p q
-      out o (unwritable q h) e = absurd (let z : _≡_ {A = ℕ} 0 1 = cc in omega arith)
-      out o (no-room w q y h) e = ((w, y), h)
-      out o (written w q y l h) e = absurd (let z : _≡_ {A = ℕ} 0 1 = cc in omega arith)
-
-      back : (o : Outcome (List ℕ)) → Writes r d room o → ((w : List ℕ) × ReadsAs w r d) × ((s : List ℕ) → ReadsAs s r d → room < length s) → o ≡ refused ROOM 0
-      back o (misplaced q) h = clash p q
-      back o (unwritable q k) h = absurd (k (h .0 .0) (h .0 .1))
-      back o (no-room w q y k) h = refl
-      back o (written w q y l k) h = absurd (let z = h .1 w y in omega arith)
+  pub room-exactly : {v : Verdict} {x : List ℕ} → Ends r d out v x
+      → (v ≡ Refused ROOM 0) ↔ (((w : List ℕ) × ReadsAs w r d) × ((s : List ℕ) → ReadsAs s r d → length out < length s))
+  room-exactly (misplaced q) = clash p q
+  room-exactly (unwritable q h) = (λ e. absurd (let z : _≡_ {A = ℕ} 0 1 = cc in omega arith), λ k. absurd (h (k .0 .0) (k .0 .1)))
+  room-exactly (no-room w q y h) = (λ e. ((w, y), h), λ k. refl)
+  room-exactly (written w q y l h) = (λ e. absurd (let z : _≡_ {A = ℕ} 0 1 = cc in omega arith), λ k. absurd (let z = k .1 w y in omega arith))
 
 -- ---- no beginning passes
 

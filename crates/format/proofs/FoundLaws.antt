@@ -77,14 +77,14 @@ module _ (f : List ℕ) where
 
   abbrev Known : ℕ → Tail → Type 0
   Known flags c =
-      (cond (itemsThere flags) (c .0 .read) noPlace ≡ c .0 .read)
-      × ((cond (infoThere flags) (presentInfo (c .1 .0 .read)) noInfo ≡ c .1 .0 .read)
-      × ((cond (stringThere nameBit flags) (c .1 .1 .0 .read) noPlace ≡ c .1 .1 .0 .read)
-      × ((cond (stringThere relativeBit flags) (c .1 .1 .1 .0 .read) noPlace ≡ c .1 .1 .1 .0 .read)
-      × ((cond (stringThere workdirBit flags) (c .1 .1 .1 .1 .0 .read) noPlace ≡ c .1 .1 .1 .1 .0 .read)
-      × ((cond (stringThere argumentsBit flags) (c .1 .1 .1 .1 .1 .0 .read) noPlace ≡ c .1 .1 .1 .1 .1 .0 .read)
-      × ((cond (stringThere iconBit flags) (c .1 .1 .1 .1 .1 .1 .0 .read) noPlace ≡ c .1 .1 .1 .1 .1 .1 .0 .read)
-      × Walk (c .1 .1 .1 .1 .1 .1 .1)))))))
+      let (items, (info, (name, (relative, (workdir, (arguments, (icon, blocks))))))) = c in
+      (cond (itemsThere flags) (items .read) noPlace ≡ items .read)
+      × ((cond (infoThere flags) (presentInfo (info .read)) noInfo ≡ info .read)
+      × ((cond (stringThere nameBit flags) (name .read) noPlace ≡ name .read)
+      × ((cond (stringThere relativeBit flags) (relative .read) noPlace ≡ relative .read)
+      × ((cond (stringThere workdirBit flags) (workdir .read) noPlace ≡ workdir .read)
+      × ((cond (stringThere argumentsBit flags) (arguments .read) noPlace ≡ arguments .read)
+      × ((cond (stringThere iconBit flags) (icon .read) noPlace ≡ icon .read) × Walk blocks))))))
 
   tail-always : (flags : ℕ) → Always f (tail flags) (Known flags)
   tail-always flags =
@@ -93,11 +93,11 @@ module _ (f : List ℕ) where
       let s : List ℕ = drop p f in
       tests-elim (λ a n. presentInfo a ≡ a) p (sizedTests 4 infoSize (λ n. leb 0x1C n else INFO ∷ []) infoRules infoValue s)
       (infoFields p (take (infoSize s) s)) (infoSize s) (λ c. info-present p (take (infoSize s) s)) a n e))
-      (then-always f (string-always flags 2)
-      (then-always f (string-always flags 3)
-      (then-always f (string-always flags 4)
-      (then-always f (string-always flags 5)
-      (then-always f (string-always flags 6) blocks-always))))))
+      (then-always f (string-always flags nameBit)
+      (then-always f (string-always flags relativeBit)
+      (then-always f (string-always flags workdirBit)
+      (then-always f (string-always flags argumentsBit)
+      (then-always f (string-always flags iconBit) blocks-always))))))
 
   header-always : Always f (found header) (λ c. Unit {0})
   header-always = record { always = λ p a n e. tt }
@@ -110,13 +110,15 @@ module _ (f : List ℕ) where
   pub read-present : (c : Sections) (n : ℕ) → sections 0 f ≡ got c n → present (recordOf c) ≡ recordOf c
   unfolding sections present
   read-present c n e =
-      let x = (known-always .always 0 c n e) .1 in
-      rw (x .0, x .1 .0, x .1 .1 .0, x .1 .1 .1 .0, x .1 .1 .1 .1 .0, x .1 .1 .1 .1 .1 .0, x .1 .1 .1 .1 .1 .1 .0)
+      let (z, (items, (info, (name, (relative, (workdir, (arguments, (icon, walk)))))))) = known-always .always 0 c n e in
+      rw (items, info, name, relative, workdir, arguments, icon)
 
   -- and its blocks are those of a walk
   pub read-walk : (c : Sections) (n : ℕ) → sections 0 f ≡ got c n → Walk (blocksOf c)
   unfolding sections
-  read-walk c n e = (known-always .always 0 c n e) .1 .1 .1 .1 .1 .1 .1 .1
+  read-walk c n e =
+      let (z, (items, (info, (name, (relative, (workdir, (arguments, (icon, walk)))))))) = known-always .always 0 c n e in
+      walk
 
 -- ---- bodies inside
 
@@ -267,33 +269,35 @@ module _ (f : List ℕ) where
 
   abbrev tailRows : Tail → List Row
   tailRows c =
-      row 1 (c .0)
-      ++ (row 2 (c .1 .0)
-      ++ (row 3 (c .1 .1 .0)
-      ++ (row 4 (c .1 .1 .1 .0)
-      ++ (row 5 (c .1 .1 .1 .1 .0)
-      ++ (row 6 (c .1 .1 .1 .1 .1 .0)
-      ++ (row 7 (c .1 .1 .1 .1 .1 .1 .0) ++ blockRows (c .1 .1 .1 .1 .1 .1 .1 .start) (c .1 .1 .1 .1 .1 .1 .1 .read)))))))
+      let (items, (info, (name, (relative, (workdir, (arguments, (icon, blocks))))))) = c in
+      row 1 items
+      ++ (row 2 info
+      ++ (row 3 name
+      ++ (row 4 relative
+      ++ (row 5 workdir
+      ++ (row 6 arguments
+      ++ (row 7 icon ++ blockRows (blocks .start) (blocks .read)))))))
 
   abbrev tailBodies : Tail → List Place
   tailBodies c =
-      (c .0 .read ∷ [])
-      ++ (infoBodies (c .1 .0 .read)
-      ++ ((c .1 .1 .0 .read ∷ [])
-      ++ ((c .1 .1 .1 .0 .read ∷ [])
-      ++ ((c .1 .1 .1 .1 .0 .read ∷ [])
-      ++ ((c .1 .1 .1 .1 .1 .0 .read ∷ [])
-      ++ ((c .1 .1 .1 .1 .1 .1 .0 .read ∷ []) ++ (place (c .1 .1 .1 .1 .1 .1 .1 .start) (sum (c .1 .1 .1 .1 .1 .1 .1 .read)) ∷ [])))))))
+      let (items, (info, (name, (relative, (workdir, (arguments, (icon, blocks))))))) = c in
+      (items .read ∷ [])
+      ++ (infoBodies (info .read)
+      ++ ((name .read ∷ [])
+      ++ ((relative .read ∷ [])
+      ++ ((workdir .read ∷ [])
+      ++ ((arguments .read ∷ [])
+      ++ ((icon .read ∷ []) ++ (place (blocks .start) (sum (blocks .read)) ∷ [])))))))
 
   tail-lies : (flags : ℕ) → Lies f (tail flags) tailRows tailBodies
   tail-lies flags =
       then-lies f (section-lies f items 1 (λ b. b ∷ []) (itemsThere flags) noPlace none-inside (items-inside f))
       (then-lies f (section-lies f info 2 infoBodies (infoThere flags) noInfo no-info-inside (info-inside f))
-      (then-lies f (string-lies flags 2 3)
-      (then-lies f (string-lies flags 3 4)
-      (then-lies f (string-lies flags 4 5)
-      (then-lies f (string-lies flags 5 6)
-      (then-lies f (string-lies flags 6 7) blocks-lies))))))
+      (then-lies f (string-lies flags nameBit 3)
+      (then-lies f (string-lies flags relativeBit 4)
+      (then-lies f (string-lies flags workdirBit 5)
+      (then-lies f (string-lies flags argumentsBit 6)
+      (then-lies f (string-lies flags iconBit 7) blocks-lies))))))
 
   sections-lie : Lies f sections rowsOf (λ c. bodies (recordOf c))
   unfolding sections

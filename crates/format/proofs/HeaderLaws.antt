@@ -15,11 +15,11 @@ use Rattle.format.specs.declared.Fault.the-variants.{Cut as CUT}
 use Rattle.format.specs.Tests.{got, refused, tests, Outcome}
 use Rattle.format.specs.Header.{classIdentifier, headerSizeOk, identifierOk, flagsOk, attributesOk, zerosFrom66, headerRules, signed, headerFields, header}
 use Rattle.format.specs.Hotkey.{hotkeyOk}
-use Rattle.format.specs.Ranges.{FitsSigned, FitsHeader}
 use Rattle.format.specs.Writing.{bits, headerBytes, writableHeader}
-use Rattle.format.proofs.Bools.{by-order, every-out, every-in}
+use Rattle.format.proofs.Ranges.{FitsSigned, FitsHeader}
+use Rattle.format.proofs.Bools.{by-order}
 use Rattle.format.proofs.Chains.{Ok, Law, law-same}
-use Rattle.format.proofs.Holds.{header-holds, header-passes}
+use Rattle.format.proofs.Holds.{header-holds, header-passes, header-writable, writable-header}
 use Rattle.format.proofs.Sized.{SizedBack, Sized, sizedR, sized-law}
 
 -- ---- signed numbers
@@ -116,7 +116,7 @@ header-bytes h = search (bytes-append, bytes-little, bytes-nil, identifier-bytes
 header-back : (h : Header) → HeaderV h → SizedBack (λ s. 76) (λ n. []) headerRules headerFields (headerBytes h) h
 header-back h v =
     let t = v .typed in
-    let c = every-out (flagsOk (h .flags) ∷ attributesOk (h .attributes) ∷ hotkeyOk (h .hotkey) ∷ []) (v .can) in
+    let can = header-writable h (v .can) in
     record {
       sized = λ r. sym (length-header h);
       sizable = tt;
@@ -124,9 +124,9 @@ header-back h v =
           header-passes (headerBytes h) (record {
             size = size-is h t;
             identifier = identifier-is h t;
-            flags = rw (at20 h t) (c .0);
-            attributes = rw (at24 h t) (c .1 .0);
-            hotkey = rw (at64 h t) (c .1 .1 .0);
+            flags = rw (at20 h t) (can .flags);
+            attributes = rw (at24 h t) (can .attributes);
+            hotkey = rw (at64 h t) (can .hotkey);
             zeros = ten-zeros h t;
           });
       same =
@@ -154,7 +154,7 @@ header-sized = record {
       };
       can =
           let x = header-holds l c in
-          every-in (flagsOk (u32At l 20) ∷ attributesOk (u32At l 24) ∷ hotkeyOk (u16At l 64) ∷ []) (x .flags, (x .attributes, (x .hotkey, tt)));
+          writable-header (headerFields l) (record { flags = x .flags; attributes = x .attributes; hotkey = x .hotkey });
     };
     short = rw length-header (omega arith);
   };

@@ -1,4 +1,4 @@
--- The tests of each list by name, and both ways between the names and the list: whoever uses a test picks it by its name.
+-- The tests of each list, and the conditions of what can be written, by name, and both ways between the names and the list: whoever uses one picks it by its name.
 use mathlib.Core.Path.{_≡_}
 use mathlib.Core.List.{List, [], _∷_, map}
 use mathlib.Core.Bool.{true, false, not, _||_}
@@ -7,6 +7,7 @@ use lib.ListN.{length, take, drop}
 use lib.Dec.{leb}
 use borrow.Author.Tests.{leb-true, le-leb}
 use Rattle.octets.specs.Numbers.{u16At, u32At}
+use Rattle.format.specs.declared.Header.{Header}
 use Rattle.format.specs.Tests.{Test}
 use Rattle.format.specs.Header.{headerSizeOk, identifierOk, flagsOk, attributesOk, zerosFrom66, headerRules}
 use Rattle.format.specs.Hotkey.{hotkeyOk}
@@ -14,6 +15,11 @@ use Rattle.format.specs.Pieces.{Piece, textEnds, textPiece, structTests,
 use Rattle.format.specs.Volume.{labelUnicode, labelOffset, labelLeast, volumeRules, volumePiece}
 use Rattle.format.specs.Network.{networkFlags, hasDevice, networkUnicode, networkHead, networkPieces, networkHeadTests, networkPiece, hasDeviceUnicode}
 use Rattle.format.specs.Info.{infoHead, longHead, headOk, infoFlags, hasLocal, hasNetwork, infoPieces, infoHeadTests, hasLocalUnicode}
+use Rattle.format.specs.Presence.{itemsThere, infoThere, nameBit, relativeBit, workdirBit, argumentsBit, iconBit, localThere, networkThere, localUnicodeThere, deviceThere, deviceUnicodeThere}
+use Rattle.format.specs.Shortcut.{most}
+use Rattle.format.specs.Contents.{NetworkContents, InfoContents, Contents}
+use Rattle.format.specs.Writing.{canonical, writable, writableIf, writableHeader, writableItems, writableText, writableVolume, writableNetwork, writableInfo, writableStringOf, writableBlocks}
+use Rattle.format.proofs.Bools.{every-out, every-in}
 use Rattle.format.proofs.Chains.{Pass, pass-split, pass-join}
 use Rattle.format.proofs.Intervals.{allApart, tests-apart, apart-tests}
 
@@ -160,3 +166,76 @@ info-pieces-hold l c =
 pub info-pieces-pass : (l : List ℕ) → InfoPiecesHold l → Pass (infoPieceTests l)
 info-pieces-pass l h =
     pieces-in (infoHead l) (infoPieces l) (h .volume, (h .local, (h .network, (h .suffix, (h .localUnicode, (h .suffixUnicode, tt)))))) (h .apart)
+
+-- ---- what can be written
+
+pub record HeaderWritable (h : Header) : Type 0 where
+  pub flags : flagsOk (h .flags) ≡ true
+  pub attributes : attributesOk (h .attributes) ≡ true
+  pub hotkey : hotkeyOk (h .hotkey) ≡ true
+
+pub header-writable : (h : Header) → writableHeader h ≡ true → HeaderWritable h
+header-writable h e = let (a, (b, (c, z))) = every-out (_ ∷ _ ∷ _ ∷ []) e in record { flags = a; attributes = b; hotkey = c }
+
+pub writable-header : (h : Header) → HeaderWritable h → writableHeader h ≡ true
+writable-header h w = every-in (_ ∷ _ ∷ _ ∷ []) (w .flags, (w .attributes, (w .hotkey, tt)))
+
+pub record NetworkWritable (n : NetworkContents) : Type 0 where
+  pub flags : leb (n .flags) 3 ≡ true
+  pub net : writableText false (n .net) ≡ true
+  pub device : writableIf (deviceThere (n .flags)) (writableText false) (n .device) ≡ true
+  pub netUnicode : writableIf (n .unicode) (writableText true) (n .netUnicode) ≡ true
+  pub deviceUnicode : writableIf (deviceUnicodeThere (n .unicode) (n .flags)) (writableText true) (n .deviceUnicode) ≡ true
+
+pub network-writable : (n : NetworkContents) → writableNetwork n ≡ true → NetworkWritable n
+network-writable n e =
+    let (a, (b, (c, (d, (f, z))))) = every-out (_ ∷ _ ∷ _ ∷ _ ∷ _ ∷ []) e in
+    record { flags = a; net = b; device = c; netUnicode = d; deviceUnicode = f }
+
+pub writable-network : (n : NetworkContents) → NetworkWritable n → writableNetwork n ≡ true
+writable-network n w = every-in (_ ∷ _ ∷ _ ∷ _ ∷ _ ∷ []) (w .flags, (w .net, (w .device, (w .netUnicode, (w .deviceUnicode, tt)))))
+
+pub record InfoWritable (i : InfoContents) : Type 0 where
+  pub flags : leb (i .flags) 3 ≡ true
+  pub volume : writableIf (localThere (i .flags)) writableVolume (i .volume) ≡ true
+  pub local : writableIf (localThere (i .flags)) (writableText false) (i .local) ≡ true
+  pub network : writableIf (networkThere (i .flags)) writableNetwork (i .network) ≡ true
+  pub suffix : writableText false (i .suffix) ≡ true
+  pub localUnicode : writableIf (localUnicodeThere (i .long) (i .flags)) (writableText true) (i .localUnicode) ≡ true
+  pub suffixUnicode : writableIf (i .long) (writableText true) (i .suffixUnicode) ≡ true
+
+pub info-writable : (i : InfoContents) → writableInfo i ≡ true → InfoWritable i
+info-writable i e =
+    let (a, (b, (c, (d, (f, (g, (h, z))))))) = every-out (_ ∷ _ ∷ _ ∷ _ ∷ _ ∷ _ ∷ _ ∷ []) e in
+    record { flags = a; volume = b; local = c; network = d; suffix = f; localUnicode = g; suffixUnicode = h }
+
+pub writable-info : (i : InfoContents) → InfoWritable i → writableInfo i ≡ true
+writable-info i w =
+    every-in (_ ∷ _ ∷ _ ∷ _ ∷ _ ∷ _ ∷ _ ∷ [])
+    (w .flags, (w .volume, (w .local, (w .network, (w .suffix, (w .localUnicode, (w .suffixUnicode, tt)))))))
+
+pub record Writable (c : Contents) : Type 0 where
+  pub header : writableHeader (c .header) ≡ true
+  pub items : writableIf (itemsThere (c .header .flags)) writableItems (c .items) ≡ true
+  pub info : writableIf (infoThere (c .header .flags)) writableInfo (c .info) ≡ true
+  pub name : writableStringOf c nameBit (c .name) ≡ true
+  pub relative : writableStringOf c relativeBit (c .relative) ≡ true
+  pub workdir : writableStringOf c workdirBit (c .workdir) ≡ true
+  pub arguments : writableStringOf c argumentsBit (c .arguments) ≡ true
+  pub icon : writableStringOf c iconBit (c .icon) ≡ true
+  pub blocks : writableBlocks (c .blocks) ≡ true
+  pub short : leb (length (canonical c)) most ≡ true
+
+pub all-writable : (c : Contents) → writable c ≡ true → Writable c
+unfolding writable
+all-writable c e =
+    let (a, (b, (d, (f, (g, (h, (i, (j, (k, (l, z)))))))))) = every-out (_ ∷ _ ∷ _ ∷ _ ∷ _ ∷ _ ∷ _ ∷ _ ∷ _ ∷ _ ∷ []) e in
+    record { header = a; items = b; info = d; name = f; relative = g; workdir = h; arguments = i; icon = j; blocks = k; short = l }
+
+pub writable-all : (c : Contents) → Writable c → writable c ≡ true
+unfolding writable
+writable-all c w =
+    every-in (_ ∷ _ ∷ _ ∷ _ ∷ _ ∷ _ ∷ _ ∷ _ ∷ _ ∷ _ ∷ []) (
+      w .header,
+      (w .items, (w .info, (w .name, (w .relative, (w .workdir, (w .arguments, (w .icon, (w .blocks, (w .short, tt))))))))),
+    )

@@ -1,4 +1,4 @@
--- The hot key's page is document 01's sentence, and its groups are the tables of 000 section 2.1.3, value for value.
+-- The hot key's groups are its two tables value for value (FORMAT: Hot key), and all of it is one sentence.
 use mathlib.Core.Path.{_≡_, refl, sym, _∙_}
 use mathlib.Core.List.{List, [], _∷_}
 use mathlib.Core.Bool.{Bool, true, false, _&&_, _||_, cond}
@@ -32,7 +32,7 @@ pub high-byte-rows : passing highByteOk 256 0
     ≡ 0x01 ∷ 0x02 ∷ (0x01 + 0x02) ∷ 0x04 ∷ (0x01 + 0x04) ∷ (0x02 + 0x04) ∷ (0x01 + 0x02 + 0x04) ∷ []
 high-byte-rows = refl
 
--- ---- the page against the sentence
+-- ---- the groups against the sentence
 
 locks : (k : ℕ) → (numLock k || scrollLock k) ≡ among 0x90 0x91 k
 locks k = same-truth _ _ to from
@@ -65,7 +65,7 @@ modifiers m = by-order m 7 (λ h. small h ∙ sym (le-leb m 7 h)) (λ h. large h
         rw (ne-eqb m 0 (λ z. omega arith), ne-eqb (m / 2 ^ 3) 0 (λ z. let a = mod-add-div m 8 in let b = mod-lt m (zero-lt-suc 7) in omega arith))
         (and-no (shiftHeld m || ctrlHeld m || altHeld m))
 
--- document 01's sentence, with which the page agrees on every hot key
+-- the rule in one sentence, with which the groups agree on every hot key
 pub hotkey-sentence : (h : ℕ)
     → hotkeyOk h
     ≡ (eqb h 0

@@ -18,11 +18,11 @@ use Rattle.format.specs.Info.{infoSize, infoHead, longHead, infoFlags, h
 use Rattle.format.specs.Presence.{localThere, networkThere, localUnicodeThere}
 use Rattle.format.specs.Shortcut.{most}
 use Rattle.format.specs.Contents.{VolumeContents, NetworkContents, InfoContents}
-use Rattle.format.specs.Writing.{textBytes, twoFields, volumeBytes, networkBytes, infoVolumeBytes, localBytes, infoNetworkBytes, suffixBytes, localUnicodeBytes, suffixUnicodeBytes, volumeStart, localStart, networkStart, suffixStart, localUnicodeStart, suffixUnicodeStart, infoLength, infoBytes, writableIf, writableText, writableVolume, writableNetwork, writableInfo}
-use Rattle.format.proofs.Bools.{and-true, or-true, Every, every-out, every-in, choose-twice}
+use Rattle.format.specs.Writing.{textBytes, twoFields, volumeBytes, networkBytes, infoVolumeBytes, localBytes, infoNetworkBytes, suffixBytes, localUnicodeBytes, suffixUnicodeBytes, volumeStart, localStart, networkStart, suffixStart, localUnicodeStart, suffixUnicodeStart, infoLength, infoBytes, writableText, writableVolume, writableNetwork, writableInfo}
+use Rattle.format.proofs.Bools.{and-true, or-true, choose-twice}
 use Rattle.format.proofs.Intervals.{total, pack, Ordered, end, ordered-apart}
 use Rattle.format.proofs.Chains.{Pass, pass-split, pass-join, Ok, Fits, Law, IfThere, ok-there, there-ok}
-use Rattle.format.proofs.Holds.{infoPieceTests, info-head-holds, info-head-passes, info-pieces-hold, info-pieces-pass}
+use Rattle.format.proofs.Holds.{infoPieceTests, info-head-holds, info-head-passes, info-pieces-hold, info-pieces-pass, InfoWritable, info-writable, writable-info}
 use Rattle.format.proofs.Sized.{SizedBack, Sized, sizedR, sized-law}
 use Rattle.format.proofs.PieceLaws.{TextV, textValue, text-law, slot, SlotFits, SlotBack, slot-fits, slot-back, slot-bytes, spans-ordered, absent-empty, next}
 use Rattle.format.proofs.FieldLaws.{choose-below, field-is, length-two, bytes-two, first-field, second-field, both-there, zero-absent, zero-either}
@@ -72,17 +72,6 @@ pub record InfoT (i : InfoContents) : Type 0 where
 
 abbrev pub InfoV : InfoContents → Type 0
 InfoV = Ok InfoT writableInfo
-
-abbrev cans : InfoContents → List Bool
-cans i =
-    leb (i .flags) 3
-    ∷ writableIf (localThere (i .flags)) writableVolume (i .volume)
-    ∷ writableIf (localThere (i .flags)) (writableText false) (i .local)
-    ∷ writableIf (networkThere (i .flags)) writableNetwork (i .network)
-    ∷ writableText false (i .suffix)
-    ∷ writableIf (localUnicodeThere (i .long) (i .flags)) (writableText true) (i .localUnicode)
-    ∷ writableIf (i .long) (writableText true) (i .suffixUnicode)
-    ∷ []
 
 head-is : (u : Bool) → cond u 0x24 0x1C ≡ 28 + cond u 8 0
 head-is true = refl
@@ -138,7 +127,15 @@ info-fits l bs k c =
           localUnicode = v₅ .0;
           suffixUnicode = v₆ .0;
         };
-        can = every-in (cans (infoValue l)) (x .flags, (v₁ .1, (v₂ .1, (v₃ .1, (s₄ .valid .can, (v₅ .1, (v₆ .1, tt)))))));
+        can = writable-info (infoValue l) (record {
+          flags = x .flags;
+          volume = v₁ .1;
+          local = v₂ .1;
+          network = v₃ .1;
+          suffix = s₄ .valid .can;
+          localUnicode = v₅ .1;
+          suffixUnicode = v₆ .1;
+        });
       };
       short = rw (length-info (infoValue l)) (omega (arith, p, q .0, s₁ .short, s₂ .short, s₃ .short, s₄ .short, s₅ .short, s₆ .short));
     }
@@ -164,8 +161,8 @@ module _ (i : InfoContents) (v : InfoV i) (m : length (infoBytes i) ≤ most) wh
   limit : infoLength i ≤ most
   limit = rw (length-info i) at m
 
-  can : Every (cans i)
-  can = every-out (cans i) (v .can)
+  can : InfoWritable i
+  can = info-writable i (v .can)
 
   at0 : (r : List ℕ) → u32At (infoBytes i ++ r) 0 ≡ infoLength i
   unfolding infoBytes little numberAt
@@ -177,7 +174,7 @@ module _ (i : InfoContents) (v : InfoV i) (m : length (infoBytes i) ≤ most) wh
 
   at8 : u32At (infoBytes i) 8 ≡ i .flags
   unfolding infoBytes little numberAt number
-  at8 = number-little 4 (i .flags) (omega (arith, leb-true (i .flags) 3 (can .0)))
+  at8 = number-little 4 (i .flags) (omega (arith, leb-true (i .flags) 3 (can .flags)))
 
   at12 : u32At (infoBytes i) 12 ≡ cond (localThere (i .flags)) (volumeStart i) 0
   unfolding infoBytes little numberAt number
@@ -239,37 +236,37 @@ module _ (i : InfoContents) (v : InfoV i) (m : length (infoBytes i) ≤ most) wh
       (cond (localThere (i .flags)) (volumeStart i) 0) (volumeStart i) (i .volume)
   b₁ =
       slot-back _ _ _ volume-law _ noVolumeC _ (infoBytes i) _ _ (volumeStart i) (i .volume)
-      (ok-there VolumeT writableVolume (localThere (i .flags)) noVolumeC (i .volume) (v .typed .volume) (can .1 .0))
+      (ok-there VolumeT writableVolume (localThere (i .flags)) noVolumeC (i .volume) (v .typed .volume) (can .volume))
       (omega (arith, limit)) (omega arith) (choose-twice (localThere (i .flags)) (volumeStart i) 0) d₁
 
   b₂ : TextBack false (localThere (i .flags)) (cond (localThere (i .flags)) (localStart i) 0) (localStart i) (i .local)
   b₂ =
       slot-back _ _ _ (text-law false) _ [] _ (infoBytes i) _ _ (localStart i) (i .local)
-      (ok-there Bytes (writableText false) (localThere (i .flags)) [] (i .local) (v .typed .local) (can .1 .1 .0))
+      (ok-there Bytes (writableText false) (localThere (i .flags)) [] (i .local) (v .typed .local) (can .local))
       (omega (arith, limit)) (omega arith) (choose-twice (localThere (i .flags)) (localStart i) 0) d₂
 
   b₃ : SlotBack networkTests structSize networkHere (networkThere (i .flags)) noNetworkC networkBytes (volumeStart i) (infoBytes i)
       (cond (networkThere (i .flags)) (networkStart i) 0) (networkStart i) (i .network)
   b₃ =
       slot-back _ _ _ network-law _ noNetworkC _ (infoBytes i) _ _ (networkStart i) (i .network)
-      (ok-there NetworkT writableNetwork (networkThere (i .flags)) noNetworkC (i .network) (v .typed .network) (can .1 .1 .1 .0))
+      (ok-there NetworkT writableNetwork (networkThere (i .flags)) noNetworkC (i .network) (v .typed .network) (can .network))
       (omega (arith, limit)) (omega arith) (choose-twice (networkThere (i .flags)) (networkStart i) 0) d₃
 
   b₄ : TextBack false true (suffixStart i) (suffixStart i) (i .suffix)
   b₄ =
       slot-back _ _ _ (text-law false) true [] _ (infoBytes i) _ (suffixStart i) (suffixStart i) (i .suffix)
-      (record { typed = v .typed .suffix; can = can .1 .1 .1 .1 .0 }) (omega (arith, limit)) (omega arith) refl d₄
+      (record { typed = v .typed .suffix; can = can .suffix }) (omega (arith, limit)) (omega arith) refl d₄
 
   b₅ : TextBack true (localUnicodeThere (i .long) (i .flags)) (u32At (infoBytes i) 28) (localUnicodeStart i) (i .localUnicode)
   b₅ =
       slot-back _ _ _ (text-law true) _ [] _ (infoBytes i) _ _ (localUnicodeStart i) (i .localUnicode)
-      (ok-there Bytes (writableText true) (localUnicodeThere (i .long) (i .flags)) [] (i .localUnicode) (v .typed .localUnicode) (can .1 .1 .1 .1 .1 .0))
+      (ok-there Bytes (writableText true) (localUnicodeThere (i .long) (i .flags)) [] (i .localUnicode) (v .typed .localUnicode) (can .localUnicode))
       (omega (arith, limit)) (omega arith) (both-there (i .long) (localThere (i .flags)) (u32At (infoBytes i) 28) (localUnicodeStart i) at28) d₅
 
   b₆ : TextBack true (i .long) (u32At (infoBytes i) 32) (suffixUnicodeStart i) (i .suffixUnicode)
   b₆ =
       slot-back _ _ _ (text-law true) _ [] _ (infoBytes i) _ _ (suffixUnicodeStart i) (i .suffixUnicode)
-      (ok-there Bytes (writableText true) (i .long) [] (i .suffixUnicode) (v .typed .suffixUnicode) (can .1 .1 .1 .1 .1 .1 .0))
+      (ok-there Bytes (writableText true) (i .long) [] (i .suffixUnicode) (v .typed .suffixUnicode) (can .suffixUnicode))
       (omega (arith, limit)) (omega arith) at32 d₆
 
   in-order : Ordered (volumeStart i)
@@ -294,7 +291,7 @@ module _ (i : InfoContents) (v : InfoV i) (m : length (infoBytes i) ≤ most) wh
       pass-join (infoHeadTests b) (infoPieceTests b)
       (info-head-passes b (record {
         head = rw (is-long, at4) (head-good (i .long) (length b) (omega (arith, length-info i)));
-        flags = rw at8 (can .0);
+        flags = rw at8 (can .flags);
         volumeOffset = rw (at8, at12) (zero-absent (localThere (i .flags)) (volumeStart i));
         localOffset = rw (at8, at16) (zero-absent (localThere (i .flags)) (localStart i));
         networkOffset = rw (at8, at20) (zero-absent (networkThere (i .flags)) (networkStart i));
@@ -321,17 +318,17 @@ module _ (i : InfoContents) (v : InfoV i) (m : length (infoBytes i) ≤ most) wh
 info-bytes : (i : InfoContents) → InfoV i → Bytes (infoBytes i)
 unfolding infoBytes
 info-bytes i v =
-    let can = every-out (cans i) (v .can) in
+    let can = info-writable i (v .can) in
     let t = v .typed in
-    let s₁ = slot-bytes _ _ _ volume-law (localThere (i .flags)) noVolumeC (i .volume) (ok-there VolumeT writableVolume (localThere (i .flags)) noVolumeC (i .volume) (t .volume) (can .1 .0)) in
-    let s₂ = slot-bytes _ _ _ (text-law false) (localThere (i .flags)) [] (i .local) (ok-there Bytes (writableText false) (localThere (i .flags)) [] (i .local) (t .local) (can .1 .1 .0)) in
+    let s₁ = slot-bytes _ _ _ volume-law (localThere (i .flags)) noVolumeC (i .volume) (ok-there VolumeT writableVolume (localThere (i .flags)) noVolumeC (i .volume) (t .volume) (can .volume)) in
+    let s₂ = slot-bytes _ _ _ (text-law false) (localThere (i .flags)) [] (i .local) (ok-there Bytes (writableText false) (localThere (i .flags)) [] (i .local) (t .local) (can .local)) in
     let s₃ = slot-bytes _ _ _ network-law (networkThere (i .flags)) noNetworkC (i .network)
-    (ok-there NetworkT writableNetwork (networkThere (i .flags)) noNetworkC (i .network) (t .network) (can .1 .1 .1 .0)) in
-    let s₄ = text-law false .bytes (i .suffix) (record { typed = t .suffix; can = can .1 .1 .1 .1 .0 }) in
+    (ok-there NetworkT writableNetwork (networkThere (i .flags)) noNetworkC (i .network) (t .network) (can .network)) in
+    let s₄ = text-law false .bytes (i .suffix) (record { typed = t .suffix; can = can .suffix }) in
     let s₅ = slot-bytes _ _ _ (text-law true) (localUnicodeThere (i .long) (i .flags)) [] (i .localUnicode)
-    (ok-there Bytes (writableText true) (localUnicodeThere (i .long) (i .flags)) [] (i .localUnicode) (t .localUnicode) (can .1 .1 .1 .1 .1 .0)) in
+    (ok-there Bytes (writableText true) (localUnicodeThere (i .long) (i .flags)) [] (i .localUnicode) (t .localUnicode) (can .localUnicode)) in
     let s₆ = slot-bytes _ _ _ (text-law true) (i .long) [] (i .suffixUnicode)
-    (ok-there Bytes (writableText true) (i .long) [] (i .suffixUnicode) (t .suffixUnicode) (can .1 .1 .1 .1 .1 .1 .0)) in
+    (ok-there Bytes (writableText true) (i .long) [] (i .suffixUnicode) (t .suffixUnicode) (can .suffixUnicode)) in
     search (bytes-append, bytes-little, bytes-nil, bytes-two) depth 20
 
 info-sized : Sized 4 infoSize (λ n. leb 0x1C n else INFO ∷ []) infoRules infoValue infoBytes InfoV

@@ -172,7 +172,7 @@ environment-few s p lengths =
 
 -- what holds the parts, after a header that is longer than all else in a key
 held-few : (c : Contents)
-    → 76 + length (ifThere (infoThere (c .header .flags)) infoBytes (c .info)) + length (stringPart c 4 (c .workdir)) + length (stringPart c 5 (c .arguments)) + length (c .blocks)
+    → 76 + length (ifThere (infoThere (c .header .flags)) infoBytes (c .info)) + length (stringPart c workdirBit (c .workdir)) + length (stringPart c argumentsBit (c .arguments)) + length (c .blocks)
     ≤ length (canonical c)
 unfolding canonical
 held-few c = simp (length-append, length-little) (omega arith)

@@ -1,4 +1,5 @@
 pub mod Bools
+pub mod Ranges
 pub mod Chains
 pub mod Intervals
 pub mod Holds
@@ -20,6 +21,7 @@ pub mod ReadingLaws
 pub mod FoundLaws
 pub mod TypedLaws
 pub mod AcceptedLaws
+pub mod FitsLaws
 pub mod BodyLaws
 pub mod TableLaws
 pub mod TargetLaws
@@ -30,3 +32,4 @@ pub mod KeyDemands
 pub mod KeyRoom
 pub mod KeySame
 pub mod ProbeLaws
+pub mod OneOutcome

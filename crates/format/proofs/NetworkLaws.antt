@@ -14,11 +14,11 @@ use Rattle.format.specs.Network.{networkFlags, hasDevice, networkUnicode
 use Rattle.format.specs.Presence.{deviceThere, providerThere, deviceUnicodeThere}
 use Rattle.format.specs.Shortcut.{most}
 use Rattle.format.specs.Contents.{NetworkContents}
-use Rattle.format.specs.Writing.{textBytes, twoFields, netBytes, deviceBytes, netUnicodeBytes, deviceUnicodeBytes, netStart, deviceStart, netUnicodeStart, deviceUnicodeStart, networkLength, networkBytes, writableIf, writableText, writableNetwork}
-use Rattle.format.proofs.Bools.{Every, every-out, every-in, choose-twice}
+use Rattle.format.specs.Writing.{textBytes, twoFields, netBytes, deviceBytes, netUnicodeBytes, deviceUnicodeBytes, netStart, deviceStart, netUnicodeStart, deviceUnicodeStart, networkLength, networkBytes, writableText, writableNetwork}
+use Rattle.format.proofs.Bools.{choose-twice}
 use Rattle.format.proofs.Intervals.{total, pack, Ordered, end, ordered-apart}
 use Rattle.format.proofs.Chains.{Pass, pass-split, pass-join, Ok, Fits, IfThere, ok-there, there-ok}
-use Rattle.format.proofs.Holds.{networkPieceTests, network-head-holds, network-head-passes, network-pieces-hold, network-pieces-pass}
+use Rattle.format.proofs.Holds.{networkPieceTests, network-head-holds, network-head-passes, network-pieces-hold, network-pieces-pass, NetworkWritable, network-writable, writable-network}
 use Rattle.format.proofs.PieceLaws.{PieceLaw, TextV, textValue, text-law, slot, SlotFits, SlotBack, slot-fits, slot-back, slot-bytes, spans-ordered, absent-empty, next, Struct, struct-law}
 use Rattle.format.proofs.FieldLaws.{choose-below, field-is, length-two, bytes-two, first-field, second-field, both-there, zero-absent, zero-either}
 
@@ -76,15 +76,6 @@ kept-twice : (b : Bool) (x : ℕ) → cond b (cond b x 0) 0 ≡ cond b x 0
 kept-twice true x = refl
 kept-twice false x = refl
 
-abbrev cans : NetworkContents → List Bool
-cans n =
-    leb (n .flags) 3
-    ∷ writableText false (n .net)
-    ∷ writableIf (deviceThere (n .flags)) (writableText false) (n .device)
-    ∷ writableIf (n .unicode) (writableText true) (n .netUnicode)
-    ∷ writableIf (deviceUnicodeThere (n .unicode) (n .flags)) (writableText true) (n .deviceUnicode)
-    ∷ []
-
 abbrev TextFits : Bool → Bool → List ℕ → ℕ → Type 0
 TextFits u b l o = SlotFits (textTests u) (textSize u) (textValue u) b [] (textBytes u) (TextV u) (networkHead (networkUnicode l)) l o
 
@@ -115,7 +106,7 @@ network-fits l bs e c =
           netUnicode = v₃ .0;
           deviceUnicode = v₄ .0;
         };
-        can = every-in (cans (networkValue l)) (x .flags, (s₁ .valid .can, (v₂ .1, (v₃ .1, (v₄ .1, tt)))));
+        can = writable-network (networkValue l) (record { flags = x .flags; net = s₁ .valid .can; device = v₂ .1; netUnicode = v₃ .1; deviceUnicode = v₄ .1 });
       };
       short = rw (length-network (networkValue l)) (omega (arith, p, s₁ .short, s₂ .short, s₃ .short, s₄ .short));
     }
@@ -126,8 +117,11 @@ module _ (n : NetworkContents) (v : NetworkV n) (m : length (networkBytes n) ≤
   limit : networkLength n ≤ most
   limit = rw (length-network n) at m
 
+  can : NetworkWritable n
+  can = network-writable n (v .can)
+
   flags-few : n .flags ≤ 3
-  flags-few = leb-true _ _ (every-out (cans n) (v .can) .0)
+  flags-few = leb-true _ _ (can .flags)
 
   at0 : (r : List ℕ) → u32At (networkBytes n ++ r) 0 ≡ networkLength n
   unfolding networkBytes little numberAt
@@ -191,30 +185,27 @@ module _ (n : NetworkContents) (v : NetworkV n) (m : length (networkBytes n) ≤
   abbrev TextBack : Bool → Bool → ℕ → ℕ → List ℕ → Type 0
   TextBack u b o a x = SlotBack (textTests u) (textSize u) (textValue u) b [] (textBytes u) (networkHead (n .unicode)) (networkBytes n) o a x
 
-  can : Every (cans n)
-  can = every-out (cans n) (v .can)
-
   b₁ : TextBack false true (netStart n) (netStart n) (n .net)
   b₁ =
       slot-back _ _ _ (text-law false) true [] _ (networkBytes n) _ (netStart n) (netStart n) (n .net)
-      (record { typed = v .typed .net; can = can .1 .0 }) (omega (arith, limit)) (omega arith) refl d₁
+      (record { typed = v .typed .net; can = can .net }) (omega (arith, limit)) (omega arith) refl d₁
 
   b₂ : TextBack false (deviceThere (n .flags)) (cond (deviceThere (n .flags)) (deviceStart n) 0) (deviceStart n) (n .device)
   b₂ =
       slot-back _ _ _ (text-law false) _ [] _ (networkBytes n) _ _ (deviceStart n) (n .device)
-      (ok-there Bytes (writableText false) (deviceThere (n .flags)) [] (n .device) (v .typed .device) (can .1 .1 .0))
+      (ok-there Bytes (writableText false) (deviceThere (n .flags)) [] (n .device) (v .typed .device) (can .device))
       (omega (arith, limit)) (omega arith) (choose-twice (deviceThere (n .flags)) (deviceStart n) 0) d₂
 
   b₃ : TextBack true (n .unicode) (u32At (networkBytes n) 20) (netUnicodeStart n) (n .netUnicode)
   b₃ =
       slot-back _ _ _ (text-law true) _ [] _ (networkBytes n) _ _ (netUnicodeStart n) (n .netUnicode)
-      (ok-there Bytes (writableText true) (n .unicode) [] (n .netUnicode) (v .typed .netUnicode) (can .1 .1 .1 .0))
+      (ok-there Bytes (writableText true) (n .unicode) [] (n .netUnicode) (v .typed .netUnicode) (can .netUnicode))
       (omega (arith, limit)) (omega arith) at20 d₃
 
   b₄ : TextBack true (deviceUnicodeThere (n .unicode) (n .flags)) (u32At (networkBytes n) 24) (deviceUnicodeStart n) (n .deviceUnicode)
   b₄ =
       slot-back _ _ _ (text-law true) _ [] _ (networkBytes n) _ _ (deviceUnicodeStart n) (n .deviceUnicode)
-      (ok-there Bytes (writableText true) (deviceUnicodeThere (n .unicode) (n .flags)) [] (n .deviceUnicode) (v .typed .deviceUnicode) (can .1 .1 .1 .1 .0))
+      (ok-there Bytes (writableText true) (deviceUnicodeThere (n .unicode) (n .flags)) [] (n .deviceUnicode) (v .typed .deviceUnicode) (can .deviceUnicode))
       (omega (arith, limit)) (omega arith) (both-there (n .unicode) (deviceThere (n .flags)) (u32At (networkBytes n) 24) (deviceUnicodeStart n) at24) d₄
 
   in-order : Ordered (netStart n)
@@ -235,7 +226,7 @@ module _ (n : NetworkContents) (v : NetworkV n) (m : length (networkBytes n) ≤
       let room : networkHead (n .unicode) ≤ length b = omega (arith, length-network n) in
       pass-join (networkHeadTests b) (networkPieceTests b)
       (network-head-passes b (record {
-        flags = rw at4 (can .0);
+        flags = rw at4 (can .flags);
         netOffset = rw at8 (le-leb 0x14 (netStart n) (omega (arith, head-is (n .unicode))));
         netUnicodeField = rw unicode-is (field-there (n .unicode) 0x18 (length b) (omega arith) room);
         deviceUnicodeField = rw unicode-is (field-there (n .unicode) 0x1C (length b) (omega arith) room);
@@ -256,13 +247,13 @@ module _ (n : NetworkContents) (v : NetworkV n) (m : length (networkBytes n) ≤
 network-bytes : (n : NetworkContents) → NetworkV n → Bytes (networkBytes n)
 unfolding networkBytes
 network-bytes n v =
-    let can = every-out (cans n) (v .can) in
+    let can = network-writable n (v .can) in
     let t = v .typed in
-    let s₁ = text-law false .bytes (n .net) (record { typed = t .net; can = can .1 .0 }) in
-    let s₂ = slot-bytes _ _ _ (text-law false) (deviceThere (n .flags)) [] (n .device) (ok-there Bytes (writableText false) (deviceThere (n .flags)) [] (n .device) (t .device) (can .1 .1 .0)) in
-    let s₃ = slot-bytes _ _ _ (text-law true) (n .unicode) [] (n .netUnicode) (ok-there Bytes (writableText true) (n .unicode) [] (n .netUnicode) (t .netUnicode) (can .1 .1 .1 .0)) in
+    let s₁ = text-law false .bytes (n .net) (record { typed = t .net; can = can .net }) in
+    let s₂ = slot-bytes _ _ _ (text-law false) (deviceThere (n .flags)) [] (n .device) (ok-there Bytes (writableText false) (deviceThere (n .flags)) [] (n .device) (t .device) (can .device)) in
+    let s₃ = slot-bytes _ _ _ (text-law true) (n .unicode) [] (n .netUnicode) (ok-there Bytes (writableText true) (n .unicode) [] (n .netUnicode) (t .netUnicode) (can .netUnicode)) in
     let s₄ = slot-bytes _ _ _ (text-law true) (deviceUnicodeThere (n .unicode) (n .flags)) [] (n .deviceUnicode)
-    (ok-there Bytes (writableText true) (deviceUnicodeThere (n .unicode) (n .flags)) [] (n .deviceUnicode) (t .deviceUnicode) (can .1 .1 .1 .1 .0)) in
+    (ok-there Bytes (writableText true) (deviceUnicodeThere (n .unicode) (n .flags)) [] (n .deviceUnicode) (t .deviceUnicode) (can .deviceUnicode)) in
     search (bytes-append, bytes-little, bytes-nil, bytes-two) depth 16
 
 network-struct : Struct 0x14 networkRules networkValue networkBytes NetworkV

@@ -14,7 +14,7 @@ use Rattle.format.specs.declared.Place.{Place}
 use Rattle.format.specs.declared.Header.{Header}
 use Rattle.format.specs.declared.Fault.the-variants.{Long as LONG, Trail as TRAIL, Info as INFO}
 use Rattle.format.specs.Tests.{Outcome, got, refused, place, noPlace, _else_, tests, andThen, optional}
-use Rattle.format.specs.Presence.{itemsThere, infoThere, stringThere, stringsUnicode}
+use Rattle.format.specs.Presence.{itemsThere, infoThere, nameBit, relativeBit, workdirBit, argumentsBit, iconBit, stringThere, stringsUnicode}
 use Rattle.format.specs.Header.{header}
 use Rattle.format.specs.Items.{itemsLength, itemsRules, items}
 use Rattle.format.specs.Volume.{labelUnicode, labelOffset, labelOf, volumeAt}
@@ -140,11 +140,11 @@ module _ (f : List ℕ) where
   tail-placed flags =
       then-placed f (section-placed f (itemsThere flags) noPlace [] refl items-placed)
       (then-placed f (section-placed f (infoThere flags) noInfo noInfoC refl info-placed)
-      (then-placed f (string-section-placed flags 2)
-      (then-placed f (string-section-placed flags 3)
-      (then-placed f (string-section-placed flags 4)
-      (then-placed f (string-section-placed flags 5)
-      (then-placed f (string-section-placed flags 6) blocks-placed))))))
+      (then-placed f (string-section-placed flags nameBit)
+      (then-placed f (string-section-placed flags relativeBit)
+      (then-placed f (string-section-placed flags workdirBit)
+      (then-placed f (string-section-placed flags argumentsBit)
+      (then-placed f (string-section-placed flags iconBit) blocks-placed))))))
 
   sections-placed : Placed f sections (both (λ c. c .read) viewTail) fileR
   unfolding sections fileR

@@ -17,15 +17,19 @@ use Rattle.format.specs.Presence.{itemsThere, infoThere, nameBit, relati
 use Rattle.format.specs.Volume.{noVolume}
 use Rattle.format.specs.Network.{noNetwork}
 use Rattle.format.specs.Info.{noInfo}
-use Rattle.format.specs.Ranges.{FitsRecord}
 use Rattle.format.specs.Bodies.{labelPlace}
 use Rattle.format.specs.Contents.{bytesAt, presentNetwork, presentInfo, present, volumeContents, networkContents, infoContents, contents}
+use Rattle.format.proofs.Ranges.{FitsRecord}
 use Rattle.format.proofs.Bools.{choose-twice}
 use Rattle.format.proofs.Chains.{IfThere}
 use Rattle.format.proofs.VolumeLaws.{VolumeT}
 use Rattle.format.proofs.NetworkLaws.{NetworkT}
 use Rattle.format.proofs.InfoLaws.{noVolumeC, noNetworkC, InfoT}
 use Rattle.format.proofs.WholeLaws.{noInfoC, Typed}
+
+pub kept-below : (t : Bool) (x : ℕ) → x < 2 ^ 32 → cond t x 0 < 2 ^ 32
+kept-below true x h = h
+kept-below false x h = omega arith
 
 module _ (d : List ℕ) (bs : Bytes d) where
   body-bytes : (b : Place) → Bytes (bytesAt d b)
@@ -34,10 +38,6 @@ module _ (d : List ℕ) (bs : Bytes d) where
   body-there : (t : Bool) (b : Place) → IfThere t [] Bytes (bytesAt d (cond t b noPlace))
   body-there true b = body-bytes b
   body-there false b = refl
-
-  kept-below : (t : Bool) (x : ℕ) → x < 2 ^ 32 → cond t x 0 < 2 ^ 32
-  kept-below true x h = h
-  kept-below false x h = omega arith
 
   volume-there : (t : Bool) (v : Volume) → v .serial < 2 ^ 32 → IfThere t noVolumeC VolumeT (volumeContents d (cond t v noVolume))
   volume-there true v h = record { serial = h; label = body-bytes (labelPlace (v .label)) }
@@ -71,7 +71,7 @@ module _ (d : List ℕ) (bs : Bytes d) where
   record-typed r t = record {
     header = t .header;
     items = body-there (itemsThere (r .header .flags)) (r .items);
-    info = info-there (infoThere (r .header .flags)) (r .info) (t .serial) (t .provider);
+    info = info-there (infoThere (r .header .flags)) (r .info) (t .info .serial) (t .info .provider);
     name = body-there (stringThere nameBit (r .header .flags)) (r .name);
     relative = body-there (stringThere relativeBit (r .header .flags)) (r .relative);
     workdir = body-there (stringThere workdirBit (r .header .flags)) (r .workdir);

@@ -18,10 +18,11 @@ use Rattle.format.specs.Info.{infoSize, infoRules}
 use Rattle.format.specs.Strings.{stringLength}
 use Rattle.format.specs.Shortcut.{most}
 use Rattle.format.specs.Contents.{InfoContents, Contents}
-use Rattle.format.specs.Ranges.{FitsHeader}
-use Rattle.format.specs.Writing.{ifThere, headerBytes, itemsBytes, infoBytes, stringBytes, blocksBytes, canonical, writable, writableIf, writableHeader, writableItems, writableInfo, writableString, writableStringOf, writableBlocks}
-use Rattle.format.proofs.Bools.{every-out, every-in, clash}
+use Rattle.format.specs.Writing.{ifThere, headerBytes, itemsBytes, infoBytes, stringBytes, blocksBytes, canonical, writable, writableItems, writableInfo, writableString, writableStringOf}
+use Rattle.format.proofs.Ranges.{FitsHeader}
+use Rattle.format.proofs.Bools.{clash}
 use Rattle.format.proofs.Chains.{passed, got-elim, no-value, CutBy, Law, IfThere, ok-there, there-ok, optional-law, chainE, ChainV, chain-law}
+use Rattle.format.proofs.Holds.{all-writable, writable-all}
 use Rattle.format.proofs.Sized.{sizedR}
 use Rattle.format.proofs.HeaderLaws.{HeaderV, header-law}
 use Rattle.format.proofs.ItemsLaws.{ItemsV, itemsValue, items-law}
@@ -102,28 +103,30 @@ abbrev pub tail-s : ℕ → Sect TailC
 tail-s flags =
     opt (itemsThere flags) [] items-s
     and opt (infoThere flags) noInfoC info-s
-    and string-s flags 2
-    and string-s flags 3
-    and string-s flags 4
-    and string-s flags 5
-    and string-s flags 6
+    and string-s flags nameBit
+    and string-s flags relativeBit
+    and string-s flags workdirBit
+    and string-s flags argumentsBit
+    and string-s flags iconBit
     and blocks-s
 
 abbrev pub file-s : Sect (Header × TailC)
 file-s = by-value header-s (λ h. tail-s (h .flags))
 
 abbrev pub toContents : Header × TailC → Contents
-toContents c = record {
-  header = c .0;
-  items = c .1 .0;
-  info = c .1 .1 .0;
-  name = c .1 .1 .1 .0;
-  relative = c .1 .1 .1 .1 .0;
-  workdir = c .1 .1 .1 .1 .1 .0;
-  arguments = c .1 .1 .1 .1 .1 .1 .0;
-  icon = c .1 .1 .1 .1 .1 .1 .1 .0;
-  blocks = c .1 .1 .1 .1 .1 .1 .1 .1;
-}
+toContents c =
+    let (header, (items, (info, (name, (relative, (workdir, (arguments, (icon, blocks)))))))) = c in
+    record {
+      header = header;
+      items = items;
+      info = info;
+      name = name;
+      relative = relative;
+      workdir = workdir;
+      arguments = arguments;
+      icon = icon;
+      blocks = blocks;
+    }
 
 abbrev fromContents : Contents → Header × TailC
 fromContents c = (c .header, (c .items, (c .info, (c .name, (c .relative, (c .workdir, (c .arguments, (c .icon, c .blocks))))))))
@@ -222,49 +225,31 @@ pub record Typed (c : Contents) : Type 0 where
   pub icon : IfThere (stringThere iconBit (c .header .flags)) [] Bytes (c .icon)
   pub blocks : Bytes (c .blocks)
 
-abbrev cans : Contents → List Bool
-cans c =
-    writableHeader (c .header)
-    ∷ writableIf (itemsThere (c .header .flags)) writableItems (c .items)
-    ∷ writableIf (infoThere (c .header .flags)) writableInfo (c .info)
-    ∷ writableStringOf c 2 (c .name)
-    ∷ writableStringOf c 3 (c .relative)
-    ∷ writableStringOf c 4 (c .workdir)
-    ∷ writableStringOf c 5 (c .arguments)
-    ∷ writableStringOf c 6 (c .icon)
-    ∷ writableBlocks (c .blocks)
-    ∷ leb (length (canonical c)) most
-    ∷ []
-
 -- a writable text of the string section k
 abbrev there-string : (c : Contents) (k : ℕ) (x : List ℕ) → IfThere (stringThere k (c .header .flags)) [] Bytes x → writableStringOf c k x ≡ true
     → IfThere (stringThere k (c .header .flags)) [] (StringV (stringsUnicode (c .header .flags))) x
 there-string c k x t e = ok-there Bytes (writableString (stringsUnicode (c .header .flags))) (stringThere k (c .header .flags)) [] x t e
 
 pub can-valid : (c : Contents) → Typed c → writable c ≡ true → Valid c × (length (canonical c) ≤ most)
-unfolding writable Valid
+unfolding Valid
 can-valid c t e =
     let f : ℕ = c .header .flags in
-    let a = every-out (cans c) e in
-    let b = a .1 .1 .1 in (
+    let can = all-writable c e in (
       (
-        record { typed = t .header; can = a .0 },
+        record { typed = t .header; can = can .header },
         (
-          ok-there Bytes writableItems (itemsThere f) [] (c .items) (t .items) (a .1 .0),
+          ok-there Bytes writableItems (itemsThere f) [] (c .items) (t .items) (can .items),
           (
-            ok-there InfoT writableInfo (infoThere f) noInfoC (c .info) (t .info) (a .1 .1 .0),
+            ok-there InfoT writableInfo (infoThere f) noInfoC (c .info) (t .info) (can .info),
             (
-              there-string c 2 (c .name) (t .name) (b .0),
+              there-string c nameBit (c .name) (t .name) (can .name),
               (
-                there-string c 3 (c .relative) (t .relative) (b .1 .0),
+                there-string c relativeBit (c .relative) (t .relative) (can .relative),
                 (
-                  there-string c 4 (c .workdir) (t .workdir) (b .1 .1 .0),
+                  there-string c workdirBit (c .workdir) (t .workdir) (can .workdir),
                   (
-                    there-string c 5 (c .arguments) (t .arguments) (b .1 .1 .1 .0),
-                    (
-                      there-string c 6 (c .icon) (t .icon) (b .1 .1 .1 .1 .0),
-                      record { typed = t .blocks; can = b .1 .1 .1 .1 .1 .0 },
-                    ),
+                    there-string c argumentsBit (c .arguments) (t .arguments) (can .arguments),
+                    (there-string c iconBit (c .icon) (t .icon) (can .icon), record { typed = t .blocks; can = can .blocks }),
                   ),
                 ),
               ),
@@ -272,39 +257,29 @@ can-valid c t e =
           ),
         ),
       ),
-      leb-true _ _ (b .1 .1 .1 .1 .1 .1 .0),
+      leb-true _ _ (can .short),
     )
 
 abbrev string-can : (c : Contents) (k : ℕ) (x : List ℕ) → IfThere (stringThere k (c .header .flags)) [] (StringV (stringsUnicode (c .header .flags))) x → writableStringOf c k x ≡ true
 string-can c k x v = (there-ok Bytes (writableString (stringsUnicode (c .header .flags))) (stringThere k (c .header .flags)) [] x v) .1
 
 pub valid-can : (c : Contents) → Valid c → length (canonical c) ≤ most → writable c ≡ true
-unfolding writable Valid
+unfolding Valid
 valid-can c v h =
     let f : ℕ = c .header .flags in
-    let w = v .1 .1 .1 in
-    every-in (cans c) (
-      v .0 .can,
-      (
-        (there-ok Bytes writableItems (itemsThere f) [] (c .items) (v .1 .0)) .1,
-        (
-          (there-ok InfoT writableInfo (infoThere f) noInfoC (c .info) (v .1 .1 .0)) .1,
-          (
-            string-can c 2 (c .name) (w .0),
-            (
-              string-can c 3 (c .relative) (w .1 .0),
-              (
-                string-can c 4 (c .workdir) (w .1 .1 .0),
-                (
-                  string-can c 5 (c .arguments) (w .1 .1 .1 .0),
-                  (string-can c 6 (c .icon) (w .1 .1 .1 .1 .0), (w .1 .1 .1 .1 .1 .can, (le-leb (length (canonical c)) most h, tt))),
-                ),
-              ),
-            ),
-          ),
-        ),
-      ),
-    )
+    let (header, (items, (info, (name, (relative, (workdir, (arguments, (icon, blocks)))))))) = v in
+    writable-all c (record {
+      header = header .can;
+      items = (there-ok Bytes writableItems (itemsThere f) [] (c .items) items) .1;
+      info = (there-ok InfoT writableInfo (infoThere f) noInfoC (c .info) info) .1;
+      name = string-can c nameBit (c .name) name;
+      relative = string-can c relativeBit (c .relative) relative;
+      workdir = string-can c workdirBit (c .workdir) workdir;
+      arguments = string-can c argumentsBit (c .arguments) arguments;
+      icon = string-can c iconBit (c .icon) icon;
+      blocks = blocks .can;
+      short = le-leb (length (canonical c)) most h;
+    })
 
 -- the writer refuses exactly what no accepted shortcut reads as
 pub writes : (c : Contents) → Typed c → writable c ≡ true → decode (canonical c) ≡ got c (length (canonical c))

@@ -1,4 +1,4 @@
--- Blocks.
+-- FORMAT: Blocks.
 use Prim.Native.Nat.{ℕ, zero, suc, _+_, _-_}
 use mathlib.Core.List.{List, [], _∷_}
 use mathlib.Core.Bool.{Bool, true, false, _&&_, _||_, cond}

@@ -1,4 +1,4 @@
--- The bodies of a record in one table: what makes each present, its kind, and its place. Its order is that of the fields at the boundary.
+-- FORMAT: Bodies. The bodies of a record in one table: what makes each present, its kind, and its place. Its order is that of the fields at the boundary.
 use Prim.Native.Nat.{ℕ, _+_}
 use mathlib.Core.List.{List, [], _∷_, map}
 use mathlib.Core.Bool.{Bool, true, false, _&&_, cond}

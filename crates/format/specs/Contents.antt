@@ -1,4 +1,4 @@
--- The record with its bodies' bytes in their places' stead; which parts are present; sameness.
+-- FORMAT: Presence, Sameness. The record with its bodies' bytes in their places' stead; which parts are present; sameness.
 use Prim.Native.Nat.{ℕ}
 use mathlib.Core.Path.{_≡_}
 use mathlib.Core.List.{List}

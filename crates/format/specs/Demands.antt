@@ -5,11 +5,12 @@ use mathlib.Core.List.{List}
 use mathlib.Core.Bool.{true, false}
 use lib.ListN.{length}
 use Rattle.octets.specs.Numbers.{Bytes}
+use Rattle.octets.specs.Parts.{put}
 use Rattle.format.specs.declared.Record.{Record}
 use Rattle.format.specs.declared.Fault.{Fault}
+use Rattle.format.specs.declared.Verdict.{Verdict}
 use Rattle.format.specs.declared.Verdict.the-variants.{Accepted, Refused}
 use Rattle.format.specs.declared.Fault.the-variants.{Cut as CUT, Place as PLACE, Unwritable as UNWRITABLE, Room as ROOM}
-use Rattle.format.specs.Tests.{Outcome, got, refused}
 use Rattle.format.specs.Shortcut.{reading, noRecord}
 use Rattle.format.specs.Bodies.{placed}
 use Rattle.format.specs.Contents.{Same}
@@ -31,18 +32,18 @@ pub record ReadsAs (s : List ℕ) (r : Record) (d : List ℕ) : Type 0 where
   pub accepted : Accepts s held
   pub same : Same s held d r
 
--- how a call that writes the record r over the body buffer d into a room may answer: one number and one length for each record, buffer and room
-pub data Writes (r : Record) (d : List ℕ) (room : ℕ) : Outcome (List ℕ) → Type 0 where
+-- how a call may end that writes the record r over the body buffer d into the lent buffer out: its answer, and that buffer afterwards
+pub data Ends (r : Record) (d out : List ℕ) : Verdict → List ℕ → Type 0 where
   -- a present body does not lie inside the body buffer
-  misplaced : placed (length d) r ≡ false → Writes r d room (refused PLACE 0)
+  misplaced : placed (length d) r ≡ false → Ends r d out (Refused PLACE 0) out
   -- no accepted shortcut reads as the record
-  unwritable : placed (length d) r ≡ true → ((s : List ℕ) → ReadsAs s r d → ⊥) → Writes r d room (refused UNWRITABLE 0)
+  unwritable : placed (length d) r ≡ true → ((s : List ℕ) → ReadsAs s r d → ⊥) → Ends r d out (Refused UNWRITABLE 0) out
   -- some do, but none as short as the room
-  no-room : (w : List ℕ) → placed (length d) r ≡ true → ReadsAs w r d → ((s : List ℕ) → ReadsAs s r d → room < length s)
-      → Writes r d room (refused ROOM 0)
-  -- else what is written reads as the record, and nothing that reads so is shorter
-  written : (w : List ℕ) → placed (length d) r ≡ true → ReadsAs w r d → length w ≤ room → ((s : List ℕ) → ReadsAs s r d → length w ≤ length s)
-      → Writes r d room (got w (length w))
+  no-room : (w : List ℕ) → placed (length d) r ≡ true → ReadsAs w r d → ((s : List ℕ) → ReadsAs s r d → length out < length s)
+      → Ends r d out (Refused ROOM 0) out
+  -- else what is written reads as the record, nothing that reads so is shorter, and the rest of the buffer is as it was
+  written : (w : List ℕ) → placed (length d) r ≡ true → ReadsAs w r d → length w ≤ length out → ((s : List ℕ) → ReadsAs s r d → length w ≤ length s)
+      → Ends r d out (Accepted (length w)) (put out 0 w)
 
 -- the shortcut s is cut: CUT, reported at k or before
 pub record CutAt (k : ℕ) (s : List ℕ) : Type 0 where

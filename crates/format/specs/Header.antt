@@ -1,4 +1,4 @@
--- Header, 76 bytes. The rule of HotKey is in Hotkey.
+-- FORMAT: Header. The rule of HotKey is in Hotkey.
 use Prim.Native.Nat.{ℕ, _-_, _/_, _^_}
 use mathlib.Core.List.{List, [], _∷_}
 use mathlib.Core.Bool.{Bool, not, _&&_, cond}

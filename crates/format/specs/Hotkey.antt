@@ -1,4 +1,4 @@
--- The hot key rule as a printed page: the groups of the two tables of 000 section 2.1.3, row for row, and beside them the two house rules.
+-- FORMAT: Hot key. The groups of its two tables, row for row, and beside them the two house rules.
 use Prim.Native.Nat.{ℕ, _/_, _%_, _^_}
 use mathlib.Core.Bool.{Bool, _&&_, _||_}
 use lib.Dec.{leb, eqb}

@@ -1,4 +1,4 @@
--- LinkInfo.
+-- FORMAT: LinkInfo.
 use Prim.Native.Nat.{ℕ}
 use mathlib.Core.List.{List, [], _∷_, _++_}
 use mathlib.Core.Bool.{Bool, true, false, not, _&&_, _||_}

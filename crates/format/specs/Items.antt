@@ -1,4 +1,4 @@
--- Item list.
+-- FORMAT: Item list.
 use Prim.Native.Nat.{ℕ, zero, suc, _+_, _-_, _*_}
 use mathlib.Core.List.{List, [], _∷_}
 use mathlib.Core.Bool.{Bool, false, _&&_, cond}

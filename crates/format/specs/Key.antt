@@ -1,4 +1,4 @@
--- The cache key (request 02).
+-- FORMAT: Cache key.
 use Prim.Native.Nat.{ℕ}
 use mathlib.Core.Path.{_≡_}
 use mathlib.Core.List.{List, [], _∷_, _++_}

@@ -13,7 +13,6 @@ pub mod Blocks
 pub mod Shortcut
 pub mod Bodies
 pub mod Contents
-pub mod Ranges
 pub mod Writing
 pub mod Target
 pub mod Key

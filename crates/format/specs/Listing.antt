@@ -1,4 +1,4 @@
--- The listing's sections, and a section asked for by name.
+-- FORMAT: Listing lines, Sections by name. The listing's sections, and a section asked for by name.
 use Prim.Native.Nat.{ℕ, zero, suc, _+_}
 use mathlib.Core.Path.{_≡_}
 use mathlib.Core.List.{List, [], _∷_, _++_}

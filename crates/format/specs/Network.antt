@@ -1,4 +1,4 @@
--- Network link.
+-- FORMAT: Network link.
 use Prim.Native.Nat.{ℕ, _+_}
 use mathlib.Core.List.{List, [], _∷_, _++_}
 use mathlib.Core.Bool.{Bool, true, false, not, _||_, cond}

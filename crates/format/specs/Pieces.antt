@@ -1,4 +1,4 @@
--- Pieces: what an offset field leads to, counted from the start of the structure that holds the field.
+-- FORMAT: LinkInfo pieces, LinkInfo overlaps. What an offset field leads to, counted from the start of the structure that holds the field.
 use Prim.Native.Nat.{ℕ, _+_}
 use mathlib.Core.List.{List, [], _∷_, _++_, map}
 use mathlib.Core.Bool.{Bool, true, not, _&&_, _||_, cond}

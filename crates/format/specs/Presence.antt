@@ -1,4 +1,4 @@
--- What makes each part present. Every rule is over flags, so that it serves the bytes that are read and the record alike.
+-- FORMAT: Presence. What makes each part present. Every rule is over flags, so that it serves the bytes that are read and the record alike.
 use Prim.Native.Nat.{ℕ}
 use mathlib.Core.Bool.{Bool, _&&_}
 use Rattle.format.specs.Tests.{bit}

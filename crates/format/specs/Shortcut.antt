@@ -1,4 +1,4 @@
--- The whole shortcut: LONG first, then the sections in file order, TRAIL last.
+-- FORMAT: Layout, Order of reading, The end. The whole shortcut: LONG first, then the sections in file order, TRAIL last.
 use Prim.Native.Nat.{ℕ, _+_}
 use mathlib.Core.List.{List, [], _∷_}
 use mathlib.Core.Bool.{Bool, true, false}

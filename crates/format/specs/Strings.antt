@@ -1,4 +1,4 @@
--- Strings.
+-- FORMAT: Strings.
 use Prim.Native.Nat.{ℕ, _+_}
 use mathlib.Core.List.{List, [], _∷_}
 use mathlib.Core.Bool.{Bool}

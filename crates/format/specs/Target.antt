@@ -1,4 +1,4 @@
--- Target text.
+-- FORMAT: Target text.
 use Prim.Native.Nat.{ℕ, _-_}
 use mathlib.Core.List.{List, [], _∷_, _++_}
 use mathlib.Core.Bool.{Bool, not, _&&_, _||_, cond}

@@ -1,4 +1,4 @@
--- How a section is read: tests in the order given, each with the number that its failure gives; then what was read, and how many bytes it took.
+-- FORMAT: Order of reading. How a section is read: tests in the order given, each with the number that its failure gives; then what was read, and how many bytes it took.
 use Prim.Native.Nat.{ℕ, _+_, _/_, _%_, _^_}
 use mathlib.Core.List.{List, [], _∷_}
 use mathlib.Core.Bool.{Bool, true, false, cond}

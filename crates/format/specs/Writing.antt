@@ -1,4 +1,4 @@
--- What the writer makes, and when it gives up.
+-- FORMAT: What the writer makes. The canonical form, and when the writer gives up.
 use Prim.Native.Nat.{ℕ, _+_, _-_}
 use mathlib.Core.List.{List, [], _∷_, _++_}
 use mathlib.Core.Bool.{Bool, true, false, _&&_, cond}

@@ -164,7 +164,7 @@ pub const NO_RECORD: Record = Record {
     blocks: NO_PLACE,
 };
 
-// The number of a fault in the table of document 01.
+// The number of a fault (FORMAT: Numbers).
 pub fn number_of(f: Fault) -> u8
     ensures { λ r. ⌜ r ≡ numberOf f ⌝ }
 {

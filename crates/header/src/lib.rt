@@ -1,4 +1,4 @@
-// The header, and the window shown.
+// The header, and the window shown (FORMAT: Header).
 use format::Fault;
 use format::Header;
 use octets::Cursor;
@@ -45,7 +45,7 @@ pub fn attributes_ok(a: u32) -> bool
     !(a / 8 % 2 == 1) & !(a / 64 % 2 == 1) & (a / 32768 == 0)
 }
 
-// The groups of LowByte (000 section 2.1.3), row for row.
+// The groups of LowByte (FORMAT: Hot key), row for row.
 fn low_byte_ok(k: u16) -> bool
     ensures { λ r. ⌜ r ≡ lowByteOk k ⌝ }
 {
@@ -57,7 +57,7 @@ fn low_byte_ok(k: u16) -> bool
     digit | letter | function_key | num_lock | scroll_lock
 }
 
-// The modifier keys of HighByte (000 section 2.1.3), row for row: one or a combination.
+// The modifier keys of HighByte (FORMAT: Hot key), row for row: one or a combination.
 fn high_byte_ok(m: u16) -> bool
     ensures { λ r. ⌜ r ≡ highByteOk m ⌝ }
 {

@@ -18,7 +18,7 @@ use Rattle.format.specs.Pieces.{Piece, textPiece, absentZero, testsOf, apartTes
 use Rattle.format.specs.Volume.{volumePiece}
 use Rattle.format.specs.Network.{networkPiece}
 use Rattle.format.specs.Info.{infoSize, infoHead, longHead, hasLocal, hasNetwork, infoPieces, infoHeadTests, infoRules, infoFields, hasLocalUnicode}
-use Rattle.format.specs.Presence.{localThere, networkThere}
+use Rattle.format.specs.Presence.{localThere, networkThere, localUnicodeThere}
 use Rattle.format.proofs.Bools.{or-true, and-true, and-assoc, and-yes}
 use Rattle.format.proofs.Chains.{Pass, tests-append, all-pass, pass-all, one-fault}
 use Rattle.format.proofs.Holds.{infoPieceTests, info-head-holds, info-pieces-hold}
@@ -74,16 +74,16 @@ pub record Six (p : ℕ) (l : List ℕ) (a : VolumeFound) (b : Text) (c : Networ
   pub localUnicode : e ≡ textFound (hasLocalUnicode l) true l p (infoHead l) (u32At l 28)
   pub suffixUnicode : f ≡ textFound (longHead l) true l p (infoHead l) (u32At l 32)
 
-pub six : (p : ℕ) (l : List ℕ) {head flags o₁ o₂ o₃ o₄ o₅ o₆ : ℕ} {local linked : Bool} {a : VolumeFound} {b : Text} {c : NetworkFound} {d e f : Text}
-    → head ≡ u32At l 4 → flags ≡ u32At l 8 → local ≡ localThere flags → linked ≡ networkThere flags
+pub six : (p : ℕ) (l : List ℕ) {head flags o₁ o₂ o₃ o₄ o₅ o₆ : ℕ} {local both linked : Bool} {a : VolumeFound} {b : Text} {c : NetworkFound} {d e f : Text}
+    → head ≡ u32At l 4 → flags ≡ u32At l 8 → local ≡ localThere flags → both ≡ localUnicodeThere (leb 0x24 head) flags → linked ≡ networkThere flags
     → o₁ ≡ u32At l 12 → a ≡ volumeFound local l p head o₁
     → o₂ ≡ u32At l 16 → b ≡ textFound local false l p head o₂
     → o₃ ≡ u32At l 20 → c ≡ networkFound linked l p head o₃
     → o₄ ≡ u32At l 24 → d ≡ textFound true false l p head o₄
-    → o₅ ≡ fieldIf (leb 0x24 head) l 28 → e ≡ textFound (leb 0x24 head && local) true l p head o₅
+    → o₅ ≡ fieldIf (leb 0x24 head) l 28 → e ≡ textFound both true l p head o₅
     → o₆ ≡ fieldIf (leb 0x24 head) l 32 → f ≡ textFound (leb 0x24 head) true l p head o₆
     → Six p l a b c d e f
-six p l eh ef el en e₁ ea e₂ eb e₃ ec e₄ ed e₅ ee e₆ eg =
+six p l eh ef el et en e₁ ea e₂ eb e₃ ec e₄ ed e₅ ee e₆ eg =
     let h : ℕ = infoHead l in
     let w : Bool = longHead l in
     record {
@@ -91,7 +91,7 @@ six p l eh ef el en e₁ ea e₂ eb e₃ ec e₄ ed e₅ ee e₆ eg =
       local = eb ∙ rw (e₂, el, ef, eh);
       network = ec ∙ rw (e₃, en, ef, eh);
       suffix = ed ∙ rw (e₄, eh);
-      localUnicode = ee ∙ rw (e₅, el, ef, eh) (text-field (w && hasLocal l) true l p h 28 w (λ z. rw z));
+      localUnicode = ee ∙ rw (et, e₅, ef, eh) (text-field (hasLocalUnicode l) true l p h 28 w (λ z. rw z));
       suffixUnicode = eg ∙ rw (e₆, eh) (text-field w true l p h 32 w (λ z. z));
     }
 

@@ -4,3 +4,4 @@ pub mod StructLaws
 pub mod VolumeLaws
 pub mod NetworkLaws
 pub mod InfoLaws
+pub mod OneOutcome

@@ -9,19 +9,18 @@ use lib.Dec.{leb, ltb}
 use borrow.Author.Tests.{not-true, not-false}
 use Rattle.octets.specs.Numbers.{u32At}
 use Rattle.format.specs.declared.Network.{Network}
-use Rattle.format.specs.Tests.{bit}
 use Rattle.format.specs.Steps.AllTests.{all}
+use Rattle.format.specs.Presence.{deviceThere, providerThere, deviceUnicodeThere}
 use Rattle.format.specs.Pieces.{absentZero, uncut, apartTests}
 use Rattle.format.specs.Network.{hasDevice, networkUnicode, networkHead, networkPieces, networkHeadTests, networkRules, networkFields, networkPiece, networkAt, noNetwork, hasDeviceUnicode}
 use Rattle.format.proofs.Bools.{every-out, and-true, and-assoc, and-yes}
-use Rattle.format.specs.Presence.{deviceThere}
 use Rattle.format.proofs.Chains.{all-pass, all-append}
 use Rattle.format.proofs.Holds.{networkPieceTests, network-head-holds}
 use Rattle.info.specs.declared.Text.{Text}
 use Rattle.info.specs.declared.NetworkFound.{NetworkFound}
 use Rattle.info.specs.declared.NetworkRead.{NetworkRead}
 use Rattle.info.specs.declared.NetworkRead.the-variants.{Good, Bad}
-use Rattle.info.specs.Steps.Found.{fieldIf, pieceFound, textFound, networkIf, networkIn, providerOf, makeNetwork, networkFound}
+use Rattle.info.specs.Steps.Found.{fieldIf, pieceFound, textFound, networkIf, networkIn, makeNetwork, networkFound}
 use Rattle.info.proofs.TestLaws.{uncut-room, judge, pieces-judged}
 use Rattle.info.proofs.TextLaws.{text-body, text-field, zero-field}
 use Rattle.info.proofs.StructLaws.{Kind}
@@ -84,18 +83,18 @@ pub record Four (p : ℕ) (v : List ℕ) (a b c d : Text) : Type 0 where
   pub netUnicode : c ≡ textFound (networkUnicode v) true v p (networkHead (networkUnicode v)) (u32At v 20)
   pub deviceUnicode : d ≡ textFound (hasDeviceUnicode v) true v p (networkHead (networkUnicode v)) (u32At v 24)
 
-pub four : (p : ℕ) (v : List ℕ) {flags name head o₁ o₂ o₃ : ℕ} {device : Bool} {a b c d : Text} → flags ≡ u32At v 4 → name ≡ u32At v 8 → device ≡ deviceThere flags
-    → head ≡ networkHead (ltb 0x14 name) → a ≡ textFound true false v p head name → o₁ ≡ u32At v 12 → b ≡ textFound device false v p head o₁
+pub four : (p : ℕ) (v : List ℕ) {flags name head o₁ o₂ o₃ : ℕ} {device both : Bool} {a b c d : Text} → flags ≡ u32At v 4 → name ≡ u32At v 8 → device ≡ deviceThere flags
+    → both ≡ deviceUnicodeThere (ltb 0x14 name) flags → head ≡ networkHead (ltb 0x14 name) → a ≡ textFound true false v p head name → o₁ ≡ u32At v 12 → b ≡ textFound device false v p head o₁
     → o₂ ≡ fieldIf (ltb 0x14 name) v 20 → c ≡ textFound (ltb 0x14 name) true v p head o₂
-    → o₃ ≡ fieldIf (ltb 0x14 name) v 24 → d ≡ textFound (ltb 0x14 name && device) true v p head o₃ → Four p v a b c d
-four p v ef en ed eh ea e₁ eb e₂ ec e₃ ee =
+    → o₃ ≡ fieldIf (ltb 0x14 name) v 24 → d ≡ textFound both true v p head o₃ → Four p v a b c d
+four p v ef en ed et eh ea e₁ eb e₂ ec e₃ ee =
     let h : ℕ = networkHead (networkUnicode v) in
     let u : Bool = networkUnicode v in
     record {
       net = ea ∙ rw (eh, en);
       device = eb ∙ rw (eh, ed, ef, en, e₁);
       netUnicode = ec ∙ rw (e₂, eh, en) (text-field u true v p h 20 u (λ z. z));
-      deviceUnicode = ee ∙ rw (e₃, eh, ed, ef, en) (text-field (u && hasDevice v) true v p h 24 u (λ z. rw z));
+      deviceUnicode = ee ∙ rw (et, e₃, eh, ef, en) (text-field (hasDeviceUnicode v) true v p h 24 u (λ z. rw z));
     }
 
 module _ (p : ℕ) (v : List ℕ) {ok : Bool} (ex : ok ≡ all (networkHeadTests v)) where
@@ -112,25 +111,26 @@ module _ (p : ℕ) (v : List ℕ) {ok : Bool} (ex : ok ≡ all (networkHeadTests
         = rw (f .net, f .device, f .netUnicode, f .deviceUnicode) in
         rules-split v ∙ rw (← ex, not-false ok t, pieces-judged h (networkPieces v) fs ef) (simp (and-assoc, and-yes))
 
-    pub network-read : {flags name kept provider : ℕ} {r : NetworkRead} → flags ≡ u32At v 4 → name ≡ u32At v 8 → kept ≡ u32At v 16 → provider ≡ providerOf flags kept
+    pub network-read : {flags name kept provider : ℕ} {t : Bool} {r : NetworkRead} → flags ≡ u32At v 4 → name ≡ u32At v 8 → t ≡ providerThere flags → kept ≡ u32At v 16 → provider ≡ cond t kept 0
         → r ≡ networkIf (fourPass a b c d far) (fourFields flags provider (ltb 0x14 name) a b c d) → r ≡ networkIn p v
     unfolding networkIn
-    network-read {flags} {name} {provider = provider} eg en ek ep er =
+    network-read {flags} {name} {provider = provider} eg en et ek ep er =
         er ∙ go (fourPass a b c d far) refl ∙ ap (λ (k : Bool). networkIf k (networkFields p v)) (sym judged)
       where
         go : (k : Bool) → fourPass a b c d far ≡ k → networkIf k (fourFields flags provider (ltb 0x14 name) a b c d) ≡ networkIf k (networkFields p v)
         go true e =
             let h : ℕ = networkHead (networkUnicode v) in
-            let w = every-out (a .ok ∷ b .ok ∷ c .ok ∷ d .ok ∷ far ∷ []) (simp (and-yes, ← and-assoc) e) in
+            let (net, (device, (netUnicode, (deviceUnicode, apart)))) = every-out (a .ok ∷ b .ok ∷ c .ok ∷ d .ok ∷ far ∷ []) (simp (and-yes, ← and-assoc) e) in
             ap Good (rw (
               ep,
+              et,
               ek,
               eg,
               en,
-              text-body true false v p h (u32At v 8) (f .net) (w .0),
-              text-body (hasDevice v) false v p h (u32At v 12) (f .device) (w .1 .0),
-              text-body (networkUnicode v) true v p h (u32At v 20) (f .netUnicode) (w .1 .1 .0),
-              text-body (hasDeviceUnicode v) true v p h (u32At v 24) (f .deviceUnicode) (w .1 .1 .1 .0),
+              text-body true false v p h (u32At v 8) (f .net) net,
+              text-body (hasDevice v) false v p h (u32At v 12) (f .device) device,
+              text-body (networkUnicode v) true v p h (u32At v 20) (f .netUnicode) netUnicode,
+              text-body (hasDeviceUnicode v) true v p h (u32At v 24) (f .deviceUnicode) deviceUnicode,
             ))
         go false e = refl
 

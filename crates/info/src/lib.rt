@@ -4,8 +4,6 @@ use format::Info;
 use format::Network;
 use format::Place;
 use format::Volume;
-use format::bit_0;
-use format::bit_1;
 use octets::Cursor;
 use octets::Skipped;
 use octets::Took;
@@ -23,7 +21,7 @@ ghost use Rattle.format.specs.Volume.{labelLeast, noVolume};
 ghost use Rattle.format.specs.Network.{networkHead, networkHeadTests, noNetwork};
 ghost use Rattle.format.specs.Info.{infoHeadTests};
 ghost use Rattle.info.specs.Steps.Found.{EndSmall, fieldIf, makeText, textFound, endAt, labelAt, volumeIn, makeVolume, volumeFound};
-ghost use Rattle.info.specs.Steps.Found.{networkIf, networkIn, providerOf, makeNetwork, networkFound, piecesFound};
+ghost use Rattle.info.specs.Steps.Found.{networkIf, networkIn, makeNetwork, networkFound, piecesFound};
 ghost use Rattle.info.specs.Steps.Taken.{infoAt};
 
 // LinkInfo and the cursor after it, or why it is refused and where.
@@ -310,15 +308,8 @@ fn network_head_ok(v: &[u8]) -> bool
     if !((flags <= 3) & (0x14 <= name) & uncut(unicode, 0x18, v) & uncut(unicode, 0x1C, v)) {
         return false;
     }
-    let device = bit_0(flags);
+    let device = format::device_there(flags);
     absent_zero(device, octets::u32_at(v, 12) as usize) & absent_zero(device, field(unicode, v, 24))
-}
-
-// The provider type is kept by bit 1.
-fn provider(flags: u32, kept: u32) -> u32
-    ensures { λ r. ⌜ r ≡ providerOf flags kept ⌝ }
-{
-    if bit_1(flags) { kept } else { 0 }
 }
 
 fn network_if(ok: bool, n: Network) -> NetworkRead
@@ -341,15 +332,16 @@ fn network_in(v: &[u8], at: usize) -> NetworkRead
     }
     let flags = octets::u32_at(v, 4);
     let name = octets::u32_at(v, 8) as usize;
-    let device = bit_0(flags);
+    let device = format::device_there(flags);
     let unicode = 0x14 < name;
+    let both = format::device_unicode_there(unicode, flags);
     let head = network_head(unicode);
     let a = text_at(true, false, v, at, head, name);
     let b = text_at(device, false, v, at, head, octets::u32_at(v, 12) as usize);
     let c = text_at(unicode, true, v, at, head, field(unicode, v, 20));
-    let d = text_at(unicode & device, true, v, at, head, field(unicode, v, 24));
+    let d = text_at(both, true, v, at, head, field(unicode, v, 24));
     let ok = a.ok & b.ok & c.ok & d.ok & apart_four(a.span, b.span, c.span, d.span);
-    let provider = provider(flags, octets::u32_at(v, 16));
+    let provider = format::number_if(format::provider_there(flags), octets::u32_at(v, 16));
     let net = a.body;
     let device = b.body;
     let net_unicode = c.body;
@@ -414,11 +406,11 @@ fn info_head_ok(l: &[u8]) -> bool
         return false;
     }
     let flags = octets::u32_at(l, 8);
-    let local = bit_0(flags);
+    let local = format::local_there(flags);
     (flags <= 3)
         & absent_zero(local, octets::u32_at(l, 12) as usize)
         & absent_zero(local, octets::u32_at(l, 16) as usize)
-        & absent_zero(bit_1(flags), octets::u32_at(l, 20) as usize)
+        & absent_zero(format::network_there(flags), octets::u32_at(l, 20) as usize)
         & absent_zero(local, field(long, l, 28))
 }
 
@@ -429,13 +421,20 @@ fn info_pieces(l: &[u8], start: usize) -> Pieces
 {
     let head = octets::u32_at(l, 4) as usize;
     let flags = octets::u32_at(l, 8);
-    let local = bit_0(flags);
+    let local = format::local_there(flags);
     let long = 0x24 <= head;
+    let both = format::local_unicode_there(long, flags);
     let a = volume(local, l, start, head, octets::u32_at(l, 12) as usize);
     let b = text_at(local, false, l, start, head, octets::u32_at(l, 16) as usize);
-    let c = network(bit_1(flags), l, start, head, octets::u32_at(l, 20) as usize);
+    let c = network(
+        format::network_there(flags),
+        l,
+        start,
+        head,
+        octets::u32_at(l, 20) as usize,
+    );
     let d = text_at(true, false, l, start, head, octets::u32_at(l, 24) as usize);
-    let e = text_at(long & local, true, l, start, head, field(long, l, 28));
+    let e = text_at(both, true, l, start, head, field(long, l, 28));
     let f = text_at(long, true, l, start, head, field(long, l, 32));
     let whole = a.ok & b.ok & c.ok & d.ok & e.ok & f.ok;
     let far = apart_six(a.span, b.span, c.span, d.span, e.span, f.span);

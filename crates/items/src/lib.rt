@@ -1,4 +1,4 @@
-// Item lists.
+// Item lists (FORMAT: Item list walk).
 ghost use mathlib.Core.Path.{_≡_};
 ghost use Rattle.format.specs.Items.{itemList};
 

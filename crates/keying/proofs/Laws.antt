@@ -26,7 +26,8 @@ use Rattle.format.specs.declared.Reading.{Reading}
 use Rattle.format.specs.declared.Fault.{Fault}
 use Rattle.format.specs.declared.Fault.the-variants.{Room as ROOM}
 use Rattle.format.specs.declared.Verdict.the-variants.{Accepted, Refused}
-use Rattle.format.specs.Tests.{got, refused, _else_, tests, bit, oneOr0, place, noPlace}
+use Rattle.format.specs.Tests.{got, refused, _else_, tests, oneOr0, place, noPlace}
+use Rattle.format.specs.Presence.{workdirBit, argumentsBit, stringThere, stringsUnicode}
 use Rattle.format.specs.Blocks.{blocks}
 use Rattle.format.specs.Steps.Firsts.{firstField, firsts}
 use Rattle.format.specs.Shortcut.{most, shortcut, reading}
@@ -238,13 +239,14 @@ module _ (s : List ℕ) (r : Record) (e : Accepts s r) where
   unfolding Accepts
   accepted-texts = texts-inside s r (length s) e
 
-  module _ {k : KeyParts} (unicode : k .unicode ≡ bit 7 (r .header .flags)) {h : Bool} {t : Texts} (has : h ≡ hasTarget r) (texts : t ≡ textsOf s r) (target : k .target ≡ keyPart h t)
-      {a w : Texts} (ea : a ≡ only (r .arguments)) (arguments : k .arguments ≡ keyPart (bit 5 (r .header .flags)) a) (ew : w ≡ only (r .workdir)) (workdir : k .workdir ≡ keyPart (bit 4 (r .header .flags)) w)
+  module _ {k : KeyParts} (unicode : k .unicode ≡ stringsUnicode (r .header .flags)) {h : Bool} {t : Texts} (has : h ≡ hasTarget r) (texts : t ≡ textsOf s r) (target : k .target ≡ keyPart h t)
+      {u v : Bool} {a w : Texts} (hu : u ≡ stringThere argumentsBit (r .header .flags)) (ea : a ≡ only (r .arguments)) (arguments : k .arguments ≡ keyPart u a)
+      (hv : v ≡ stringThere workdirBit (r .header .flags)) (ew : w ≡ only (r .workdir)) (workdir : k .workdir ≡ keyPart v w)
       {row : List ℕ} (noted : FirstsOf s r row) (environment : EnvironmentOf s (blockFrom s (getD row 0 0)) (k .environment)) where
     string-shown : (b : Bool) (p : Place) → partShown s (keyPart b (only p)) ≡ partIf b (bytesAt s p)
     string-shown b p = part-shown s b (only p) ∙ ap (partIf b) (only-bytes s p)
 
-    pub parts-shown : keyShown s k ≡ keyIn s
+    parts-shown : keyShown s k ≡ keyIn s
     unfolding keyShown
     parts-shown =
         let x = record-tells s r e in
@@ -252,12 +254,12 @@ module _ (s : List ℕ) (r : Record) (e : Accepts s r) where
         let a₁ = unicode ∙ sym (x .unicode) in
         let a₂ : partShown s (k .target) ≡ keyIn s .target
         = rw (target, has, texts) (part-shown s (hasTarget r) (textsOf s r) ∙ ap (partIf (hasTarget r)) (sym (texts-are s r)) ∙ sym (x .target)) in
-        let a₃ : partShown s (k .arguments) ≡ keyIn s .arguments = rw (arguments, ea) (string-shown (bit 5 f) (r .arguments) ∙ sym (x .arguments)) in
-        let a₄ : partShown s (k .workdir) ≡ keyIn s .workdir = rw (workdir, ew) (string-shown (bit 4 f) (r .workdir) ∙ sym (x .workdir)) in
+        let a₃ : partShown s (k .arguments) ≡ keyIn s .arguments = rw (arguments, hu, ea) (string-shown (stringThere argumentsBit f) (r .arguments) ∙ sym (x .arguments)) in
+        let a₄ : partShown s (k .workdir) ≡ keyIn s .workdir = rw (workdir, hv, ew) (string-shown (stringThere workdirBit f) (r .workdir) ∙ sym (x .workdir)) in
         let a₅ : partShown s (k .environment) ≡ keyIn s .environment = environment .is ∙ (row-block noted) .is in
         rw (a₁, a₂, a₃, a₄, a₅)
 
-    pub parts-stand : KeyStands s k
+    parts-stand : KeyStands s k
     unfolding Accepts
     parts-stand =
         let small = accepted-small in
@@ -265,10 +267,13 @@ module _ (s : List ℕ) (r : Record) (e : Accepts s r) where
         let f = r .header .flags in
         record {
           target = rw (target, has, texts) (part-stands s (hasTarget r) (textsOf s r) small (texts-stand s r (length s) e));
-          arguments = rw (arguments, ea) (part-stands s (bit 5 f) (only (r .arguments)) small (i .1 .1 .1 .1 .1 .1 .1 .1 .1 .1 .1 .1 .1 .0, omega arith, omega arith));
-          workdir = rw (workdir, ew) (part-stands s (bit 4 f) (only (r .workdir)) small (i .1 .1 .1 .1 .1 .1 .1 .1 .1 .1 .1 .1 .0, omega arith, omega arith));
+          arguments = rw (arguments, hu, ea) (part-stands s (stringThere argumentsBit f) (only (r .arguments)) small (i .arguments, omega arith, omega arith));
+          workdir = rw (workdir, hv, ew) (part-stands s (stringThere workdirBit f) (only (r .workdir)) small (i .workdir, omega arith, omega arith));
           environment = environment .stands;
         }
+
+    pub parts-are : (keyShown s k ≡ keyIn s) × KeyStands s k
+    parts-are = (parts-shown, parts-stand)
 
 -- ---- the bytes of the key
 

@@ -88,10 +88,10 @@ fn parts_of(s: &[u8], r: Record, firsts: [u32; 11]) -> KeyParts
 {
     let f = r.header.flags;
     KeyParts {
-        unicode: f / 128 % 2 == 1,
+        unicode: format::strings_unicode(f),
         target: part_if(target::has_target(r), target::texts_of(s, r)),
-        arguments: part_if(f / 32 % 2 == 1, only(r.arguments)),
-        workdir: part_if(f / 16 % 2 == 1, only(r.workdir)),
+        arguments: part_if(format::arguments_there(f), only(r.arguments)),
+        workdir: part_if(format::workdir_there(f), only(r.workdir)),
         environment: environment(s, firsts[0]),
     }
 }

@@ -2,20 +2,20 @@
 use mathlib.Core.Path.{_≡_, refl, sym, ap, _∙_}
 use mathlib.Core.List.{List, [], _∷_}
 use mathlib.Core.Bool.{Bool, true, false, not, cond, _&&_}
-use Prim.Native.Nat.{ℕ, zero, suc, _+_, _≤_, _<_}
+use Prim.Native.Nat.{ℕ, zero, suc, _+_, _*_, _/_, _≤_, _<_}
 use native.Mathlib.Omega.{arith}
 use lib.ListN.{length, take, drop, length-drop}
 use lib.Seq.{drop-drop}
-use lib.Dec.{eqb, leb·suc-suc}
-use borrow.Author.Tests.{lt-ltb, eqb-false, not-true, not-false}
+use lib.Dec.{eqb, leb, leb·suc-suc}
+use borrow.Author.Tests.{lt-ltb, leb-true, leb-false, eqb-false, ne-eqb, not-true, not-false}
 use Rattle.octets.specs.Numbers.{number, numberAt}
 use Rattle.octets.specs.Characters.{bytesOf, units, characters, beforeZero, hasZero}
-use Rattle.octets.specs.Steps.Scans.{zeroFrom}
-use Rattle.octets.specs.Steps.Scans.{scanOn, scanAt, other, others, Passed}
+use Rattle.octets.specs.Steps.Cursors.{okOrCut}
+use Rattle.octets.specs.Steps.Scans.{zeroFrom, zeroNumber, zeroValue, Scans, scanOn, scanAt, other, others, before, sixteens, Passed}
 use Rattle.octets.specs.declared.Zero.{Zero}
 use Rattle.octets.specs.declared.Zero.the-variants.{After, Nowhere}
 use Rattle.octets.proofs.AndLaws.{and-true, and-assoc, and-yes}
-use Rattle.octets.proofs.CharacterLaws.{bytes-of-add}
+use Rattle.octets.proofs.CharacterLaws.{before-le, characters-fit, bytes-of-le, bytes-of-add}
 use Rattle.octets.proofs.ChoiceLaws.{cond-first, cond-second}
 
 -- ---- the next character
@@ -39,6 +39,10 @@ no-character false (a ∷ l) h = absurd (omega arith)
 no-character true [] h = refl
 no-character true (a ∷ []) h = refl
 no-character true (a ∷ b ∷ l) h = absurd (omega arith)
+
+character-at : (u : Bool) (s : List ℕ) (i : ℕ) → i + bytesOf u 1 ≤ length s → characters u (drop i s) ≡ numberAt (bytesOf u 1) s i ∷ characters u (drop (i + bytesOf u 1) s)
+unfolding numberAt
+character-at u s i h = first-character u (drop i s) (simp length-drop (omega (arith, some-bytes u))) ∙ rw (drop-drop (bytesOf u 1) i s)
 
 -- ---- a scan that has passed n characters
 
@@ -65,11 +69,8 @@ module _ (u : Bool) (s : List ℕ) (i n : ℕ) {r : Zero} (inv : scanAt u s i n 
 
   module _ {x : ℕ} (fits : i + bytesOf u 1 ≤ length s) (e : x ≡ numberAt (bytesOf u 1) s i) where
     next : scanOn n (x ∷ characters u (drop (i + bytesOf u 1) s)) ≡ r
-    unfolding scanAt numberAt
-    next =
-        let c = first-character u (drop i s) (simp length-drop (omega (arith, some-bytes u))) in
-        let q : characters u (drop i s) ≡ x ∷ characters u (drop (i + bytesOf u 1) s) = c ∙ rw (e, drop-drop (bytesOf u 1) i s) in
-        sym (ap (scanOn n) q) ∙ inv
+    unfolding scanAt
+    next = sym (ap (scanOn n) (character-at u s i fits ∙ rw e)) ∙ inv
 
     pub scan-zero : x ≡ 0 → After n ≡ r
     scan-zero z = sym (on-zero n (characters u (drop (i + bytesOf u 1) s))) ∙ (rw z at next)
@@ -83,6 +84,10 @@ module _ (u : Bool) (s : List ℕ) (i n : ℕ) {r : Zero} (inv : scanAt u s i n 
 no-bytes : (u : Bool) (i : ℕ) → i + bytesOf u 0 ≡ i
 no-bytes true i = omega arith
 no-bytes false i = omega arith
+
+next-place : (u : Bool) (i k : ℕ) → i + bytesOf u (suc k) ≡ i + bytesOf u k + bytesOf u 1
+next-place true i k = omega arith
+next-place false i k = omega arith
 
 pub four-others : (u : Bool) (s : List ℕ) (i : ℕ) {a b c d : ℕ} → a ≡ numberAt (bytesOf u 1) s i → b ≡ numberAt (bytesOf u 1) s (i + bytesOf u 1)
     → c ≡ numberAt (bytesOf u 1) s (i + bytesOf u 2) → d ≡ numberAt (bytesOf u 1) s (i + bytesOf u 3)
@@ -106,27 +111,126 @@ unfolding others
 scan-others u s i n zero o h e = let z : n + 0 ≡ n = omega arith in rw (no-bytes u i, z) e
 scan-others u s i n (suc k) o h e =
     let p = and-true (others u s i k) (other u s (i + bytesOf u k)) o in
-    let m = bytes-of-add u k 1 in
-    let z : suc k ≡ k + 1 = omega arith in
-    let f : i + bytesOf u k + bytesOf u 1 ≤ length s = let g = rw z at h in omega (arith, g, m) in
+    let x : i + bytesOf u (suc k) ≡ i + bytesOf u k + bytesOf u 1 = next-place u i k in
+    let f : i + bytesOf u k + bytesOf u 1 ≤ length s = rw x at h in
     let q = scan-others u s i n k (p .0) (omega arith) e in
     let w = scan-other u s (i + bytesOf u k) (n + k) q f refl (eqb-false (numberAt (bytesOf u 1) s (i + bytesOf u k)) 0 (not-true (eqb (numberAt (bytesOf u 1) s (i + bytesOf u k)) 0) (p .1))) in
-    let x : i + bytesOf u (suc k) ≡ i + bytesOf u k + bytesOf u 1 = rw z (omega (arith, m)) in
     let y : n + suc k ≡ n + k + 1 = omega arith in
     rw (x, y) w
 
-pub passed-none : (u : Bool) (s : List ℕ) (i : ℕ) → Passed u s i i
-passed-none u s i = record { count = 0; place = sym (no-bytes u i); rest = scan-start u s i }
+-- ---- whole sixteens of bytes
 
-pub passed-more : (u : Bool) (s : List ℕ) (i r k : ℕ) {b : Bool} → Passed u s i r → b ≡ others u s r k → not b ≡ false → r + bytesOf u k ≤ length s → Passed u s i (r + bytesOf u k)
-passed-more u s i r k {b = b} p e o h =
+-- what stands before the first zero lies inside
+before-inside : (u : Bool) (s : List ℕ) (i : ℕ) → bytesOf u (before u s i) ≤ length (drop i s)
+before-inside u s i =
+    let l = characters u (drop i s) in
+    omega (arith, bytes-of-le u (before-le l), characters-fit u (drop i s))
+
+before-fits : (u : Bool) (s : List ℕ) (i k : ℕ) → suc k ≤ before u s i → i + bytesOf u (suc k) ≤ length s
+before-fits u s i k h =
+    omega (arith, some-bytes u, bytes-of-le u {m = 1} {n = suc k} (omega arith), bytes-of-le u h, before-inside u s i, length-drop i s)
+
+-- a character that is not zero counts
+before-other : (u : Bool) (s : List ℕ) (i : ℕ) → i + bytesOf u 1 ≤ length s → other u s i ≡ true → before u s i ≡ 1 + before u s (i + bytesOf u 1)
+unfolding beforeZero
+before-other u s i h o = rw (character-at u s i h) (go (numberAt (bytesOf u 1) s i) o)
+  where
+    go : (x : ℕ) → not (eqb x 0) ≡ true → beforeZero (x ∷ characters u (drop (i + bytesOf u 1) s)) ≡ 1 + before u s (i + bytesOf u 1)
+    go zero o = let z : _≡_ {A = ℕ} 0 1 = cc in absurd (omega arith)
+    go (suc x) o = omega arith
+
+some-other : (u : Bool) (s : List ℕ) (i : ℕ) → i + bytesOf u 1 ≤ length s → 0 < before u s i → other u s i ≡ true
+unfolding beforeZero
+some-other u s i h b = go (numberAt (bytesOf u 1) s i) (rw (character-at u s i h) at b)
+  where
+    go : (x : ℕ) → 0 < beforeZero (x ∷ characters u (drop (i + bytesOf u 1) s)) → not (eqb x 0) ≡ true
+    go zero b = absurd (omega arith)
+    go (suc x) b = rw (ne-eqb (suc x) 0 (λ e. omega arith))
+
+others-before : (u : Bool) (s : List ℕ) (i k : ℕ) → others u s i k ≡ true → i + bytesOf u k ≤ length s → before u s i ≡ k + before u s (i + bytesOf u k)
+unfolding others
+others-before u s i zero o h = rw (no-bytes u i) (omega arith)
+others-before u s i (suc k) o h =
+    let p = and-true (others u s i k) (other u s (i + bytesOf u k)) o in
+    let x : i + bytesOf u (suc k) ≡ i + bytesOf u k + bytesOf u 1 = next-place u i k in
+    let f : i + bytesOf u k + bytesOf u 1 ≤ length s = rw x at h in
+    let q = others-before u s i k (p .0) (omega arith) in
+    let w = before-other u s (i + bytesOf u k) f (p .1) in
+    rw x (omega (arith, q, w))
+
+before-others : (u : Bool) (s : List ℕ) (i k : ℕ) → k ≤ before u s i → others u s i k ≡ true
+unfolding others
+before-others u s i zero h = refl
+before-others u s i (suc k) h =
+    let o = before-others u s i k (omega arith) in
+    let x : i + bytesOf u (suc k) ≡ i + bytesOf u k + bytesOf u 1 = next-place u i k in
+    let f : i + bytesOf u k + bytesOf u 1 ≤ length s = rw x at (before-fits u s i k h) in
+    let q = others-before u s i k o (omega arith) in
+    rw (o, some-other u s (i + bytesOf u k) f (omega arith))
+
+-- a scan may go on after characters that are not zero
+passed-many : (u : Bool) (s : List ℕ) (i k : ℕ) → k ≤ before u s i → Passed u s i (i + bytesOf u k)
+passed-many u s i zero h = record { count = 0; place = refl; rest = rw (no-bytes u i) (scan-start u s i) }
+passed-many u s i (suc k) h =
+    let z : 0 + suc k ≡ suc k = omega arith in
     record {
-      count = p .count + k;
-      place = omega (arith, p .place, bytes-of-add u (p .count) k);
-      rest = scan-others u s r (p .count) k (sym e ∙ not-false b o) h (p .rest);
+      count = suc k;
+      place = refl;
+      rest = rw z at (scan-others u s i 0 (suc k) (before-others u s i (suc k) h) (before-fits u s i k h) (scan-start u s i));
     }
 
+pub sixteens-passed : (u : Bool) (s : List ℕ) (i : ℕ) {r : ℕ} → r ≡ sixteens u s i → Passed u s i r
+unfolding sixteens
+sixteens-passed true s i e =
+    let b = before true s i in
+    let w : i + 2 * b / 16 * 16 ≡ i + 2 * (b / 8 * 8) = omega arith in
+    rw (e ∙ w) (passed-many true s i (b / 8 * 8) (omega arith))
+sixteens-passed false s i e = rw e (passed-many false s i (before false s i / 16 * 16) (omega arith))
+
+module _ (u : Bool) (s : List ℕ) (i : ℕ) where
+  none-whole : bytesOf u (before u s i) < 16 → i ≡ sixteens u s i
+  unfolding sixteens
+  none-whole h = omega arith
+
+  pub sixteens-end : length s < i + 16 → i ≡ sixteens u s i
+  sixteens-end h = none-whole (omega (arith, before-inside u s i, length-drop i s))
+
+  -- k characters are sixteen bytes
+  module _ (k : ℕ) (w : bytesOf u k ≡ 16) {b : Bool} (e : b ≡ others u s i k) where
+    pub sixteens-more : not b ≡ false → i + 16 ≤ length s → sixteens u s (i + 16) ≡ sixteens u s i
+    unfolding sixteens
+    sixteens-more o h =
+        let n = others-before u s i k (sym e ∙ not-false b o) (omega arith) in
+        let m = before u s (i + 16) in
+        let a : bytesOf u (before u s i) ≡ 16 + bytesOf u m = ap (bytesOf u) (rw w at n) ∙ bytes-of-add u k m ∙ rw w in
+        omega (arith, a)
+
+    pub sixteens-zero : not b ≡ true → i ≡ sixteens u s i
+    sixteens-zero o = none-whole (go (leb k (before u s i)) refl)
+      where
+        go : (y : Bool) → leb k (before u s i) ≡ y → bytesOf u (before u s i) < 16
+        go true f =
+            let t : false ≡ true = sym (not-true b o) ∙ e ∙ before-others u s i k (leb-true k (before u s i) f) in
+            let z : _≡_ {A = ℕ} 0 1 = cc in
+            absurd (omega arith)
+        go false f = omega (arith, some-bytes u, bytes-of-add u (before u s i) 1, bytes-of-le u {m = before u s i + 1} {n = k} (omega (arith, leb-false k (before u s i) f)))
+
 -- ---- from an answer to the facts
+
+pub scans : (u : Bool) (s : List ℕ) (i : ℕ) {z : Zero} → z ≡ zeroFrom u s i → Scans u s i z
+unfolding zeroFrom zeroNumber zeroValue
+scans u s i e = record { is = e; number = rw e (number (hasZero l)); value = rw e (value (hasZero l)) }
+  where
+    l : List ℕ
+    l = characters u (drop i s)
+
+    number : (b : Bool) → zeroNumber (cond b (After (beforeZero l)) Nowhere) ≡ okOrCut b
+    number true = refl
+    number false = refl
+
+    value : (b : Bool) → zeroValue (cond b (After (beforeZero l)) Nowhere) ≡ cond b (beforeZero l) 0
+    value true = refl
+    value false = refl
 
 pub after-not-nowhere : {z : Zero} {n : ℕ} → z ≡ After n → z ≡ Nowhere → ⊥
 after-not-nowhere p q = let o : _≡_ {A = ℕ} 0 1 = cc in omega arith

@@ -1,4 +1,4 @@
--- Characters of one byte or, in Unicode, of a 16-bit unit; and the first zero one.
+-- FORMAT: Characters and texts. Characters of one byte or, in Unicode, of a 16-bit unit; and the first zero one.
 use Prim.Native.Nat.{ℕ, zero, suc, _+_, _*_}
 use mathlib.Core.List.{List, [], _∷_}
 use mathlib.Core.Bool.{Bool, true, false}

@@ -1,4 +1,4 @@
--- Numbers are little-endian.
+-- FORMAT: Bytes and numbers. A number has its lowest byte first.
 use Prim.Native.Nat.{ℕ, zero, suc, _+_, _*_, _/_, _%_, _<_}
 use mathlib.Core.List.{List, [], _∷_}
 use lib.ListN.{take, drop, getD}

@@ -1,4 +1,4 @@
--- A part of a list of bytes, and a lent buffer after bytes were put into it.
+-- FORMAT: Bytes and numbers, Buffers. A part of a list of bytes, and a lent buffer after bytes were put into it.
 use Prim.Native.Nat.{ℕ, _+_}
 use mathlib.Core.List.{List, _++_}
 use lib.ListN.{length, take, drop}

@@ -3,7 +3,7 @@ ghost use mathlib.Core.Path.{_≡_};
 ghost use mathlib.Core.Bool.{true, false};
 ghost use Prim.Native.Nat.{_+_, _≤_};
 ghost use lib.ListN.{length};
-ghost use Rattle.octets.specs.Steps.Scans.{others, Passed};
+ghost use Rattle.octets.specs.Steps.Scans.{others, sixteens};
 
 fn four_bytes(s: &[u8], i: usize) -> bool
     requires { ⌜ i + 4 ≤ length (now s) ⌝ }
@@ -21,7 +21,7 @@ fn sixteen_bytes(s: &[u8], i: usize) -> bool
 
 // Past all whole sixteens of bytes in front of the first that has a zero.
 pub fn skip_bytes(s: &[u8], from: usize) -> usize
-    ensures { λ r. ⌜ Passed false (now (s .entry)) from r ⌝ }
+    ensures { λ r. ⌜ r ≡ sixteens false (now (s .entry)) from ⌝ }
 {
     if s.len() < 16 {
         return from;
@@ -57,7 +57,7 @@ fn eight_units(s: &[u8], i: usize) -> bool
 
 // Past all whole eights of units in front of the first that has a zero.
 pub fn skip_units(s: &[u8], from: usize) -> usize
-    ensures { λ r. ⌜ Passed true (now (s .entry)) from r ⌝ }
+    ensures { λ r. ⌜ r ≡ sixteens true (now (s .entry)) from ⌝ }
 {
     if s.len() < 16 {
         return from;

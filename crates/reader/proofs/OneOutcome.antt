@@ -1,15 +1,19 @@
 -- Any two outcomes that the contract of a public call allows are equal.
-use mathlib.Core.Path.{_≡_, sym, _∙_}
-use borrow.Fn.World.{ArgsD, ResD}
-use contract.Lifetimes.{Lfts}
-use denote.Triple.Clauses.{AtExit}
+use mathlib.Core.Path.{sym, _∙_}
+use Rattle.octets.proofs.Outcomes.{OneAnswer}
+use Rattle.reader.proofs.outline_of as outline-of
+use Rattle.reader.proofs.finish as finish
 use Rattle.reader.proofs.read as read
-use Rattle.reader.proofs.read.Reads as read-reads
 use Rattle.reader.proofs.check as check
-use Rattle.reader.proofs.check.Reads as check-reads
 
-pub read-one-outcome : (κs : Lfts 1) (a : ArgsD read.signature κs) (r q : ResD read.signature κs) (s t : AtExit read.ended κs) → read-reads.Post κs a r s → read-reads.Post κs a q t → r ≡ q
+pub outline-of-one-outcome : OneAnswer outline-of.ended outline-of.Reads.Post
+outline-of-one-outcome κs a r q s t p o = p ∙ sym o
+
+pub finish-one-outcome : OneAnswer finish.ended finish.Reads.Post
+finish-one-outcome κs a r q s t p o = p ∙ sym o
+
+pub read-one-outcome : OneAnswer read.ended read.Reads.Post
 read-one-outcome κs a r q s t p o = p ∙ sym o
 
-pub check-one-outcome : (κs : Lfts 1) (a : ArgsD check.signature κs) (r q : ResD check.signature κs) (s t : AtExit check.ended κs) → check-reads.Post κs a r s → check-reads.Post κs a q t → r ≡ q
+pub check-one-outcome : OneAnswer check.ended check.Reads.Post
 check-one-outcome κs a r q s t p o = p ∙ sym o

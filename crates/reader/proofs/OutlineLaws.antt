@@ -17,7 +17,8 @@ use Rattle.format.specs.declared.Place.{Place}
 use Rattle.format.specs.declared.Info.{Info}
 use Rattle.format.specs.declared.Verdict.{Verdict}
 use Rattle.format.specs.declared.Verdict.the-variants.{Accepted, Refused as Stopped}
-use Rattle.format.specs.Tests.{Outcome, got, refused, Test, _else_, tests, bit, place}
+use Rattle.format.specs.Tests.{Outcome, got, refused, Test, _else_, tests, place}
+use Rattle.format.specs.Presence.{itemsThere, infoThere, nameBit, relativeBit, workdirBit, argumentsBit, iconBit, stringThere, stringsUnicode}
 use Rattle.format.specs.Header.{headerRules, headerFields, header}
 use Rattle.format.specs.Steps.Firsts.{firsts}
 use Rattle.format.specs.Shortcut.{Section, Tail, Sections, most, tail, sections, shortcut, recordOf, reading, sum}
@@ -75,59 +76,81 @@ header-refused s {r} {f} {q} e k = go (header 0 s) refl (sym k ∙ e)
 
 -- ---- the sections after it
 
-abbrev Held : {A : Type 0} → Bool → ℕ → ℕ → A → Section A → Type 0
-Held b p e a c = c ≡ sectionOf b p e a
+-- the sections of a tail by name
+abbrev pub itemsIn : Tail → Section Place
+itemsIn v = v .0
+
+abbrev pub infoIn : Tail → Section Info
+infoIn v = v .1 .0
+
+abbrev pub nameIn : Tail → Section Place
+nameIn v = v .1 .1 .0
+
+abbrev pub relativeIn : Tail → Section Place
+relativeIn v = v .1 .1 .1 .0
+
+abbrev pub workdirIn : Tail → Section Place
+workdirIn v = v .1 .1 .1 .1 .0
+
+abbrev pub argumentsIn : Tail → Section Place
+argumentsIn v = v .1 .1 .1 .1 .1 .0
+
+abbrev pub iconIn : Tail → Section Place
+iconIn v = v .1 .1 .1 .1 .1 .1 .0
+
+abbrev pub blocksIn : Tail → Section (List ℕ)
+blocksIn v = v .1 .1 .1 .1 .1 .1 .1
 
 -- each section stands where the outline says, and holds what it holds
 pub record Outlined (s : List ℕ) (h : Header) (o : Outline) (v : Tail) : Type 0 where
-  pub items : v .0 ≡ sectionOf (bit 0 (h .flags)) 76 (o .ends .items) (o .held .items)
-  pub info : v .1 .0 ≡ sectionOf (bit 1 (h .flags)) (o .ends .items) (o .ends .info) (o .held .info)
-  pub name : v .1 .1 .0 ≡ sectionOf (bit 2 (h .flags)) (o .ends .info) (o .ends .name) (o .held .name)
-  pub relative : v .1 .1 .1 .0 ≡ sectionOf (bit 3 (h .flags)) (o .ends .name) (o .ends .relative) (o .held .relative)
-  pub workdir : v .1 .1 .1 .1 .0 ≡ sectionOf (bit 4 (h .flags)) (o .ends .relative) (o .ends .workdir) (o .held .workdir)
-  pub arguments : v .1 .1 .1 .1 .1 .0 ≡ sectionOf (bit 5 (h .flags)) (o .ends .workdir) (o .ends .arguments) (o .held .arguments)
-  pub icon : v .1 .1 .1 .1 .1 .1 .0 ≡ sectionOf (bit 6 (h .flags)) (o .ends .arguments) (o .ends .icon) (o .held .icon)
-  pub blocks : BlocksFact s (o .ends .icon) (o .next) (o .held .blocks) (o .firsts) (v .1 .1 .1 .1 .1 .1 .1)
+  pub items : itemsIn v ≡ sectionOf (itemsThere (h .flags)) 76 (o .ends .items) (o .held .items)
+  pub info : infoIn v ≡ sectionOf (infoThere (h .flags)) (o .ends .items) (o .ends .info) (o .held .info)
+  pub name : nameIn v ≡ sectionOf (stringThere nameBit (h .flags)) (o .ends .info) (o .ends .name) (o .held .name)
+  pub relative : relativeIn v ≡ sectionOf (stringThere relativeBit (h .flags)) (o .ends .name) (o .ends .relative) (o .held .relative)
+  pub workdir : workdirIn v ≡ sectionOf (stringThere workdirBit (h .flags)) (o .ends .relative) (o .ends .workdir) (o .held .workdir)
+  pub arguments : argumentsIn v ≡ sectionOf (stringThere argumentsBit (h .flags)) (o .ends .workdir) (o .ends .arguments) (o .held .arguments)
+  pub icon : iconIn v ≡ sectionOf (stringThere iconBit (h .flags)) (o .ends .arguments) (o .ends .icon) (o .held .icon)
+  pub blocks : BlocksFact s (o .ends .icon) (o .next) (o .held .blocks) (o .firsts) (blocksIn v)
 
 pub outline-runs : (s : List ℕ) (h : Header) → Runs s (tail (h .flags)) 76 (outlineFrom s h (record { at = 76 }) .next) (Outlined s h (outlineFrom s h (record { at = 76 })))
 unfolding outlineFrom atOf endsOf
 outline-runs s h =
     let f = h .flags in
-    let u = bit 7 f in
+    let u = stringsUnicode f in
     let start : Next = On (record { at = 76 }) in
-    let items = itemsStep s (bit 0 f) start in
-    let info = infoStep s (bit 1 f) (items .next) in
-    let name = stringStep s (bit 2 f) u (info .next) in
-    let relative = stringStep s (bit 3 f) u (name .next) in
-    let workdir = stringStep s (bit 4 f) u (relative .next) in
-    let arguments = stringStep s (bit 5 f) u (workdir .next) in
-    let icon = stringStep s (bit 6 f) u (arguments .next) in
+    let items = itemsStep s (itemsThere f) start in
+    let info = infoStep s (infoThere f) (items .next) in
+    let name = stringStep s (stringThere nameBit f) u (info .next) in
+    let relative = stringStep s (stringThere relativeBit f) u (name .next) in
+    let workdir = stringStep s (stringThere workdirBit f) u (relative .next) in
+    let arguments = stringStep s (stringThere argumentsBit f) u (workdir .next) in
+    let icon = stringStep s (stringThere iconBit f) u (arguments .next) in
     let r =
-    (then-from (items-from s (bit 0 f) start)
-    (then-from (info-from s (bit 1 f) (items .next))
-    (then-from (string-from s (bit 2 f) u (info .next))
-    (then-from (string-from s (bit 3 f) u (name .next))
-    (then-from (string-from s (bit 4 f) u (relative .next))
-    (then-from (string-from s (bit 5 f) u (workdir .next))
-    (then-from (string-from s (bit 6 f) u (arguments .next)) (blocks-from s (icon .next))))))))) .runs (record { at = 76 }) refl in
+    (then-from (items-from s (itemsThere f) start)
+    (then-from (info-from s (infoThere f) (items .next))
+    (then-from (string-from s (stringThere nameBit f) u (info .next))
+    (then-from (string-from s (stringThere relativeBit f) u (name .next))
+    (then-from (string-from s (stringThere workdirBit f) u (relative .next))
+    (then-from (string-from s (stringThere argumentsBit f) u (workdir .next))
+    (then-from (string-from s (stringThere iconBit f) u (arguments .next)) (blocks-from s (icon .next))))))))) .runs (record { at = 76 }) refl in
     record {
       on = λ c e.
           let x = r .on c e in
-          let y = x .fact in
+          let (items, (info, (name, (relative, (workdir, (arguments, (icon, blocks))))))) = x .fact in
           record {
             value = x .value;
             count = x .count;
             is = x .is;
             ends = x .ends;
             fact = record {
-              items = y .0;
-              info = y .1 .0;
-              name = y .1 .1 .0;
-              relative = y .1 .1 .1 .0;
-              workdir = y .1 .1 .1 .1 .0;
-              arguments = y .1 .1 .1 .1 .1 .0;
-              icon = y .1 .1 .1 .1 .1 .1 .0;
-              blocks = y .1 .1 .1 .1 .1 .1 .1;
+              items = items;
+              info = info;
+              name = name;
+              relative = relative;
+              workdir = workdir;
+              arguments = arguments;
+              icon = icon;
+              blocks = blocks;
             };
           };
       off = r .off;
@@ -156,15 +179,15 @@ record-held : (s : List ℕ) (h : Header) (v : Tail) → Outlined s h (outline s
 record-held s h v F =
     let f : ℕ = h .flags in
     let o : Outline = outline s h in
-    let a : v .0 .read ≡ o .held .items = holds (bit 0 f) 76 (o .ends .items) (o .held .items) (F .items) in
-    let b : v .1 .0 .read ≡ o .held .info = holds (bit 1 f) (o .ends .items) (o .ends .info) (o .held .info) (F .info) in
-    let c : v .1 .1 .0 .read ≡ o .held .name = holds (bit 2 f) (o .ends .info) (o .ends .name) (o .held .name) (F .name) in
-    let d : v .1 .1 .1 .0 .read ≡ o .held .relative = holds (bit 3 f) (o .ends .name) (o .ends .relative) (o .held .relative) (F .relative) in
-    let e : v .1 .1 .1 .1 .0 .read ≡ o .held .workdir = holds (bit 4 f) (o .ends .relative) (o .ends .workdir) (o .held .workdir) (F .workdir) in
-    let g : v .1 .1 .1 .1 .1 .0 .read ≡ o .held .arguments = holds (bit 5 f) (o .ends .workdir) (o .ends .arguments) (o .held .arguments) (F .arguments) in
-    let i : v .1 .1 .1 .1 .1 .1 .0 .read ≡ o .held .icon = holds (bit 6 f) (o .ends .arguments) (o .ends .icon) (o .held .icon) (F .icon) in
-    let j : place (v .1 .1 .1 .1 .1 .1 .1 .start) (sum (v .1 .1 .1 .1 .1 .1 .1 .read)) ≡ o .held .blocks
-    = ap (λ (p : ℕ). place p (sum (v .1 .1 .1 .1 .1 .1 .1 .read))) (F .blocks .start) ∙ sym (F .blocks .body) in
+    let a : itemsIn v .read ≡ o .held .items = holds (itemsThere f) 76 (o .ends .items) (o .held .items) (F .items) in
+    let b : infoIn v .read ≡ o .held .info = holds (infoThere f) (o .ends .items) (o .ends .info) (o .held .info) (F .info) in
+    let c : nameIn v .read ≡ o .held .name = holds (stringThere nameBit f) (o .ends .info) (o .ends .name) (o .held .name) (F .name) in
+    let d : relativeIn v .read ≡ o .held .relative = holds (stringThere relativeBit f) (o .ends .name) (o .ends .relative) (o .held .relative) (F .relative) in
+    let e : workdirIn v .read ≡ o .held .workdir = holds (stringThere workdirBit f) (o .ends .relative) (o .ends .workdir) (o .held .workdir) (F .workdir) in
+    let g : argumentsIn v .read ≡ o .held .arguments = holds (stringThere argumentsBit f) (o .ends .workdir) (o .ends .arguments) (o .held .arguments) (F .arguments) in
+    let i : iconIn v .read ≡ o .held .icon = holds (stringThere iconBit f) (o .ends .arguments) (o .ends .icon) (o .held .icon) (F .icon) in
+    let j : place (blocksIn v .start) (sum (blocksIn v .read)) ≡ o .held .blocks
+    = ap (λ (p : ℕ). place p (sum (blocksIn v .read))) (F .blocks .start) ∙ sym (F .blocks .body) in
     same-record h (o .held) (sym (header-held s h)) a b c d e g i j
   where
     same-record : (g : Header) (r : Record) {x₁ x₃ x₄ x₅ x₆ x₇ x₈ : Place} {x₂ : Info} → g ≡ r .header → x₁ ≡ r .items → x₂ ≡ r .info → x₃ ≡ r .name → x₄ ≡ r .relative
@@ -245,15 +268,22 @@ unfolding finished
 finished-whole e k = rw (e, eq-eqb _ _ k)
 
 -- the outline from its steps
-pub outline-is : (s : List ℕ) (h : Header) (c : Cursor) {items name relative workdir arguments icon : Step} {info : InfoStep} {blocks : BlocksStep} {e : SectionEnds} {there : Bool}
-    → there ≡ bit 0 (h .flags)
-    → items ≡ itemsStep s there (On c)
-    → info ≡ infoStep s (bit 1 (h .flags)) (items .next)
-    → name ≡ stringStep s (bit 2 (h .flags)) (bit 7 (h .flags)) (info .next)
-    → relative ≡ stringStep s (bit 3 (h .flags)) (bit 7 (h .flags)) (name .next)
-    → workdir ≡ stringStep s (bit 4 (h .flags)) (bit 7 (h .flags)) (relative .next)
-    → arguments ≡ stringStep s (bit 5 (h .flags)) (bit 7 (h .flags)) (workdir .next)
-    → icon ≡ stringStep s (bit 6 (h .flags)) (bit 7 (h .flags)) (arguments .next)
+pub outline-is : (s : List ℕ) (h : Header) (c : Cursor) {items name relative workdir arguments icon : Step} {info : InfoStep} {blocks : BlocksStep} {e : SectionEnds} {u t₁ t₂ t₃ t₄ t₅ t₆ t₇ : Bool}
+    → u ≡ stringsUnicode (h .flags)
+    → t₁ ≡ itemsThere (h .flags)
+    → items ≡ itemsStep s t₁ (On c)
+    → t₂ ≡ infoThere (h .flags)
+    → info ≡ infoStep s t₂ (items .next)
+    → t₃ ≡ stringThere nameBit (h .flags)
+    → name ≡ stringStep s t₃ u (info .next)
+    → t₄ ≡ stringThere relativeBit (h .flags)
+    → relative ≡ stringStep s t₄ u (name .next)
+    → t₅ ≡ stringThere workdirBit (h .flags)
+    → workdir ≡ stringStep s t₅ u (relative .next)
+    → t₆ ≡ stringThere argumentsBit (h .flags)
+    → arguments ≡ stringStep s t₆ u (workdir .next)
+    → t₇ ≡ stringThere iconBit (h .flags)
+    → icon ≡ stringStep s t₇ u (arguments .next)
     → blocks ≡ blocksStep s (icon .next)
     → e ≡ endsOf (items .next) (info .next) (name .next) (relative .next) (workdir .next) (arguments .next) (icon .next)
     → record {
@@ -274,7 +304,7 @@ pub outline-is : (s : List ℕ) (h : Header) (c : Cursor) {items name relative w
     }
     ≡ outlineFrom s h c
 unfolding outlineFrom
-outline-is s h c p₀ p₁ p₂ p₃ p₄ p₅ p₆ p₇ p₈ q = rw (q, p₈, p₇, p₆, p₅, p₄, p₃, p₂, p₁, p₀)
+outline-is s h c k k₁ p₁ k₂ p₂ k₃ p₃ k₄ p₄ k₅ p₅ k₆ p₆ k₇ p₇ p₈ q = rw (q, p₈, p₇, p₆, p₅, p₄, p₃, p₂, p₁, k₁, k₂, k₃, k₄, k₅, k₆, k₇, k)
 
 refused-not : {f : Fault} {p n : ℕ} → _≡_ {A = Verdict} (Stopped f p) (Accepted n) → ⊥
 refused-not e = let z : _≡_ {A = ℕ} 0 1 = cc in omega arith

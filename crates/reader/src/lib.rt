@@ -243,35 +243,35 @@ fn outline_from(s: &[u8], h: Header, c: Cursor) -> Outline
     ensures { λ r. ⌜ r ≡ outlineFrom (now (s .entry)) h c ⌝ }
 {
     let f = h.flags;
-    let u = f / 128 % 2 == 1;
+    let u = format::strings_unicode(f);
     let Step {
         next: items,
         held: b1,
-    } = items_step(s, format::bit_0(f), Next::On(c));
+    } = items_step(s, format::items_there(f), Next::On(c));
     let InfoStep {
         next: info,
         held: b2,
-    } = info_step(s, f / 2 % 2 == 1, items);
+    } = info_step(s, format::info_there(f), items);
     let Step {
         next: name,
         held: b3,
-    } = string_step(s, f / 4 % 2 == 1, u, info);
+    } = string_step(s, format::name_there(f), u, info);
     let Step {
         next: relative,
         held: b4,
-    } = string_step(s, f / 8 % 2 == 1, u, name);
+    } = string_step(s, format::relative_there(f), u, name);
     let Step {
         next: workdir,
         held: b5,
-    } = string_step(s, f / 16 % 2 == 1, u, relative);
+    } = string_step(s, format::workdir_there(f), u, relative);
     let Step {
         next: arguments,
         held: b6,
-    } = string_step(s, f / 32 % 2 == 1, u, workdir);
+    } = string_step(s, format::arguments_there(f), u, workdir);
     let Step {
         next: icon,
         held: b7,
-    } = string_step(s, f / 64 % 2 == 1, u, arguments);
+    } = string_step(s, format::icon_there(f), u, arguments);
     let BlocksStep {
         next,
         held: b8,

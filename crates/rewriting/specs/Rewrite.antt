@@ -1,4 +1,4 @@
--- A shortcut read, then written again over its own bytes.
+-- FORMAT: Other programs. A shortcut read, then written again over its own bytes.
 use Prim.Native.Nat.{ℕ}
 use mathlib.Core.List.{List}
 use Rattle.format.specs.declared.Record.{Record}

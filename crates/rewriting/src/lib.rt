@@ -2,10 +2,12 @@
 use format::Verdict;
 ghost use mathlib.Core.Path.{_≡_};
 ghost use Rattle.rewriting.specs.Rewrite.{rewriteAnswer, rewriteOutput};
+ghost use Rattle.rewriting.specs.Kept.{Keeps};
 
 pub fn rewrite(s: &[u8], out: &mut [u8]) -> Verdict
     ensures answer { λ v. ⌜ v ≡ rewriteAnswer (now (s .entry)) (now (out .entry)) ⌝ }
     ensures output { λ _. ⌜ now (out .exit) ≡ rewriteOutput (now (s .entry)) (now (out .entry)) ⌝ }
+    ensures kept { λ v. ⌜ Keeps (now (s .entry)) (now (out .entry)) v (now (out .exit)) ⌝ }
 {
     let g = reader::read(s);
     let v = g.verdict;

@@ -1,5 +1,5 @@
 -- One law for each way out of reading into fields and of writing from them.
-use mathlib.Core.Path.{_≡_, sym, _∙_}
+use mathlib.Core.Path.{_≡_, sym, subst, _∙_}
 use mathlib.Core.List.{List}
 use mathlib.Core.Bool.{Bool, true, false, not}
 use Prim.Native.Nat.{ℕ, _*_, _≤_}
@@ -12,9 +12,11 @@ use Rattle.format.specs.declared.Verdict.{Verdict}
 use Rattle.format.specs.declared.Verdict.the-variants.{Accepted, Refused}
 use Rattle.format.specs.Shortcut.{reading}
 use Rattle.format.specs.Writing.{writeAnswer, writeOutput}
+use Rattle.format.specs.Demands.{Ends}
+use Rattle.format.proofs.Bools.{clash}
 use Rattle.fields.specs.Fields.{fieldCount, fieldsOf, areRecord, recordFrom}
 use Rattle.scheduler.specs.Code.{codeOf}
-use Rattle.scheduler.specs.Records.{FIELDS, VALUES, readCode, readFields, writeCode, writtenFields}
+use Rattle.scheduler.specs.Records.{FIELDS, VALUES, readCode, readFields, writeCode, writtenFields, EndsOf}
 use Rattle.scheduler.proofs.PositionLaws.{check-small}
 use Rattle.scheduler.proofs.CodeLaws.{accepted-small, accepted-code}
 
@@ -47,25 +49,31 @@ module _ (s f : List ℕ) where
 -- ---- writing from them
 
 module _ (f d out : List ℕ) where
-  pub write-miscounted : (length f ≡ fieldCount → ⊥) → (FIELDS ≡ writeCode f d out) × (out ≡ writtenFields f d out)
+  pub write-miscounted : (length f ≡ fieldCount → ⊥) → (FIELDS ≡ writeCode f d out) × ((out ≡ writtenFields f d out) × EndsOf f d out FIELDS out)
   unfolding writeCode writtenFields
-  write-miscounted h = let e = ne-eqb (length f) fieldCount h in (rw e, rw e)
+  write-miscounted h = let e = ne-eqb (length f) fieldCount h in (rw e, (rw e, λ n i. absurd (h n)))
 
   module _ (h : length f ≡ fieldCount) {b : Bool} (e : b ≡ areRecord f) where
-    pub write-no-record : not b ≡ true → (VALUES ≡ writeCode f d out) × (out ≡ writtenFields f d out)
+    pub write-no-record : not b ≡ true → (VALUES ≡ writeCode f d out) × ((out ≡ writtenFields f d out) × EndsOf f d out VALUES out)
     unfolding writeCode writtenFields
     write-no-record t =
         let n = eq-eqb (length f) fieldCount h in
         let k : areRecord f ≡ false = sym e ∙ not-true b t in
-        (rw (n, k), rw (n, k))
+        (rw (n, k), (rw (n, k), λ n i. clash i k))
 
     module _ (t : not b ≡ false) where
       pub is-record : areRecord f ≡ true
       is-record = sym e ∙ not-false b t
 
-      pub write-answered : {q : Record} → q ≡ recordFrom f → {v : Verdict} {x : List ℕ} {r : ℕ} → v ≡ writeAnswer q d out → x ≡ writeOutput q d out → r ≡ codeOf v
-          → (r ≡ writeCode f d out) × (x ≡ writtenFields f d out)
+      pub write-answered : {q : Record} → q ≡ recordFrom f → {v : Verdict} {x : List ℕ} {r : ℕ} → (v ≡ writeAnswer q d out) × ((x ≡ writeOutput q d out) × Ends q d out v x) → r ≡ codeOf v
+          → (r ≡ writeCode f d out) × ((x ≡ writtenFields f d out) × EndsOf f d out r x)
       unfolding writeCode writtenFields
-      write-answered i j k l =
-          let n = eq-eqb (length f) fieldCount h in
-          (rw (n, is-record) (l ∙ rw (j, i)), rw (n, is-record) (k ∙ rw i))
+      write-answered i {v} {x} (j, (k, z)) l =
+          let n = eq-eqb (length f) fieldCount h in (
+            rw (n, is-record) (l ∙ rw (j, i)),
+            (
+              rw (n, is-record) (k ∙ rw i),
+              λ m o.
+                  record { verdict = v; code = l; ends = subst (λ (t : Record). Ends t d out v x) i z },
+            ),
+          )

@@ -34,4 +34,4 @@ pub herringnet-read-one-outcome : (κs : Lfts 2) (a : ArgsD herringnet-read.sign
 herringnet-read-one-outcome κs a r q s t p o = (p .0 ∙ sym (o .0), p .1 ∙ sym (o .1))
 
 pub herringnet-write-one-outcome : (κs : Lfts 3) (a : ArgsD herringnet-write.signature κs) (r q : ResD herringnet-write.signature κs) (s t : AtExit herringnet-write.ended κs) → herringnet-write-reads.Post κs a r s → herringnet-write-reads.Post κs a q t → (r ≡ q) × (now (s .1 .1 .0) ≡ now (t .1 .1 .0))
-herringnet-write-one-outcome κs a r q s t p o = (p .0 ∙ sym (o .0), p .1 ∙ sym (o .1))
+herringnet-write-one-outcome κs a r q s t p o = (p .0 ∙ sym (o .0), p .1 .0 ∙ sym (o .1 .0))

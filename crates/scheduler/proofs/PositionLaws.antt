@@ -12,7 +12,8 @@ use Rattle.octets.specs.Characters.{bytesOf}
 use Rattle.format.specs.declared.Fault.the-variants.{Long as LONG, Trail as TRAIL, Cut as CUT, Info as INFO, Place as PLACE, Unwritable as UNWRITABLE, Room as ROOM, NoTarget as NOTARGET}
 use Rattle.format.specs.declared.Record.{Record}
 use Rattle.format.specs.Numbers.{answerValue}
-use Rattle.format.specs.Tests.{Test, _else_, tests, Outcome, got, refused, Reader, andThen, chain, _then_, bit, place, noPlace}
+use Rattle.format.specs.Tests.{Test, _else_, tests, Outcome, got, refused, Reader, andThen, chain, _then_, place, noPlace}
+use Rattle.format.specs.Presence.{itemsThere, infoThere, nameBit, relativeBit, workdirBit, argumentsBit, iconBit, stringThere, stringsUnicode}
 use Rattle.format.specs.Header.{headerRules, headerFields, header}
 use Rattle.format.specs.Items.{itemsLength, itemsRules, items}
 use Rattle.format.specs.Info.{infoSize, infoRules, noInfo, infoFields, info}
@@ -136,15 +137,16 @@ near-then : {A B : Type 0} {P : Reader A} {Q : Reader B} → NearBy P → NearBy
 near-then {P = P} {Q = Q} f g = near-chain P (λ a. Q) f (λ a. g)
 
 near-strings : (flags k : ℕ) → NearBy (stringSection flags k)
-near-strings flags k = near-section (bit k flags) noPlace (string (bit 7 flags)) (near-string (bit 7 flags))
+near-strings flags k = near-section (stringThere k flags) noPlace (string (stringsUnicode flags)) (near-string (stringsUnicode flags))
 
 near-tail : (flags : ℕ) → NearBy (tail flags)
 near-tail flags =
-    near-then (near-section (bit 0 flags) noPlace items near-items)
-    (near-then (near-section (bit 1 flags) noInfo info near-info)
-    (near-then (near-strings flags 2)
-    (near-then (near-strings flags 3)
-    (near-then (near-strings flags 4) (near-then (near-strings flags 5) (near-then (near-strings flags 6) (near-found blocks near-blocks)))))))
+    near-then (near-section (itemsThere flags) noPlace items near-items)
+    (near-then (near-section (infoThere flags) noInfo info near-info)
+    (near-then (near-strings flags nameBit)
+    (near-then (near-strings flags relativeBit)
+    (near-then (near-strings flags workdirBit)
+    (near-then (near-strings flags argumentsBit) (near-then (near-strings flags iconBit) (near-found blocks near-blocks)))))))
 
 near-sections : NearBy sections
 unfolding sections

@@ -1,4 +1,4 @@
--- Number and value in one number.
+-- FORMAT: C numbers. Number and value in one number.
 use Prim.Native.Nat.{ℕ, _+_, _*_}
 use Rattle.format.specs.declared.Place.{Place}
 use Rattle.format.specs.declared.Verdict.{Verdict}

@@ -1,7 +1,8 @@
--- Reading into fields and writing from them: the slice of numbers is tested first.
+-- FORMAT: Numbers that fit. Reading into fields and writing from them: the slice of numbers is tested first.
 use Prim.Native.Nat.{ℕ}
+use mathlib.Core.Path.{_≡_}
 use mathlib.Core.List.{List}
-use mathlib.Core.Bool.{cond}
+use mathlib.Core.Bool.{true, cond}
 use lib.ListN.{length}
 use lib.Dec.{eqb}
 use Rattle.format.specs.declared.Verdict.{Verdict}
@@ -10,6 +11,7 @@ use Rattle.format.specs.declared.Reading.{Reading}
 use Rattle.format.specs.declared.Record.{Record}
 use Rattle.format.specs.Shortcut.{reading}
 use Rattle.format.specs.Writing.{writeAnswer, writeOutput}
+use Rattle.format.specs.Demands.{Ends}
 use Rattle.fields.specs.Fields.{fieldCount, fieldsOf, areRecord, recordFrom}
 use Rattle.scheduler.specs.Code.{codeOf}
 
@@ -40,3 +42,13 @@ writeCode f d out = cond (eqb (length f) fieldCount) (cond (areRecord f) (codeOf
 unfoldable pub writtenFields : List ℕ → List ℕ → List ℕ → List ℕ
 unfolding areRecord recordFrom writeOutput
 writtenFields f d out = cond (eqb (length f) fieldCount) (cond (areRecord f) (writeOutput (recordFrom f) d out) out) out
+
+-- how writing from the fields of a record may end, by the writer's verdict: the answer c is its code, and x is the lent buffer afterwards
+pub record WriteEnds (f d out : List ℕ) (c : ℕ) (x : List ℕ) : Type 0 where
+  pub verdict : Verdict
+  pub code : c ≡ codeOf verdict
+  pub ends : Ends (recordFrom f) d out verdict x
+
+-- this of 49 fields that are a record
+abbrev pub EndsOf : List ℕ → List ℕ → List ℕ → ℕ → List ℕ → Type 0
+EndsOf f d out c x = length f ≡ fieldCount → areRecord f ≡ true → WriteEnds f d out c x

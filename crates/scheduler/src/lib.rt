@@ -1,4 +1,4 @@
-// What the scheduler calls: a number for each answer, its number and its value in one.
+// What the scheduler calls (FORMAT: The C answers): a number for each answer, its number and its value in one.
 use format::Verdict;
 ghost use mathlib.Core.Path.{_≡_};
 ghost use Prim.Native.Nat.{_≤_};
@@ -8,7 +8,7 @@ ghost use Rattle.format.specs.Target.{targetAnswer, targetOutput};
 ghost use Rattle.format.specs.Key.{keyAnswer, keyOutput};
 ghost use Rattle.format.specs.Listing.{sectionPlace};
 ghost use Rattle.scheduler.specs.Code.{codeOf, sectionCode};
-ghost use Rattle.scheduler.specs.Records.{readCode, readFields, writeCode, writtenFields};
+ghost use Rattle.scheduler.specs.Records.{readCode, readFields, writeCode, writtenFields, EndsOf};
 
 fn code_of(v: Verdict) -> u64
     requires { ⌜ answerValue v ≤ 131073 ⌝ }
@@ -76,6 +76,7 @@ pub extern "C" fn herringnet_read(s: &[u8], f: &mut [u64]) -> u64
 pub extern "C" fn herringnet_write(f: &[u64], d: &[u8], out: &mut [u8]) -> u64
     ensures answer { λ r. ⌜ r ≡ writeCode (now (f .entry)) (now (d .entry)) (now (out .entry)) ⌝ }
     ensures output { λ _. ⌜ now (out .exit) ≡ writtenFields (now (f .entry)) (now (d .entry)) (now (out .entry)) ⌝ }
+    ensures least { λ r. ⌜ EndsOf (now (f .entry)) (now (d .entry)) (now (out .entry)) r (now (out .exit)) ⌝ }
 {
     if f.len() != 49 {
         return 201;

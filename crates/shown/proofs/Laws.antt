@@ -14,7 +14,8 @@ use Rattle.format.specs.declared.Fault.{Fault}
 use Rattle.format.specs.declared.Fault.the-variants.{Long as LONG, Trail as TRAIL}
 use Rattle.format.specs.declared.Header.{Header}
 use Rattle.format.specs.declared.Place.{Place}
-use Rattle.format.specs.Tests.{Outcome, got, refused, bit, place, noPlace}
+use Rattle.format.specs.Tests.{Outcome, got, refused, place, noPlace}
+use Rattle.format.specs.Presence.{itemsThere, infoThere, nameBit, relativeBit, workdirBit, argumentsBit, iconBit, stringThere}
 use Rattle.format.specs.Header.{header}
 use Rattle.format.specs.Blocks.{blocks}
 use Rattle.format.specs.Shortcut.{Section, Tail, Sections, most, shortcut, sum}
@@ -22,7 +23,8 @@ use Rattle.format.specs.Listing.{Row, EndToEnd, row, blockRows, rowsOf, rowsBy,
 use Rattle.header.specs.Steps.Taken.{headerAt}
 use Rattle.header.specs.declared.HeaderTaken.{HeaderTaken}
 use Rattle.header.specs.declared.HeaderTaken.the-variants.{Got, Refused}
-use Rattle.blocks.specs.Steps.Walk.{nthPlace, NthOf}
+use Rattle.blocks.specs.Steps.Walk.{nthPlace, nthBlock}
+use Rattle.blocks.proofs.NthLaws.{nth-of}
 use Rattle.format.proofs.BlockLaws.{blocks-walked}
 use Rattle.format.proofs.AcceptedLaws.{shortcut-whole}
 use Rattle.format.proofs.FoundLaws.{read-end-to-end}
@@ -33,7 +35,7 @@ use Rattle.reader.specs.Steps.EachSection.{atOf, outlineFrom}
 use Rattle.reader.specs.Steps.Finish.{outlineOff, outlineAfter, outlineOf}
 use Rattle.shown.specs.Steps.Asked.{between}
 use Rattle.reader.proofs.Runs.{sectionOf, on-not-off}
-use Rattle.reader.proofs.OutlineLaws.{outline, Outlined, header-got, header-refused, headerSection, header-held, outline-runs, sections-refused, sections-got, shortcut-refused, shortcut-ends, header-refused-shortcut, long-shortcut}
+use Rattle.reader.proofs.OutlineLaws.{blocksIn, outline, Outlined, header-got, header-refused, headerSection, header-held, outline-runs, sections-refused, sections-got, shortcut-refused, shortcut-ends, header-refused-shortcut, long-shortcut}
 
 -- ---- rows by name
 
@@ -117,13 +119,13 @@ abbrev rowsFrom : Outline → List ℕ → List Row
 rowsFrom o ns =
     let f = o .held .header .flags in
     row 0 (headerSection (o .held .header))
-    ++ (row 1 (sectionOf (bit 0 f) 76 (o .ends .items) (o .held .items))
-    ++ (row 2 (sectionOf (bit 1 f) (o .ends .items) (o .ends .info) (o .held .info))
-    ++ (row 3 (sectionOf (bit 2 f) (o .ends .info) (o .ends .name) (o .held .name))
-    ++ (row 4 (sectionOf (bit 3 f) (o .ends .name) (o .ends .relative) (o .held .relative))
-    ++ (row 5 (sectionOf (bit 4 f) (o .ends .relative) (o .ends .workdir) (o .held .workdir))
-    ++ (row 6 (sectionOf (bit 5 f) (o .ends .workdir) (o .ends .arguments) (o .held .arguments))
-    ++ (row 7 (sectionOf (bit 6 f) (o .ends .arguments) (o .ends .icon) (o .held .icon)) ++ blockRows (o .ends .icon) ns)))))))
+    ++ (row 1 (sectionOf (itemsThere f) 76 (o .ends .items) (o .held .items))
+    ++ (row 2 (sectionOf (infoThere f) (o .ends .items) (o .ends .info) (o .held .info))
+    ++ (row 3 (sectionOf (stringThere nameBit f) (o .ends .info) (o .ends .name) (o .held .name))
+    ++ (row 4 (sectionOf (stringThere relativeBit f) (o .ends .name) (o .ends .relative) (o .held .relative))
+    ++ (row 5 (sectionOf (stringThere workdirBit f) (o .ends .relative) (o .ends .workdir) (o .held .workdir))
+    ++ (row 6 (sectionOf (stringThere argumentsBit f) (o .ends .workdir) (o .ends .arguments) (o .held .arguments))
+    ++ (row 7 (sectionOf (stringThere iconBit f) (o .ends .arguments) (o .ends .icon) (o .held .icon)) ++ blockRows (o .ends .icon) ns)))))))
 
 pub record AllRows (s : List ℕ) (o : Outline) : Type 0 where
   pub lengths : List ℕ
@@ -136,7 +138,7 @@ accepted-listing : (s : List ℕ) {c : Sections} {n : ℕ} → shortcut s ≡ go
 unfolding listing
 accepted-listing s e = rw e
 
-outlined-rows : (s : List ℕ) (h : Header) (v : Tail) → Outlined s h (outline s h) v → rowsOf (headerSection h, v) ≡ rowsFrom (outline s h) (v .1 .1 .1 .1 .1 .1 .1 .read)
+outlined-rows : (s : List ℕ) (h : Header) (v : Tail) → Outlined s h (outline s h) v → rowsOf (headerSection h, v) ≡ rowsFrom (outline s h) (blocksIn v .read)
 outlined-rows s h v F =
     let e = header-held s h in
     rw (e, F .items, F .info, F .name, F .relative, F .workdir, F .arguments, F .icon, F .blocks .start)
@@ -155,8 +157,8 @@ all-rows s o c e k d = go (cases s o e)
         let z : shortcut s ≡ got (headerSection h, r .value) (c .at) = shortcut-ends s l (sections-got s h i (r .is)) ∙ rw (n, eq-eqb (c .at) (length s) d) in
         rw x
         (record {
-          lengths = r .value .1 .1 .1 .1 .1 .1 .1 .read;
-          count = r .value .1 .1 .1 .1 .1 .1 .1 .len;
+          lengths = blocksIn (r .value) .read;
+          count = blocksIn (r .value) .len;
           is = F .blocks .is;
           last = F .blocks .last ∙ ap atOf y ∙ d;
           rows = accepted-listing s z ∙ outlined-rows s h (r .value) F;
@@ -189,50 +191,50 @@ module _ (s : List ℕ) (block : ℕ) where
     unfolding sectionPlace
     place-0 = rw (R .rows)
 
-    pub place-1 : between (bit 0 f) 76 (o .ends .items) ≡ sectionPlace s 1 block
+    pub place-1 : between (itemsThere f) 76 (o .ends .items) ≡ sectionPlace s 1 block
     unfolding sectionPlace
-    place-1 = rw (R .rows) (simp (named-append, named-row, low 1 (omega arith), append-nil) (sym (nth-section 1 (bit 0 f) 76 (o .ends .items) (o .held .items))))
+    place-1 = rw (R .rows) (simp (named-append, named-row, low 1 (omega arith), append-nil) (sym (nth-section 1 (itemsThere f) 76 (o .ends .items) (o .held .items))))
 
-    pub place-2 : between (bit 1 f) (o .ends .items) (o .ends .info) ≡ sectionPlace s 2 block
+    pub place-2 : between (infoThere f) (o .ends .items) (o .ends .info) ≡ sectionPlace s 2 block
     unfolding sectionPlace
     place-2 =
         rw (R .rows)
-        (simp (named-append, named-row, low 2 (omega arith), append-nil) (sym (nth-section 2 (bit 1 f) (o .ends .items) (o .ends .info) (o .held .info))))
+        (simp (named-append, named-row, low 2 (omega arith), append-nil) (sym (nth-section 2 (infoThere f) (o .ends .items) (o .ends .info) (o .held .info))))
 
-    pub place-3 : between (bit 2 f) (o .ends .info) (o .ends .name) ≡ sectionPlace s 3 block
+    pub place-3 : between (stringThere nameBit f) (o .ends .info) (o .ends .name) ≡ sectionPlace s 3 block
     unfolding sectionPlace
     place-3 =
         rw (R .rows)
-        (simp (named-append, named-row, low 3 (omega arith), append-nil) (sym (nth-section 3 (bit 2 f) (o .ends .info) (o .ends .name) (o .held .name))))
+        (simp (named-append, named-row, low 3 (omega arith), append-nil) (sym (nth-section 3 (stringThere nameBit f) (o .ends .info) (o .ends .name) (o .held .name))))
 
-    pub place-4 : between (bit 3 f) (o .ends .name) (o .ends .relative) ≡ sectionPlace s 4 block
+    pub place-4 : between (stringThere relativeBit f) (o .ends .name) (o .ends .relative) ≡ sectionPlace s 4 block
     unfolding sectionPlace
     place-4 =
         rw (R .rows)
-        (simp (named-append, named-row, low 4 (omega arith), append-nil) (sym (nth-section 4 (bit 3 f) (o .ends .name) (o .ends .relative) (o .held .relative))))
+        (simp (named-append, named-row, low 4 (omega arith), append-nil) (sym (nth-section 4 (stringThere relativeBit f) (o .ends .name) (o .ends .relative) (o .held .relative))))
 
-    pub place-5 : between (bit 4 f) (o .ends .relative) (o .ends .workdir) ≡ sectionPlace s 5 block
+    pub place-5 : between (stringThere workdirBit f) (o .ends .relative) (o .ends .workdir) ≡ sectionPlace s 5 block
     unfolding sectionPlace
     place-5 =
         rw (R .rows)
-        (simp (named-append, named-row, low 5 (omega arith), append-nil) (sym (nth-section 5 (bit 4 f) (o .ends .relative) (o .ends .workdir) (o .held .workdir))))
+        (simp (named-append, named-row, low 5 (omega arith), append-nil) (sym (nth-section 5 (stringThere workdirBit f) (o .ends .relative) (o .ends .workdir) (o .held .workdir))))
 
-    pub place-6 : between (bit 5 f) (o .ends .workdir) (o .ends .arguments) ≡ sectionPlace s 6 block
+    pub place-6 : between (stringThere argumentsBit f) (o .ends .workdir) (o .ends .arguments) ≡ sectionPlace s 6 block
     unfolding sectionPlace
     place-6 =
         rw (R .rows)
-        (simp (named-append, named-row, low 6 (omega arith), append-nil) (sym (nth-section 6 (bit 5 f) (o .ends .workdir) (o .ends .arguments) (o .held .arguments))))
+        (simp (named-append, named-row, low 6 (omega arith), append-nil) (sym (nth-section 6 (stringThere argumentsBit f) (o .ends .workdir) (o .ends .arguments) (o .held .arguments))))
 
-    pub place-7 : between (bit 6 f) (o .ends .arguments) (o .ends .icon) ≡ sectionPlace s 7 block
+    pub place-7 : between (stringThere iconBit f) (o .ends .arguments) (o .ends .icon) ≡ sectionPlace s 7 block
     unfolding sectionPlace
     place-7 =
         rw (R .rows)
-        (simp (named-append, named-row, low 7 (omega arith), append-nil) (sym (nth-section 7 (bit 6 f) (o .ends .arguments) (o .ends .icon) (o .held .icon))))
+        (simp (named-append, named-row, low 7 (omega arith), append-nil) (sym (nth-section 7 (stringThere iconBit f) (o .ends .arguments) (o .ends .icon) (o .held .icon))))
 
-    pub place-8 : {b : Place} → NthOf s (o .ends .icon) block b → b ≡ sectionPlace s 8 block
+    pub place-8 : {b : Place} → b ≡ nthBlock s (o .ends .icon) block → b ≡ sectionPlace s 8 block
     unfolding sectionPlace
-    place-8 N =
-        rw (R .rows) (N .is (R .lengths) (R .count) (R .is) ∙ simp (named-append, named-row) (sym (nth-block block (o .ends .icon) (R .lengths))))
+    place-8 e =
+        rw (R .rows) (nth-of e .is (R .lengths) (R .count) (R .is) ∙ simp (named-append, named-row) (sym (nth-block block (o .ends .icon) (R .lengths))))
 
     pub place-9 : place (length s - 4) 4 ≡ sectionPlace s 9 block
     unfolding sectionPlace

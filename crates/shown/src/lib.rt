@@ -46,13 +46,13 @@ fn place_in(s: &[u8], o: Outline, name: u32, block: usize) -> Place
     let e = o.ends;
     match name {
         0 => Place { at: 0, len: 76 },
-        1 => between(format::bit_0(f), 76, e.items),
-        2 => between(f / 2 % 2 == 1, e.items, e.info),
-        3 => between(f / 4 % 2 == 1, e.info, e.name),
-        4 => between(f / 8 % 2 == 1, e.name, e.relative),
-        5 => between(f / 16 % 2 == 1, e.relative, e.workdir),
-        6 => between(f / 32 % 2 == 1, e.workdir, e.arguments),
-        7 => between(f / 64 % 2 == 1, e.arguments, e.icon),
+        1 => between(format::items_there(f), 76, e.items),
+        2 => between(format::info_there(f), e.items, e.info),
+        3 => between(format::name_there(f), e.info, e.name),
+        4 => between(format::relative_there(f), e.name, e.relative),
+        5 => between(format::workdir_there(f), e.relative, e.workdir),
+        6 => between(format::arguments_there(f), e.workdir, e.arguments),
+        7 => between(format::icon_there(f), e.arguments, e.icon),
         8 => blocks::nth_block(s, e.icon, block),
         9 => Place {
             at: less(s.len(), 4),

@@ -1,4 +1,4 @@
-// Sections that are one body: a string, and the item list.
+// Sections that are one body: a string, and the item list (FORMAT: Strings, Item list).
 use format::Fault;
 use format::Place;
 use format::Taken;

@@ -4,3 +4,4 @@ pub mod TotalLaws
 pub mod SizeLaws
 pub mod WholeLaws
 pub mod ExactLaws
+pub mod OneOutcome

@@ -1,4 +1,4 @@
-// How many bytes each part of the shortest form has, and where the pieces of LinkInfo start in it: computed once for a write.
+// How many bytes each part of the shortest form has (FORMAT: Canonical length), and where the pieces of LinkInfo start in it: computed once for a write.
 // What is greater than the most that a shortcut has counts as one more than that, so that no sum can wrap.
 use format::Info;
 use format::Network;

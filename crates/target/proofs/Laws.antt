@@ -17,7 +17,8 @@ use Rattle.format.specs.declared.Reading.{Reading}
 use Rattle.format.specs.declared.Fault.{Fault}
 use Rattle.format.specs.declared.Fault.the-variants.{Room as ROOM, NoTarget as NOTARGET}
 use Rattle.format.specs.declared.Verdict.the-variants.{Accepted, Refused}
-use Rattle.format.specs.Tests.{got, refused, _else_, tests, bit}
+use Rattle.format.specs.Tests.{got, refused, _else_, tests}
+use Rattle.format.specs.Presence.{localThere}
 use Rattle.format.specs.Shortcut.{reading}
 use Rattle.format.specs.Contents.{bytesAt}
 use Rattle.format.specs.Writing.{outputOf}
@@ -40,8 +41,8 @@ unfolding firstText
 texts-inside s r n e =
     let i = accepted-bodies s r n e in
     record {
-      first = either (bit 0 (r .info .flags)) (r .info .local) (r .info .network .net) (i .1 .1 .0) (i .1 .1 .1 .0);
-      suffix = i .1 .1 .1 .1 .1 .1 .1 .0;
+      first = either (localThere (r .info .flags)) (r .info .local) (r .info .network .net) (i .local) (i .net);
+      suffix = i .suffix;
       small = accepted-limit s r n e;
     }
   where
@@ -67,7 +68,7 @@ counted first suffix = go (separated first suffix)
 
 pub texts-are : (s : List ℕ) (r : Record) → targetText s r ≡ textsBytes s (textsOf s r)
 unfolding firstText textsOf textsBytes
-texts-are s r = go (bit 0 (r .info .flags))
+texts-are s r = go (localThere (r .info .flags))
   where
     suffix : List ℕ
     suffix = bytesAt s (r .info .suffix)

@@ -1,12 +1,20 @@
 -- Any two outcomes that the contract of a public call allows are equal.
-use mathlib.Core.Path.{_≡_, sym, _∙_}
-use borrow.Fn.World.{ArgsD, ResD}
-use contract.Lifetimes.{Lfts}
-use denote.Triple.Clauses.{AtExit}
+use mathlib.Core.Path.{refl, sym, _∙_}
 use denote.Ref.{now}
+use Rattle.octets.proofs.Outcomes.{OneAnswer, OneOutcome}
+use Rattle.target.proofs.has_target as has-target
+use Rattle.target.proofs.texts_of as texts-of
+use Rattle.target.proofs.put_texts as put-texts
 use Rattle.target.proofs.target as target
-use Rattle.target.proofs.target.Reads as target-reads
 
--- one answer, and one content of the buffer
-pub target-one-outcome : (κs : Lfts 2) (a : ArgsD target.signature κs) (r q : ResD target.signature κs) (s t : AtExit target.ended κs) → target-reads.Post κs a r s → target-reads.Post κs a q t → (r ≡ q) × (now (s .1 .0) ≡ now (t .1 .0))
+pub has-target-one-outcome : OneAnswer has-target.ended has-target.Reads.Post
+has-target-one-outcome κs a r q s t p o = p ∙ sym o
+
+pub texts-of-one-outcome : OneAnswer texts-of.ended texts-of.Reads.Post
+texts-of-one-outcome κs a r q s t p o = p ∙ sym o
+
+pub put-texts-one-outcome : OneOutcome put-texts.ended (λ κs s. now (s .1 .1 .1 .0)) put-texts.Reads.Post
+put-texts-one-outcome κs a r q s t p o = (refl, p ∙ sym o)
+
+pub target-one-outcome : OneOutcome target.ended (λ κs s. now (s .1 .0)) target.Reads.Post
 target-one-outcome κs a r q s t p o = (p .0 ∙ sym (o .0), p .1 ∙ sym (o .1))

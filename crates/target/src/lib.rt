@@ -22,14 +22,16 @@ pub fn has_target(r: Record) -> bool
 {
     let f = r.header.flags;
     let i = r.info.flags;
-    !(f / 256 % 2 == 1) & format::bit_1(f) & (format::bit_0(i) | format::bit_1(i))
+    !(f / 256 % 2 == 1)
+        & format::info_there(f)
+        & (format::local_there(i) | format::network_there(i))
 }
 
 // The local path, or the net name where there is none.
 fn first_text(r: Record) -> Place
     ensures { λ b. ⌜ b ≡ firstText r ⌝ }
 {
-    if format::bit_0(r.info.flags) {
+    if format::local_there(r.info.flags) {
         return r.info.local;
     }
     r.info.network.net

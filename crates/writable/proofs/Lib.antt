@@ -5,3 +5,4 @@ pub mod TextLaws
 pub mod WalkLaws
 pub mod SectionLaws
 pub mod WholeLaws
+pub mod OneOutcome

@@ -1,4 +1,4 @@
-// Whether a record can be written: the bodies' places, the rules of each section, and the length of the whole.
+// Whether a record can be written (FORMAT: Writing tests): the bodies' places, the rules of each section, and the length of the whole.
 use format::Header;
 use format::Info;
 use format::Network;

@@ -1,4 +1,4 @@
--- One law for each way out of the writer.
+-- One law for each way out of the writer, and that each of them ends as demand 3 says.
 use mathlib.Core.Path.{_≡_, sym, ap, _∙_}
 use mathlib.Core.List.{List, [], _∷_}
 use mathlib.Core.Bool.{Bool, true, false, not}
@@ -7,16 +7,21 @@ use native.Mathlib.Omega.{arith}
 use lib.ListN.{length}
 use lib.Dec.{leb}
 use borrow.Author.Tests.{le-leb, lt-leb, not-true, not-false}
+use Rattle.octets.specs.Numbers.{Bytes}
 use Rattle.octets.specs.Parts.{put}
 use Rattle.format.specs.declared.Record.{Record}
 use Rattle.format.specs.declared.Fault.the-variants.{Place as PLACE, Unwritable as UNWRITABLE, Room as ROOM}
+use Rattle.format.specs.declared.Verdict.{Verdict}
 use Rattle.format.specs.declared.Verdict.the-variants.{Accepted, Refused}
 use Rattle.format.specs.Tests.{got, refused, _else_, tests}
 use Rattle.format.specs.Bodies.{bodies, allInside}
 use Rattle.format.specs.Steps.Lengths.{writtenLength}
 use Rattle.format.specs.Contents.{present, bodiesOf, contents}
 use Rattle.format.specs.Writing.{canonical, writable, writing, outputOf, writeAnswer, writeOutput}
+use Rattle.format.specs.Demands.{Ends}
+use Rattle.format.proofs.Ranges.{FitsRecord}
 use Rattle.format.proofs.TableLaws.{placed-present}
+use Rattle.format.proofs.Demands.{the-writer}
 use Rattle.sizes.specs.declared.Starts.{Starts}
 use Rattle.sizes.specs.Steps.Starts.{capped, startsOf}
 use Rattle.writable.proofs.WholeLaws.{writable-length, writable-within}
@@ -25,6 +30,11 @@ use Rattle.canonical.specs.Steps.Puts.{RoomFor}
 pub end-counted : (q : Record) {s : Starts} → s ≡ startsOf q → s .end ≡ capped (writtenLength q)
 unfolding startsOf
 end-counted q e = ap (λ (x : Starts). x .end) e
+
+-- an outcome of the definitions is an end of demand 3, since the types give that the numbers fit and that bytes are bytes
+pub ended : (r : Record) (d out : List ℕ) → FitsRecord r × Bytes d → {v : Verdict} {x : List ℕ} → (v ≡ writeAnswer r d out) × (x ≡ writeOutput r d out)
+    → (v ≡ writeAnswer r d out) × ((x ≡ writeOutput r d out) × Ends r d out v x)
+ended r d out (fits, bytes) (p, q) = (p, (q, rw (p, q) (the-writer r d fits bytes out)))
 
 module _ (r : Record) (d out : List ℕ) {q : Record} (e : q ≡ present r) where
   abbrev w : List ℕ

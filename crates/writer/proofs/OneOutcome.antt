@@ -9,4 +9,4 @@ use Rattle.writer.proofs.write.Reads as write-reads
 
 -- one answer, and one content of the buffer
 pub write-one-outcome : (κs : Lfts 2) (a : ArgsD write.signature κs) (r q : ResD write.signature κs) (s t : AtExit write.ended κs) → write-reads.Post κs a r s → write-reads.Post κs a q t → (r ≡ q) × (now (s .1 .1 .0) ≡ now (t .1 .1 .0))
-write-one-outcome κs a r q s t p o = (p .0 ∙ sym (o .0), p .1 ∙ sym (o .1))
+write-one-outcome κs a r q s t p o = (p .0 ∙ sym (o .0), p .1 .0 ∙ sym (o .1 .0))

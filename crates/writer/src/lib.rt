@@ -4,10 +4,12 @@ use format::Record;
 use format::Verdict;
 ghost use mathlib.Core.Path.{_≡_};
 ghost use Rattle.format.specs.Writing.{writeAnswer, writeOutput};
+ghost use Rattle.format.specs.Demands.{Ends};
 
 pub fn write(r: Record, d: &[u8], out: &mut [u8]) -> Verdict
     ensures answer { λ v. ⌜ v ≡ writeAnswer r (now (d .entry)) (now (out .entry)) ⌝ }
     ensures output { λ _. ⌜ now (out .exit) ≡ writeOutput r (now (d .entry)) (now (out .entry)) ⌝ }
+    ensures least { λ v. ⌜ Ends r (now (d .entry)) (now (out .entry)) v (now (out .exit)) ⌝ }
 {
     let q = writable::present(r);
     if !writable::placed(q, d.len()) {

@@ -46,10 +46,11 @@ with the file's name and a colon stands before each listing.
         line: "print the target text",
         usage: &["[FILE].."],
         text: "\
-Prints the target text on a line: the local path or the net name, then the suffix. Printable
-ASCII stands as it is, every other byte and < as its number in hex: <E9>. With several files
-each line begins with the file's name and a colon, and a colon before a space inside the text
-stands as <3A>. A shortcut without a target is told of on standard error.
+Prints the target text on a line: the local path or the net name, a backslash where one is
+missing, then the suffix. Printable ASCII stands as it is, every other byte and < as its number
+in hex: <E9>. With several files each line begins with the file's name and a colon, and a colon
+before a space inside the text stands as <3A>. A shortcut without a target is told of on
+standard error.
 ",
     },
     Page {

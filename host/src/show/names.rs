@@ -1,4 +1,4 @@
-//! Names of bits, keys, drives and blocks, as document 000 has them.
+//! Names of bits, keys, drives and blocks, as MS-SHLLINK has them.
 
 /// LinkFlags, bit 0 first (section 2.1.1).
 const LINK_FLAGS: [&str; 27] = [
@@ -91,7 +91,7 @@ pub fn drive(number: u32) -> &'static str {
     DRIVES.get(number as usize).unwrap_or(&"no drive type")
 }
 
-/// The name of the block with this signature, if document 000 has one.
+/// The name of the block with this signature, if MS-SHLLINK has one.
 pub fn block(signature: u32) -> Option<&'static str> {
     BLOCKS.iter().find(|row| row.0 == signature).map(|row| row.1)
 }

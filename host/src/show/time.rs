@@ -67,7 +67,7 @@ mod tests {
     fn times_are_dates() {
         assert_eq!(Time(0).to_string(), "not set");
         assert_eq!(Time(1).to_string(), "1601-01-01 00:00:00.0000001 UTC");
-        // The start of 1970, and the time that document 000 prints for its example.
+        // The start of 1970, and the time that MS-SHLLINK prints for its example.
         assert_eq!(Time(116_444_736_000_000_000).to_string(), "1970-01-01 00:00:00.0000000 UTC");
         assert!(Time(0x01C9_1515_F2EE_E9D0).to_string().starts_with("2008-09-12 20:27:17."));
         assert_eq!(Time(u64::MAX).to_string(), "60056-05-28 05:36:10.9551615 UTC");

@@ -8,7 +8,7 @@ use std::fs::{self, File};
 use std::path::{Path, PathBuf};
 use std::process::{Command, Output, Stdio};
 
-/// The sample shortcut, the example of document 000.
+/// The sample shortcut, the example that MS-SHLLINK prints.
 pub const SAMPLE: &[u8] = include_bytes!("../../samples/a.lnk");
 
 /// The shortcuts that the program `vectors` is given, each of which stands after its length in four bytes.

@@ -136,7 +136,7 @@ pub fn as_nobody(command: &mut Command) -> &mut Command {
     }
 }
 
-/// The 80-byte shortcut of document 01.
+/// The shortcut of 80 bytes whose header fields are 0 (FORMAT: Listing lines).
 pub fn z() -> Vec<u8> {
     Record::default().to_vec().unwrap()
 }

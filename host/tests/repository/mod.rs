@@ -1,4 +1,6 @@
 //! The definitions of the repository, read as text: which there are, and which names each of them uses.
+// No test uses all of it.
+#![allow(dead_code)]
 use std::collections::BTreeMap;
 use std::fs;
 use std::path::{Path, PathBuf};

@@ -22,15 +22,15 @@ element-write-firsts c = search needs
 
 returns : tie.Need-returns
 unfolding noted taken
-returns c = λ h. rw (lt-ltb _ 11 (c .before .before .before .if1 .taken), eq-eqb _ 0 (c .before .if2 .taken), c .field-of .ensures h)
+returns c = rw (lt-ltb _ 11 (c .before .before .before .if1 .taken), eq-eqb _ 0 (c .before .if2 .taken), c .field-of .ensures)
 
 returns-2 : tie.Need-returns-2
 unfolding noted taken
-returns-2 c = λ h. rw (lt-ltb _ 11 (c .before .before .if1 .taken), ne-eqb _ 0 (c .if2 .left))
+returns-2 c = rw (lt-ltb _ 11 (c .before .before .if1 .taken), ne-eqb _ 0 (c .if2 .left))
 
 returns-3 : tie.Need-returns-3
 unfolding noted taken
-returns-3 c = λ h. rw (le-ltb _ 11 (c .if1 .left))
+returns-3 c = rw (le-ltb _ 11 (c .if1 .left))
 
 pub note-spec : {M : Type 1} → statement M
 note-spec =

@@ -4,12 +4,13 @@ use mathlib.Core.Path.{_≡_}
 use mathlib.Core.List.{List, [], _∷_, _++_}
 use mathlib.Core.Bool.{true, cond}
 use lib.ListN.{length, drop, getD, set}
-use lib.Dec.{eqb, ltb}
+use lib.Dec.{eqb, leb, ltb}
 use Rattle.octets.specs.Numbers.{u32At}
 use Rattle.format.specs.declared.Fault.{Fault}
+use Rattle.format.specs.declared.Fault.the-variants.{Cut as CUT, Block as BLOCK}
 use Rattle.format.specs.declared.Place.{Place}
-use Rattle.format.specs.Tests.{Outcome, got, refused, andThen, place, noPlace}
-use Rattle.format.specs.Blocks.{slotOf, sizeFits, blockSize, aBlock, aTerminal, blockStep, blocks}
+use Rattle.format.specs.Tests.{_else_, tests, Outcome, got, refused, andThen, place, noPlace}
+use Rattle.format.specs.Blocks.{slotOf, sizeFits, slotAt, blockSize, Standing, aBlock, aTerminal, blockStep, blocks}
 use Rattle.format.specs.Steps.Firsts.{firsts}
 use Rattle.format.specs.Shortcut.{most, sum}
 use Rattle.blocks.specs.declared.BlockStep.{BlockStep}
@@ -28,11 +29,24 @@ pub record Sized (s : List ℕ) (n k : ℕ) : Type 0 where
   pub slot : k ≡ slotOf (u32At s 4)
   pub fits : sizeFits k n ≡ true
 
--- what a block holds is not looked at
-abbrev pub BySize : List ℕ → BlockStep → Type 0
-BySize s (Block n k) = Sized s n k
-BySize s Terminal = (p : ℕ) → blockStep p s ≡ got aTerminal 4
-BySize s (NotOne f) = (p : ℕ) → blockStep p s ≡ refused f p
+abbrev pub stepOf : ℕ → Outcome Standing → BlockStep
+stepOf slot (got aBlock n) = Block n slot
+stepOf slot (got aTerminal n) = Terminal
+stepOf slot (refused f q) = NotOne f
+
+-- the step of reading, but what a block holds is not looked at
+unfoldable pub bySize : List ℕ → BlockStep
+bySize s =
+    let n = blockSize s in
+    stepOf (slotAt s)
+    (tests 0 (leb 4 (length s) else CUT ∷ [])
+    (cond (ltb n 4) (got aTerminal 4) (tests 0 (leb 8 n else BLOCK ∷ leb n (length s) else CUT ∷ sizeFits (slotAt s) n else BLOCK ∷ []) (got aBlock n))))
+
+-- what reading says of that step
+abbrev pub Told : List ℕ → BlockStep → Type 0
+Told s (Block n k) = Sized s n k
+Told s Terminal = (p : ℕ) → blockStep p s ≡ got aTerminal 4
+Told s (NotOne f) = (p : ℕ) → blockStep p s ≡ refused f p
 
 abbrev pub Stands : List ℕ → BlockStep → Type 0
 Stands s (Block n k) = Sized s n k × ((p : ℕ) → blockStep p s ≡ got aBlock n)
@@ -48,6 +62,10 @@ NoBlock s p = (n : ℕ) → blockStep p (drop p s) ≡ got aBlock n → ⊥
 abbrev pub noFirsts : List ℕ
 noFirsts = 0 ∷ 0 ∷ 0 ∷ 0 ∷ 0 ∷ 0 ∷ 0 ∷ 0 ∷ 0 ∷ 0 ∷ 0 ∷ []
 
+-- what is noted of a block at p: where its signature stands; no shortcut reaches what is too far for the number
+abbrev pub fieldOf : ℕ → ℕ
+fieldOf p = cond (ltb p most) (p + 4) 0
+
 -- a slot that is taken keeps what it has
 unfoldable pub taken : List ℕ → ℕ → ℕ → List ℕ
 taken row slot field = cond (eqb (getD row slot 0) 0) (set row slot field) row
@@ -55,6 +73,16 @@ taken row slot field = cond (eqb (getD row slot 0) 0) (set row slot field) row
 unfoldable pub noted : List ℕ → ℕ → ℕ → List ℕ
 unfolding taken
 noted row slot field = cond (ltb slot 11) (taken row slot field) row
+
+-- the row after blocks of these lengths from p on
+unfoldable pub notedAll : List ℕ → ℕ → List ℕ → List ℕ → List ℕ
+notedAll s p [] row = row
+notedAll s p (n ∷ ns) row = notedAll s (p + n) ns (noted row (slotAt (drop p s)) (fieldOf p))
+
+-- blocks of these lengths stand from a on, up to p
+abbrev pub Walked : List ℕ → ℕ → List ℕ → ℕ → Type 0
+Walked s a [] p = a ≡ p
+Walked s a (n ∷ ns) p = (blockStep a (drop a s) ≡ got aBlock n) × Walked s (a + n) ns p
 
 -- what is read after blocks of these lengths
 abbrev pub after : List ℕ → Outcome (List ℕ) → Outcome (List ℕ)
@@ -65,6 +93,8 @@ pub record Passed (s : List ℕ) (a p : ℕ) (row : List ℕ) : Type 0 where
   pub lengths : List ℕ
   pub adds : p ≡ a + sum lengths
   pub inside : p ≤ length s
+  pub walked : Walked s a lengths p
+  pub notes : row ≡ notedAll s a lengths noFirsts
   pub is : (y : List ℕ) → blocks a (drop a (s ++ y)) ≡ after lengths (blocks p (drop p (s ++ y)))
   pub first : length s ≤ most → row ≡ firsts s a lengths
 
@@ -92,6 +122,17 @@ stoppedAt f p = record { taken = Refused f p; firsts = noFirsts }
 -- the block whose signature stands there; the empty place for 0
 unfoldable pub blockFrom : List ℕ → ℕ → Place
 blockFrom s field = cond (ltb field 4) noPlace (place (field - 4) (u32At s (field - 4)))
+
+-- what is made of a block's size; the empty place where there is no block
+abbrev pub ifBlock : BlockStep → (ℕ → Place) → Place
+ifBlock (Block n k) f = f n
+ifBlock Terminal f = noPlace
+ifBlock (NotOne e) f = noPlace
+
+-- the block number k from p on, by their sizes
+unfoldable pub nthBlock : List ℕ → ℕ → ℕ → Place
+nthBlock s p zero = ifBlock (bySize (drop p s)) (λ n. place p n)
+nthBlock s p (suc k) = ifBlock (bySize (drop p s)) (λ n. nthBlock s (p + n) k)
 
 -- the place of number k, of blocks of these lengths from p on
 abbrev pub nthPlace : ℕ → List ℕ → ℕ → Place

@@ -43,7 +43,8 @@ returns c =
     let after-bits-of = after-file-size .before .before in
     let after-told = after-bits-of .before in
     let start = after-told .before .before in
-    let back = toZ-ofZ {w = w32} {z = start .args .h .«icon_index»} (record { sfits = after-told .struct-told .given .1 .1 .1 .1 .1 .1 .0 .1 }) in
+    let (flags, (attributes, (creation, (access, (write, (size, (icon, rest))))))) = after-told .struct-told .given in
+    let back = toZ-ofZ {w = w32} {z = start .args .h .«icon_index»} (record { sfits = icon .1 }) in
     reword
     (join (after-file-size .add-u32 .ensures) (join (after-icon .add-u322 .ensures) (join (after-command .add-u323 .ensures) (join (after-hotkey .add-u16 .ensures) (join (after-zeros .add-u64 .ensures) (after-last-zeros .add-u162 .ensures))))))
     (view-is (start .args .h) (rw back at (after-bits-of .bits-of .ensures))) refl

@@ -73,7 +73,8 @@ returns c =
     let after-network = after-told .before .before .before .before in
     let start = after-network .before .before .before .before in
     let q = start .args .q in
-    let back = toZ-ofZ {w = w32} {z = q .header .«icon_index»} (record { sfits = after-told .struct-told .given .1 .1 .1 .1 .1 .1 .0 .1 }) in
+    let (flags, (attributes, (creation, (access, (write, (size, (icon, rest))))))) = after-told .struct-told .given in
+    let back = toZ-ofZ {w = w32} {z = q .header .«icon_index»} (record { sfits = icon .1 }) in
     numbers-are q (rw back at (after-icon .bits-of .ensures)) (after-long .one-or-0 .ensures) (after-label-unicode .label-unicode .ensures) (after-label-kind .one-or-02 .ensures) (c .one-or-03 .ensures)
 
 pub numbers-of-spec : {M : Type 1} → statement M

@@ -1,5 +1,7 @@
--- The numbers and then the places fill all fields, so nothing of what was there before is left.
+-- The numbers and then the places fill all fields, so nothing of what was there before is left; and the record's type gives that they lead back to it.
+use Rattle.format.proofs.FitsLaws.{type-fits}
 use Rattle.fields.proofs.Laws.{filled}
+use Rattle.fields.proofs.RoundTrip.{round-trip}
 use borrow.Author.Needs.{needs}
 use Rattle.fields.proofs.put_fields.Statement.{statement}
 use Rattle.fields.proofs.put_fields.Tie as tie
@@ -33,7 +35,8 @@ returns c =
     let after-places-of = after-put-numbers .before .before .before in
     let after-numbers-of = after-places-of .before in
     let start = after-numbers-of .before .before in
-    filled _ _ (start .pre) (after-numbers-of .numbers-of .ensures) (after-places-of .places-of .ensures) (after-put-numbers .put-numbers .ensures) (after-put-places .put-numbers2 .ensures)
+    round-trip _ (type-fits _ _ (start .good .1 .0))
+    (filled _ _ (start .pre) (after-numbers-of .numbers-of .ensures) (after-places-of .places-of .ensures) (after-put-numbers .put-numbers .ensures) (after-put-places .put-numbers2 .ensures))
 
 pub put-fields-spec : {M : Type 1} → statement M
 put-fields-spec =

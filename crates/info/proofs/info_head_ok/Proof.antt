@@ -17,8 +17,8 @@ returns c = head-fails _ (c .before .u32-at .ensures) (c .if1 .taken)
 u32-at-requires-2 : tie.Need-u32-at-requires-2
 u32-at-requires-2 c κs = search needs
 
-bit-0-requires : tie.Need-bit-0-requires
-bit-0-requires c κs = search needs
+local-there-requires : tie.Need-local-there-requires
+local-there-requires c κs = search needs
 
 u32-at-requires-3 : tie.Need-u32-at-requires-3
 u32-at-requires-3 c κs = search needs
@@ -38,8 +38,8 @@ cast-absent-zero-2 c = search needs
 absent-zero-requires-2 : tie.Need-absent-zero-requires-2
 absent-zero-requires-2 c κs = search needs
 
-bit-1-requires : tie.Need-bit-1-requires
-bit-1-requires c κs = search needs
+network-there-requires : tie.Need-network-there-requires
+network-there-requires c κs = search needs
 
 u32-at-requires-5 : tie.Need-u32-at-requires-5
 u32-at-requires-5 c κs = search needs
@@ -61,13 +61,13 @@ absent-zero-requires-4 c κs = search needs
 
 returns-2 : tie.Need-returns-2
 returns-2 c =
-    let after-bit-1 = c .before .before .before .before in
-    let after-volume-offset = after-bit-1 .before .before .before .before in
+    let after-network-there = c .before .before .before .before in
+    let after-volume-offset = after-network-there .before .before .before .before in
     head-passes _ (after-volume-offset .before .before .before .before .u32-at .ensures) (after-volume-offset .before .before .before .if1 .left)
-    (after-volume-offset .before .before .u32-at2 .ensures) (after-volume-offset .before .bit-0 .ensures)
-    (after-volume-offset .u32-at3 .ensures) (after-bit-1 .before .before .before .absent-zero .ensures) (after-bit-1 .before .before .u32-at4 .ensures)
-    (after-bit-1 .before .absent-zero2 .ensures)
-    (after-bit-1 .bit-1 .ensures) (c .before .before .before .u32-at5 .ensures) (c .before .before .absent-zero3 .ensures) (c .before .field .ensures)
+    (after-volume-offset .before .before .u32-at2 .ensures) (after-volume-offset .before .local-there .ensures)
+    (after-volume-offset .u32-at3 .ensures) (after-network-there .before .before .before .absent-zero .ensures) (after-network-there .before .before .u32-at4 .ensures)
+    (after-network-there .before .absent-zero2 .ensures)
+    (after-network-there .network-there .ensures) (c .before .before .before .u32-at5 .ensures) (c .before .before .absent-zero3 .ensures) (c .before .field .ensures)
     (c .absent-zero4 .ensures)
 
 pub info-head-ok-spec : {M : Type 1} → statement M
@@ -78,14 +78,14 @@ info-head-ok-spec =
     cast-head
     returns
     u32-at-requires-2
-    bit-0-requires
+    local-there-requires
     u32-at-requires-3
     cast-absent-zero
     absent-zero-requires
     u32-at-requires-4
     cast-absent-zero-2
     absent-zero-requires-2
-    bit-1-requires
+    network-there-requires
     u32-at-requires-5
     cast-absent-zero-3
     absent-zero-requires-3

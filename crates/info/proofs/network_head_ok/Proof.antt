@@ -21,8 +21,8 @@ returns c =
     let name = c .before .before .before in
     network-short _ (name .before .u32-at .ensures) (name .u32-at2 .ensures) (c .before .before .uncut .ensures) (c .before .uncut2 .ensures) (c .if1 .taken)
 
-bit-0-requires : tie.Need-bit-0-requires
-bit-0-requires c κs = search needs
+device-there-requires : tie.Need-device-there-requires
+device-there-requires c κs = search needs
 
 u32-at-requires-3 : tie.Need-u32-at-requires-3
 u32-at-requires-3 c κs = search needs
@@ -48,7 +48,7 @@ returns-2 c =
     let first = device .before in
     let name = first .before .before .before in
     network-long _ (name .before .u32-at .ensures) (name .u32-at2 .ensures) (first .before .before .uncut .ensures) (first .before .uncut2 .ensures) (first .if1 .left)
-    (device .bit-0 .ensures) (c .before .before .before .u32-at3 .ensures) (c .before .before .absent-zero .ensures) (c .before .field .ensures) (c .absent-zero2 .ensures)
+    (device .device-there .ensures) (c .before .before .before .u32-at3 .ensures) (c .before .before .absent-zero .ensures) (c .before .field .ensures) (c .absent-zero2 .ensures)
 
 pub network-head-ok-spec : {M : Type 1} → statement M
 network-head-ok-spec =
@@ -59,7 +59,7 @@ network-head-ok-spec =
     uncut-requires
     uncut-requires-2
     returns
-    bit-0-requires
+    device-there-requires
     u32-at-requires-3
     cast-absent-zero
     absent-zero-requires

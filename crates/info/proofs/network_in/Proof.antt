@@ -11,6 +11,15 @@ network-head-ok-requires c κs = search needs
 returns : tie.Need-returns
 returns c = network-fails _ _ (c .before .network-head-ok .ensures) (c .if1 .taken)
 
+-- The head was tested, and its first fields read, before the net name was looked for.
+abbrev name-read : tie.After-text-at → tie.After-u32-at2
+name-read c = c .before .before .before .before
+
+abbrev entry : tie.After-text-at → tie.Start
+entry c =
+    let after-test = name-read c .before .before in
+    after-test .before .before .before
+
 u32-at-requires : tie.Need-u32-at-requires
 u32-at-requires c κs = search needs
 
@@ -20,8 +29,11 @@ u32-at-requires-2 c κs = search needs
 cast-name : tie.Need-cast-name
 cast-name c = search needs
 
-bit-0-requires : tie.Need-bit-0-requires
-bit-0-requires c κs = search needs
+device-there-requires : tie.Need-device-there-requires
+device-there-requires c κs = search needs
+
+device-unicode-there-requires : tie.Need-device-unicode-there-requires
+device-unicode-there-requires c κs = search needs
 
 network-head-requires : tie.Need-network-head-requires
 network-head-requires c κs = search needs
@@ -40,64 +52,75 @@ text-at-requires-2 c κs = search needs
 
 field-requires : tie.Need-field-requires
 field-requires c κs =
-    let after-bit-0 = c .before .before .before .before in
-    λ e. omega (arith, network-room _ (after-bit-0 .before .before .before .before .network-head-ok .ensures) (after-bit-0 .before .before .before .if1 .left) (after-bit-0 .before .u32-at2 .ensures) e)
+    let after-name = name-read (c .before .before) in
+    let after-test = after-name .before .before in
+    λ e. omega (arith, network-room _ (after-test .before .network-head-ok .ensures) (after-test .if1 .left) (after-name .u32-at2 .ensures) e)
 
 text-at-requires-3 : tie.Need-text-at-requires-3
-text-at-requires-3 c κs =
-    let after-network-head = c .before .before .before .before in
-    let after-head-asked = after-network-head .before .before .before .before in
-    after-head-asked .before .before .before .pre .1
+text-at-requires-3 c κs = entry (c .before .before .before) .pre .1
 
 field-requires-2 : tie.Need-field-requires-2
 field-requires-2 c κs =
-    let after-net-text = c .before .before .before .before in
-    let after-name-offset = after-net-text .before .before .before in
-    network-room _ (after-name-offset .before .before .before .network-head-ok .ensures) (after-name-offset .before .before .if1 .left) (after-name-offset .u32-at2 .ensures)
+    let after-name = name-read (c .before .before .before .before) in
+    let after-test = after-name .before .before in
+    network-room _ (after-test .before .network-head-ok .ensures) (after-test .if1 .left) (after-name .u32-at2 .ensures)
 
 text-at-requires-4 : tie.Need-text-at-requires-4
 text-at-requires-4 c κs =
-    let after-device-offset = c .before .before .before .before in
-    let after-name-offset = after-device-offset .before .before .before .before in
-    let after-shared-slice-known = after-name-offset .before .before .before .before in
-    after-shared-slice-known .before .pre .1
+    let after-net-unicode = c .before in
+    entry (after-net-unicode .before .before .before .before) .pre .1
 
 apart-four-requires : tie.Need-apart-four-requires
 apart-four-requires c κs =
     let after-device-unicode = c .before .before .before .before in
-    let after-device = after-device-unicode .before .before .before .before in
-    (after-device .before .before .text-at .ensures .1, after-device .text-at2 .ensures .1, after-device-unicode .before .before .text-at3 .ensures .1, after-device-unicode .text-at4 .ensures .1)
+    let after-net-unicode = after-device-unicode .before .before in
+    let after-device = after-net-unicode .before .before in
+    let after-net = after-device .before .before in
+    (after-net .text-at .ensures .1, after-device .text-at2 .ensures .1, after-net-unicode .text-at3 .ensures .1, after-device-unicode .text-at4 .ensures .1)
+
+provider-there-requires : tie.Need-provider-there-requires
+provider-there-requires c κs = search needs
 
 u32-at-requires-4 : tie.Need-u32-at-requires-4
 u32-at-requires-4 c κs =
-    let after-struct-known = c .before .before .before .before in
-    let after-field = after-struct-known .before .before .before .before in
-    let after-network-head = after-field .before .before .before .before in
-    let after-head-asked = after-network-head .before .before .before .before in
-    after-head-asked .before .before .before .pre .0
+    let after-apart = c .before in
+    let after-known = after-apart .before .before .before .before in
+    let after-net-unicode = after-known .before .before .before in
+    entry (after-net-unicode .before .before .before .before) .pre .0
 
-provider-requires : tie.Need-provider-requires
-provider-requires c κs = search needs
+number-if-requires : tie.Need-number-if-requires
+number-if-requires c κs = search needs
 
 network-if-requires : tie.Need-network-if-requires
 network-if-requires c κs = search needs
 
 returns-2 : tie.Need-returns-2
 returns-2 c =
-    let after-net = c .before .before .before .before in
-    let after-apart-four = after-net .before .before .before in
-    let after-struct-known = after-apart-four .before .before .before .before in
-    let after-field = after-struct-known .before .before .before .before in
-    let after-network-head = after-field .before .before .before .before in
-    let after-head-asked = after-network-head .before .before .before .before in
-    let f = four _ _ (after-network-head .before .before .before .u32-at .ensures) (after-network-head .before .before .u32-at2 .ensures)
-    (after-network-head .before .bit-0 .ensures) (after-network-head .network-head .ensures) (after-field .before .before .before .text-at .ensures .0)
-    (after-field .before .before .u32-at3 .ensures) (after-field .before .text-at2 .ensures .0)
-    (after-field .field .ensures) (after-struct-known .before .before .before .text-at3 .ensures .0) (after-struct-known .before .before .field2 .ensures)
-    (after-struct-known .before .text-at4 .ensures .0) in
-    network-read _ _ (after-head-asked .before .network-head-ok .ensures) (after-head-asked .if1 .left) f (after-apart-four .apart-four .ensures)
-    (after-network-head .before .before .before .u32-at .ensures) (after-network-head .before .before .u32-at2 .ensures) (after-net .before .before .u32-at4 .ensures)
-    (after-net .before .provider .ensures)
+    let after-bodies = c .before .before .before .before in
+    let after-provider = after-bodies .before in
+    let after-provider-field = after-provider .before in
+    let after-provider-there = after-provider-field .before in
+    let after-apart = after-provider-there .before in
+    let after-known = after-apart .before .before .before .before in
+    let after-device-unicode = after-known .before in
+    let after-net-unicode = after-device-unicode .before .before in
+    let after-device = after-net-unicode .before .before in
+    let after-net = after-device .before .before in
+    let after-head = after-net .before in
+    let after-both = after-head .before in
+    let after-device-there = after-both .before in
+    let after-name = after-device-there .before in
+    let after-flags = after-name .before in
+    let after-test = after-flags .before in
+    let f = four _ _ (after-flags .u32-at .ensures) (after-name .u32-at2 .ensures)
+    (after-device-there .device-there .ensures) (after-both .device-unicode-there .ensures)
+    (after-head .network-head .ensures) (after-net .text-at .ensures .0)
+    (after-device .before .u32-at3 .ensures) (after-device .text-at2 .ensures .0)
+    (after-net-unicode .before .field .ensures) (after-net-unicode .text-at3 .ensures .0)
+    (after-device-unicode .before .field2 .ensures) (after-device-unicode .text-at4 .ensures .0) in
+    network-read _ _ (after-test .before .network-head-ok .ensures) (after-test .if1 .left) f (after-apart .apart-four .ensures)
+    (after-flags .u32-at .ensures) (after-name .u32-at2 .ensures)
+    (after-provider-there .provider-there .ensures) (after-provider-field .u32-at4 .ensures) (after-provider .number-if .ensures)
     (c .network-if .ensures)
 
 pub network-in-spec : {M : Type 1} → statement M
@@ -109,7 +132,8 @@ network-in-spec =
     u32-at-requires
     u32-at-requires-2
     cast-name
-    bit-0-requires
+    device-there-requires
+    device-unicode-there-requires
     network-head-requires
     text-at-requires
     u32-at-requires-3
@@ -120,7 +144,8 @@ network-in-spec =
     field-requires-2
     text-at-requires-4
     apart-four-requires
+    provider-there-requires
     u32-at-requires-4
-    provider-requires
+    number-if-requires
     network-if-requires
     returns-2)

@@ -32,11 +32,11 @@ no-text-requires-3 c κs = search needs
 returns-3 : tie.Need-returns-3
 returns-3 c =
     let after-zero-from = c .before .before .before in
-    text-open _ _ _ _ _ _ (after-zero-from .before .before .if1 .left) (omega arith) (after-zero-from .zero-from .ensures) (c .before .enum-told .given .1)
+    text-open _ _ _ _ _ _ (after-zero-from .before .before .if1 .left) (omega arith) (after-zero-from .zero-from .ensures .is) (c .before .enum-told .given .1)
     (c .no-text3 .ensures)
 
 bytes-of-requires : tie.Need-bytes-of-requires
-bytes-of-requires c κs = omega (arith, text-inside _ _ _ (c .before .before .before .zero-from .ensures) (c .before .n .given .1))
+bytes-of-requires c κs = omega (arith, text-inside _ _ _ (c .before .before .before .zero-from .ensures .is) (c .before .n .given .1))
 
 bytes-of-requires-2 : tie.Need-bytes-of-requires-2
 bytes-of-requires-2 c κs = search needs
@@ -44,17 +44,17 @@ bytes-of-requires-2 c κs = search needs
 add-t12 : tie.Need-add-t12
 add-t12 c =
     let after-n = c .before .before .before in
-    omega (arith, text-inside _ _ _ (after-n .before .before .zero-from .ensures) (after-n .n .given .1))
+    omega (arith, text-inside _ _ _ (after-n .before .before .zero-from .ensures .is) (after-n .n .given .1))
 
 add-t14 : tie.Need-add-t14
 add-t14 c =
     let after-n = c .before .before .before in
-    omega (arith, text-inside _ _ _ (after-n .before .before .zero-from .ensures) (after-n .n .given .1))
+    omega (arith, text-inside _ _ _ (after-n .before .before .zero-from .ensures .is) (after-n .n .given .1))
 
 returns-4 : tie.Need-returns-4
 returns-4 c =
     let after-n = c .before .before .before in
-    text-ends _ _ _ _ _ _ (after-n .before .before .before .before .if1 .left) (omega arith) (after-n .before .before .zero-from .ensures) (omega arith)
+    text-ends _ _ _ _ _ _ (after-n .before .before .before .before .if1 .left) (omega arith) (after-n .before .before .zero-from .ensures .is) (omega arith)
     (after-n .n .given .1) (c .before .bytes-of .ensures) (c .bytes-of2 .ensures)
 
 pub text-at-spec : {M : Type 1} → statement M

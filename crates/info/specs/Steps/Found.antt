@@ -14,7 +14,6 @@ use Rattle.format.specs.Pieces.{Piece, textPiece, textPlace, structTests, tests
 use Rattle.format.specs.Volume.{volumePiece, volumeAt, volumeRules, volumeFields, noVolume}
 use Rattle.format.specs.Network.{networkRules, networkPiece, networkFields, networkAt, noNetwork}
 use Rattle.format.specs.Info.{infoHead, longHead, infoFlags, hasLocal, hasNetwork, infoPieces, hasLocalUnicode}
-use Rattle.format.specs.Presence.{providerThere}
 use Rattle.info.specs.declared.Text.{Text}
 use Rattle.info.specs.declared.VolumeFound.{VolumeFound}
 use Rattle.info.specs.declared.NetworkFound.{NetworkFound}
@@ -82,9 +81,6 @@ networkIf ok n = cond ok (GoodNetwork n) BadNetwork
 
 unfoldable pub networkIn : ℕ → List ℕ → NetworkRead
 networkIn p v = networkIf (all (networkRules v)) (networkFields p v)
-
-abbrev pub providerOf : ℕ → ℕ → ℕ
-providerOf flags kept = cond (providerThere flags) kept 0
 
 -- ---- LinkInfo
 

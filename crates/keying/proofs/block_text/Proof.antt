@@ -28,7 +28,7 @@ returns c =
     let after-zero-from = after-no-zero .before .before in
     let after-part = after-zero-from .before in
     let start = after-part .before .before .before in
-    text-whole _ _ (start .pre .0) (start .pre .1) (after-part .part .ensures) (after-zero-from .zero-from .ensures) (after-no-zero .enum-told .given .1)
+    text-whole _ _ (start .pre .0) (start .pre .1) (after-part .part .ensures) (after-zero-from .zero-from .ensures .is) (after-no-zero .enum-told .given .1)
 
 returns-2 : tie.Need-returns-2
 returns-2 c =
@@ -36,7 +36,7 @@ returns-2 c =
     let after-zero-from = after-zero .before .before in
     let after-part = after-zero-from .before in
     let start = after-part .before .before .before in
-    text-ended _ _ (start .pre .0) (start .pre .1) (after-part .part .ensures) (after-zero-from .zero-from .ensures) (after-zero .len .given .1)
+    text-ended _ _ (start .pre .0) (start .pre .1) (after-part .part .ensures) (after-zero-from .zero-from .ensures .is) (after-zero .len .given .1)
 
 pub block-text-spec : {M : Type 1} → statement M
 block-text-spec =

@@ -1,6 +1,6 @@
 -- The search from i answers as the search from the start, and what was passed is counted by the place itself.
 use Rattle.octets.proofs.ReadLaws.{number-byte}
-use Rattle.octets.proofs.ZeroLaws.{scan-end, scan-zero, scan-other}
+use Rattle.octets.proofs.ZeroLaws.{sixteens-passed, scan-end, scan-zero, scan-other}
 use Rattle.octets.specs.Steps.Scans.{scanAt}
 use Rattle.octets.specs.Steps.Scans.{zeroFrom}
 use borrow.Author.Needs.{needs}
@@ -23,7 +23,7 @@ skip-bytes-requires c κs = search needs
 
 loop-holds : tie.Need-loop-holds Inv-loop μ-loop
 loop-holds c =
-    let p = c .skip-bytes .ensures in
+    let p = sixteens-passed _ _ _ (c .skip-bytes .ensures) in
     let e : c .skip-bytes .result - c .before .before .args .from ≡ p .count = omega (arith, p .place) in
     (omega (arith, p .place), rw e (p .rest))
 

@@ -1,3 +1,4 @@
+use Rattle.octets.proofs.ZeroLaws.{scans}
 use borrow.Author.Needs.{needs}
 use Rattle.octets.proofs.zero_from.Statement.{statement}
 use Rattle.octets.proofs.zero_from.Tie as tie
@@ -9,10 +10,10 @@ zero-byte-requires : tie.Need-zero-byte-requires
 zero-byte-requires c κs = search needs
 
 returns : tie.Need-returns
-returns c = rw (c .before .if1 .taken) (c .zero-unit .ensures)
+returns c = scans _ _ _ (rw (c .before .if1 .taken) (c .zero-unit .ensures))
 
 returns-2 : tie.Need-returns-2
-returns-2 c = rw (c .before .if1 .left) (c .zero-byte .ensures)
+returns-2 c = scans _ _ _ (rw (c .before .if1 .left) (c .zero-byte .ensures))
 
 pub zero-from-spec : {M : Type 1} → statement M
 zero-from-spec = tie.close (tie.spec zero-unit-requires zero-byte-requires returns returns-2)

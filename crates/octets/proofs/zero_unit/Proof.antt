@@ -1,5 +1,5 @@
 -- The search from i with n units passed answers as the search from the start; n is at most i, so it cannot wrap.
-use Rattle.octets.proofs.ZeroLaws.{scan-start, scan-end, scan-zero, scan-other}
+use Rattle.octets.proofs.ZeroLaws.{sixteens-passed, scan-start, scan-end, scan-zero, scan-other}
 use Rattle.octets.specs.Steps.Scans.{scanAt}
 use Rattle.octets.specs.Steps.Scans.{zeroFrom}
 use borrow.Author.Needs.{needs}
@@ -27,11 +27,11 @@ skip-units-requires : tie.Need-skip-units-requires Inv-loop μ-loop
 skip-units-requires c κs = search needs
 
 sub-n : tie.Need-sub-n Inv-loop μ-loop
-sub-n c = omega (arith, c .skip-units .ensures .place)
+sub-n c = omega (arith, sixteens-passed _ _ _ (c .skip-units .ensures) .place)
 
 loop-holds : tie.Need-loop-holds Inv-loop μ-loop
 loop-holds c =
-    let p = c .skip-units .ensures in
+    let p = sixteens-passed _ _ _ (c .skip-units .ensures) in
     let e : (c .skip-units .result - c .before .before .before .args .from) / 2 ≡ p .count = omega (arith, p .place) in
     (omega arith, rw e (p .rest))
 

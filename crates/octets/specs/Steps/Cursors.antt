@@ -1,5 +1,6 @@
 -- What a cursor takes, and where it stands then. An operation that would pass the end answers that the bytes are cut.
 use Prim.Native.Nat.{ℕ, _+_}
+use mathlib.Core.Path.{_≡_}
 use mathlib.Core.List.{List}
 use mathlib.Core.Bool.{Bool, cond}
 use lib.ListN.{length}
@@ -20,11 +21,17 @@ taken w s i = cond (inside s i w) (Number (numberAt w s i) (record { at = i + w 
 unfoldable pub skipped : List ℕ → ℕ → ℕ → Skipped
 skipped s i n = cond (inside s i n) (To (record { at = i + n })) (Short (record { at = i }))
 
--- the number of each answer in the table of document 01, 0 OK or 2 CUT, and its value: the number taken, or where the cursor stands then
+-- ---- numbers and values of the answers
+
+-- 0 OK or 2 CUT
+abbrev pub okOrCut : Bool → ℕ
+okOrCut b = cond b 0 2
+
 unfoldable pub tookNumber : Took → ℕ
 tookNumber (Number n c) = 0
 tookNumber (Cut c) = 2
 
+-- the number taken, or where the cursor stays
 unfoldable pub tookValue : Took → ℕ
 tookValue (Number n c) = n
 tookValue (Cut c) = c .at
@@ -33,6 +40,19 @@ unfoldable pub skippedNumber : Skipped → ℕ
 skippedNumber (To c) = 0
 skippedNumber (Short c) = 2
 
+-- where the cursor stands then
 unfoldable pub skippedValue : Skipped → ℕ
 skippedValue (To c) = c .at
 skippedValue (Short c) = c .at
+
+-- what taking a number of w bytes at the place i answers
+pub record Takes (w : ℕ) (s : List ℕ) (i : ℕ) (t : Took) : Type 0 where
+  pub is : t ≡ taken w s i
+  pub number : tookNumber t ≡ okOrCut (inside s i w)
+  pub value : tookValue t ≡ cond (inside s i w) (numberAt w s i) i
+
+-- what skipping n bytes at the place i answers
+pub record Skips (s : List ℕ) (i n : ℕ) (t : Skipped) : Type 0 where
+  pub is : t ≡ skipped s i n
+  pub number : skippedNumber t ≡ okOrCut (inside s i n)
+  pub value : skippedValue t ≡ cond (inside s i n) (i + n) i

@@ -8,7 +8,8 @@ use Rattle.format.specs.declared.Header.{Header}
 use Rattle.format.specs.declared.Info.{Info}
 use Rattle.format.specs.declared.Taken.{Taken}
 use Rattle.format.specs.declared.Taken.the-variants.{Got, Refused}
-use Rattle.format.specs.Tests.{bit, noPlace}
+use Rattle.format.specs.Tests.{noPlace}
+use Rattle.format.specs.Presence.{itemsThere, infoThere, nameBit, relativeBit, workdirBit, argumentsBit, iconBit, stringThere, stringsUnicode}
 use Rattle.format.specs.Info.{noInfo}
 use Rattle.single.specs.Steps.Taken.{stringAt, itemsAt}
 use Rattle.blocks.specs.Steps.Walk.{noFirsts, blocksRead}
@@ -112,14 +113,14 @@ unfoldable pub outlineFrom : List ℕ → Header → Cursor → Outline
 unfolding itemsStep stringStep infoStep blocksStep endsOf
 outlineFrom s h c =
     let f = h .flags in
-    let u = bit 7 f in
-    let items = itemsStep s (bit 0 f) (On c) in
-    let info = infoStep s (bit 1 f) (items .next) in
-    let name = stringStep s (bit 2 f) u (info .next) in
-    let relative = stringStep s (bit 3 f) u (name .next) in
-    let workdir = stringStep s (bit 4 f) u (relative .next) in
-    let arguments = stringStep s (bit 5 f) u (workdir .next) in
-    let icon = stringStep s (bit 6 f) u (arguments .next) in
+    let u = stringsUnicode f in
+    let items = itemsStep s (itemsThere f) (On c) in
+    let info = infoStep s (infoThere f) (items .next) in
+    let name = stringStep s (stringThere nameBit f) u (info .next) in
+    let relative = stringStep s (stringThere relativeBit f) u (name .next) in
+    let workdir = stringStep s (stringThere workdirBit f) u (relative .next) in
+    let arguments = stringStep s (stringThere argumentsBit f) u (workdir .next) in
+    let icon = stringStep s (stringThere iconBit f) u (arguments .next) in
     let blocks = blocksStep s (icon .next) in
     record {
       next = blocks .next;

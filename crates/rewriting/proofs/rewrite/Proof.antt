@@ -1,5 +1,6 @@
 -- A refused reading is the answer; an accepted record is written from the shortcut's own bytes.
 use Rattle.rewriting.proofs.Laws.{rewrite-left, rewrite-written}
+use native.Mathlib.Omega.{arith}
 use borrow.Author.Needs.{needs}
 use Rattle.rewriting.proofs.rewrite.Statement.{statement}
 use Rattle.rewriting.proofs.rewrite.Tie as tie
@@ -27,7 +28,8 @@ returns-2 c =
     let after-write = c .before .before in
     let after-accepted = after-write .before .before .before in
     let after-read = after-accepted .before .before in
-    rewrite-written _ _ (after-read .read .ensures) (after-accepted .enum-told .given .1) (after-write .write .ensures .0) (after-write .write .ensures .1)
+    let after-bytes-known = after-read .before .before in
+    rewrite-written _ _ (after-read .read .ensures) (record { at = λ i. omega (arith, after-bytes-known .shared-slice-known .given i) }) (after-accepted .enum-told .given .1) (after-write .write .ensures)
 
 pub rewrite-spec : {M : Type 1} → statement M
 rewrite-spec =

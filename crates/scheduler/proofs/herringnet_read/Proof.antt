@@ -49,7 +49,7 @@ returns-3 c =
     let after-accepted = after-put-fields .before .before .before in
     let after-read = after-accepted .before .before .before in
     let after-count-asked = after-read .before in
-    read-filled _ _ (after-count-asked .if1 .left) (after-read .read .ensures) (after-accepted .v .given .1) (after-put-fields .put-fields .ensures)
+    read-filled _ _ (after-count-asked .if1 .left) (after-read .read .ensures) (after-accepted .v .given .1) (after-put-fields .put-fields .ensures .0)
 
 pub herringnet-read-spec : {M : Type 1} → statement M
 herringnet-read-spec =

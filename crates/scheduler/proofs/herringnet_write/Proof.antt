@@ -37,7 +37,7 @@ returns-3 c =
     let after-record-asked = after-record-from .before in
     let after-are-record = after-record-asked .before in
     let after-count-asked = after-are-record .before in
-    write-answered _ _ _ (after-count-asked .if1 .left) (after-are-record .are-record .ensures) (after-record-asked .if2 .left) (after-record-from .record-from .ensures) (after-write .write .ensures .0) (after-write .write .ensures .1) (c .code-of .ensures)
+    write-answered _ _ _ (after-count-asked .if1 .left) (after-are-record .are-record .ensures) (after-record-asked .if2 .left) (after-record-from .record-from .ensures) (after-write .write .ensures) (c .code-of .ensures)
 
 pub herringnet-write-spec : {M : Type 1} → statement M
 herringnet-write-spec =

@@ -21,26 +21,44 @@ returns-2 c =
     let start = after-next .before .before .before in
     none-place _ _ _ (trail-listing _ _ _ (start .pre) (after-next .next .given .1) (c .if1 .taken))
 
-bit-0-requires : tie.Need-bit-0-requires
-bit-0-requires c κs = search needs
+items-there-requires : tie.Need-items-there-requires
+items-there-requires c κs = search needs
 
 between-requires : tie.Need-between-requires
 between-requires c κs = search needs
 
+info-there-requires : tie.Need-info-there-requires
+info-there-requires c κs = search needs
+
 between-requires-2 : tie.Need-between-requires-2
 between-requires-2 c κs = search needs
+
+name-there-requires : tie.Need-name-there-requires
+name-there-requires c κs = search needs
 
 between-requires-3 : tie.Need-between-requires-3
 between-requires-3 c κs = search needs
 
+relative-there-requires : tie.Need-relative-there-requires
+relative-there-requires c κs = search needs
+
 between-requires-4 : tie.Need-between-requires-4
 between-requires-4 c κs = search needs
+
+workdir-there-requires : tie.Need-workdir-there-requires
+workdir-there-requires c κs = search needs
 
 between-requires-5 : tie.Need-between-requires-5
 between-requires-5 c κs = search needs
 
+arguments-there-requires : tie.Need-arguments-there-requires
+arguments-there-requires c κs = search needs
+
 between-requires-6 : tie.Need-between-requires-6
 between-requires-6 c κs = search needs
+
+icon-there-requires : tie.Need-icon-there-requires
+icon-there-requires c κs = search needs
 
 between-requires-7 : tie.Need-between-requires-7
 between-requires-7 c κs = search needs
@@ -70,31 +88,31 @@ returns-3 c =
 
 returns-4 : tie.Need-returns-4
 returns-4 c =
-    rw (c .before .before .match2 .keys2) (c .between .ensures ∙ rw (c .before .bit-0 .ensures) (place-1 _ _ _ (every-row (c .before .before .before))))
+    rw (c .before .before .match2 .keys2) (c .between .ensures ∙ rw (c .before .items-there .ensures) (place-1 _ _ _ (every-row (c .before .before .before))))
 
 returns-5 : tie.Need-returns-5
 returns-5 c =
-    rw (c .before .match2 .keys3) (c .between2 .ensures ∙ place-2 _ _ _ (every-row (c .before .before)))
+    rw (c .before .before .match2 .keys3) (c .between2 .ensures ∙ rw (c .before .info-there .ensures) (place-2 _ _ _ (every-row (c .before .before .before))))
 
 returns-6 : tie.Need-returns-6
 returns-6 c =
-    rw (c .before .match2 .keys4) (c .between3 .ensures ∙ place-3 _ _ _ (every-row (c .before .before)))
+    rw (c .before .before .match2 .keys4) (c .between3 .ensures ∙ rw (c .before .name-there .ensures) (place-3 _ _ _ (every-row (c .before .before .before))))
 
 returns-7 : tie.Need-returns-7
 returns-7 c =
-    rw (c .before .match2 .keys5) (c .between4 .ensures ∙ place-4 _ _ _ (every-row (c .before .before)))
+    rw (c .before .before .match2 .keys5) (c .between4 .ensures ∙ rw (c .before .relative-there .ensures) (place-4 _ _ _ (every-row (c .before .before .before))))
 
 returns-8 : tie.Need-returns-8
 returns-8 c =
-    rw (c .before .match2 .keys6) (c .between5 .ensures ∙ place-5 _ _ _ (every-row (c .before .before)))
+    rw (c .before .before .match2 .keys6) (c .between5 .ensures ∙ rw (c .before .workdir-there .ensures) (place-5 _ _ _ (every-row (c .before .before .before))))
 
 returns-9 : tie.Need-returns-9
 returns-9 c =
-    rw (c .before .match2 .keys7) (c .between6 .ensures ∙ place-6 _ _ _ (every-row (c .before .before)))
+    rw (c .before .before .match2 .keys7) (c .between6 .ensures ∙ rw (c .before .arguments-there .ensures) (place-6 _ _ _ (every-row (c .before .before .before))))
 
 returns-10 : tie.Need-returns-10
 returns-10 c =
-    rw (c .before .match2 .keys8) (c .between7 .ensures ∙ place-7 _ _ _ (every-row (c .before .before)))
+    rw (c .before .before .match2 .keys8) (c .between7 .ensures ∙ rw (c .before .icon-there .ensures) (place-7 _ _ _ (every-row (c .before .before .before))))
 
 returns-11 : tie.Need-returns-11
 returns-11 c =
@@ -116,13 +134,19 @@ place-in-spec =
     enum-told
     returns
     returns-2
-    bit-0-requires
+    items-there-requires
     between-requires
+    info-there-requires
     between-requires-2
+    name-there-requires
     between-requires-3
+    relative-there-requires
     between-requires-4
+    workdir-there-requires
     between-requires-5
+    arguments-there-requires
     between-requires-6
+    icon-there-requires
     between-requires-7
     nth-block-requires
     less-requires

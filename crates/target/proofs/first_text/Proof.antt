@@ -1,20 +1,20 @@
--- Bit 0 of the link info's flags chooses the local path, else the net name.
+-- The local path where it is there, else the net name.
 use Rattle.target.specs.Steps.Texts.{firstText}
 use mathlib.Core.Path.{sym, _∙_}
 use borrow.Author.Needs.{needs}
 use Rattle.target.proofs.first_text.Statement.{statement}
 use Rattle.target.proofs.first_text.Tie as tie
 
-bit-0-requires : tie.Need-bit-0-requires
-bit-0-requires c κs = search needs
+local-there-requires : tie.Need-local-there-requires
+local-there-requires c κs = search needs
 
 returns : tie.Need-returns
 unfolding firstText
-returns c = rw (sym (c .before .before .bit-0 .ensures) ∙ c .before .if1 .taken)
+returns c = rw (sym (c .before .before .local-there .ensures) ∙ c .before .if1 .taken)
 
 returns-2 : tie.Need-returns-2
 unfolding firstText
-returns-2 c = rw (sym (c .before .before .bit-0 .ensures) ∙ c .before .if1 .left)
+returns-2 c = rw (sym (c .before .before .local-there .ensures) ∙ c .before .if1 .left)
 
 pub first-text-spec : {M : Type 1} → statement M
-first-text-spec = tie.close (tie.spec bit-0-requires returns returns-2)
+first-text-spec = tie.close (tie.spec local-there-requires returns returns-2)

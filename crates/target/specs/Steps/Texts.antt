@@ -5,13 +5,13 @@ use mathlib.Core.Bool.{cond}
 use lib.ListN.{length, take}
 use Rattle.format.specs.declared.Place.{Place}
 use Rattle.format.specs.declared.Record.{Record}
-use Rattle.format.specs.Tests.{bit}
+use Rattle.format.specs.Presence.{localThere}
 use Rattle.format.specs.Contents.{bytesAt}
 use Rattle.format.specs.Target.{backslash, separator}
 use Rattle.target.specs.declared.Texts.{Texts}
 
 unfoldable pub firstText : Record → Place
-firstText r = cond (bit 0 (r .info .flags)) (r .info .local) (r .info .network .net)
+firstText r = cond (localThere (r .info .flags)) (r .info .local) (r .info .network .net)
 
 -- one or none
 abbrev pub separators : List ℕ → Place → Place → ℕ

@@ -1,9 +1,16 @@
 -- One law for each way out; what was counted is the length of the canonical form, so the room that was tested is the room it needs.
-use Rattle.writer.proofs.Laws.{end-counted, write-outside, all-placed, write-unwritable, write-room, write-fits, write-written}
+-- Demand 3 comes with each of them, from the types of record and body buffer.
+use Rattle.octets.specs.Numbers.{Bytes}
+use Rattle.format.proofs.Ranges.{FitsRecord}
+use Rattle.format.proofs.FitsLaws.{type-fits}
+use Rattle.writer.proofs.Laws.{ended, end-counted, write-outside, all-placed, write-unwritable, write-room, write-fits, write-written}
 use native.Mathlib.Omega.{arith}
 use borrow.Author.Needs.{needs}
 use Rattle.writer.proofs.write.Statement.{statement}
 use Rattle.writer.proofs.write.Tie as tie
+
+all-fits : (c : tie.After-shared-slice-known) → FitsRecord (c .before .args .r) × Bytes (c .before .args .d .now)
+all-fits c = (type-fits _ _ (c .before .good .0), record { at = λ i. omega (arith, c .shared-slice-known .given i) })
 
 present-requires : tie.Need-present-requires
 present-requires c κs = search needs
@@ -12,7 +19,11 @@ placed-requires : tie.Need-placed-requires
 placed-requires c κs = search needs
 
 returns : tie.Need-returns
-returns c = write-outside _ _ _ (c .before .before .present .ensures) (c .before .placed .ensures) (c .if1 .taken)
+returns c =
+    let after-placed = c .before in
+    let after-present = after-placed .before in
+    let after-bytes-known = after-present .before .before in
+    ended _ _ _ (all-fits after-bytes-known) (write-outside _ _ _ (after-present .present .ensures) (after-placed .placed .ensures) (c .if1 .taken))
 
 starts-of-requires : tie.Need-starts-of-requires
 starts-of-requires c κs = search needs
@@ -31,7 +42,9 @@ returns-2 c =
     let after-placed-test = after-writable .before .before in
     let after-placed = after-placed-test .before in
     let after-present = after-placed .before in
-    write-unwritable _ _ _ (after-present .present .ensures) (after-placed .placed .ensures) (after-placed-test .if1 .left) (after-writable .writable .ensures) (c .if2 .taken)
+    let after-bytes-known = after-present .before .before in
+    ended _ _ _ (all-fits after-bytes-known)
+    (write-unwritable _ _ _ (after-present .present .ensures) (after-placed .placed .ensures) (after-placed-test .if1 .left) (after-writable .writable .ensures) (c .if2 .taken))
 
 cast-if3 : tie.Need-cast-if3
 cast-if3 c = search needs
@@ -44,7 +57,9 @@ returns-3 c =
     let after-placed-test = after-starts-of .before in
     let after-placed = after-placed-test .before in
     let after-present = after-placed .before in
-    write-room _ _ _ (after-present .present .ensures) (after-placed .placed .ensures) (after-placed-test .if1 .left) (after-writable .writable .ensures) (after-writable-test .if2 .left) (end-counted _ (after-starts-of .starts-of .ensures)) (omega arith)
+    let after-bytes-known = after-present .before .before in
+    ended _ _ _ (all-fits after-bytes-known)
+    (write-room _ _ _ (after-present .present .ensures) (after-placed .placed .ensures) (after-placed-test .if1 .left) (after-writable .writable .ensures) (after-writable-test .if2 .left) (end-counted _ (after-starts-of .starts-of .ensures)) (omega arith))
 
 put-canonical-requires : tie.Need-put-canonical-requires
 put-canonical-requires c κs =
@@ -69,8 +84,10 @@ returns-4 c =
     let after-placed-test = after-starts-of .before in
     let after-placed = after-placed-test .before in
     let after-present = after-placed .before in
-    write-written _ _ _ (after-present .present .ensures) (after-placed .placed .ensures) (after-placed-test .if1 .left) (after-writable .writable .ensures) (after-writable-test .if2 .left) (end-counted _ (after-starts-of .starts-of .ensures)) (omega arith)
-    (after-put-canonical .put-canonical .ensures .0) (after-put-canonical .put-canonical .ensures .1)
+    let after-bytes-known = after-present .before .before in
+    ended _ _ _ (all-fits after-bytes-known)
+    (write-written _ _ _ (after-present .present .ensures) (after-placed .placed .ensures) (after-placed-test .if1 .left) (after-writable .writable .ensures) (after-writable-test .if2 .left) (end-counted _ (after-starts-of .starts-of .ensures)) (omega arith)
+    (after-put-canonical .put-canonical .ensures .0) (after-put-canonical .put-canonical .ensures .1))
 
 pub write-spec : {M : Type 1} → statement M
 write-spec =

@@ -1,7 +1,8 @@
--- What the types of a record's fields give: each number fits its field.
+-- Each number of a record fits its field. Of places nothing is said: no demand asks it, and a sum of place and length may pass every type.
 use Prim.Native.Nat.{_<_, _^_}
 use lib.IntN.{ℤ, pos, negsuc}
 use Rattle.format.specs.declared.Header.{Header}
+use Rattle.format.specs.declared.Info.{Info}
 use Rattle.format.specs.declared.Record.{Record}
 
 abbrev pub FitsSigned : ℤ → Type 0
@@ -19,10 +20,13 @@ pub record FitsHeader (h : Header) : Type 0 where
   pub command : h .command < 2 ^ 32
   pub hotkey : h .hotkey < 2 ^ 16
 
+pub record FitsInfo (i : Info) : Type 0 where
+  pub flags : i .flags < 2 ^ 32
+  pub drive : i .volume .drive < 2 ^ 32
+  pub serial : i .volume .serial < 2 ^ 32
+  pub networkFlags : i .network .flags < 2 ^ 32
+  pub provider : i .network .provider < 2 ^ 32
+
 pub record FitsRecord (r : Record) : Type 0 where
   pub header : FitsHeader (r .header)
-  pub flags : r .info .flags < 2 ^ 32
-  pub drive : r .info .volume .drive < 2 ^ 32
-  pub serial : r .info .volume .serial < 2 ^ 32
-  pub networkFlags : r .info .network .flags < 2 ^ 32
-  pub provider : r .info .network .provider < 2 ^ 32
+  pub info : FitsInfo (r .info)

@@ -1,0 +1,15 @@
+-- Any two outcomes that the contract of a public call allows are equal.
+use mathlib.Core.Path.{sym, _∙_}
+use Rattle.octets.proofs.Outcomes.{OneAnswer}
+use Rattle.writable.proofs.present as present
+use Rattle.writable.proofs.placed as placed
+use Rattle.writable.proofs.writable as writable
+
+pub present-one-outcome : OneAnswer present.ended present.Reads.Post
+present-one-outcome κs a r q s t p o = p ∙ sym o
+
+pub placed-one-outcome : OneAnswer placed.ended placed.Reads.Post
+placed-one-outcome κs a r q s t p o = p ∙ sym o
+
+pub writable-one-outcome : OneAnswer writable.ended writable.Reads.Post
+writable-one-outcome κs a r q s t p o = p ∙ sym o

@@ -1,0 +1,140 @@
+//! The examples of docs/FORMAT.md, taken from that page and asked of the library.
+use herringnet::fields::FIELDS;
+use herringnet::record::{Header, Info, InfoUnicode, Label, Local, Record};
+use herringnet::show::text::Hex;
+use herringnet::{boundary, key, listing, target};
+
+const PAGE: &str = include_str!("../../docs/FORMAT.md");
+
+/// What stands under a heading of the page.
+fn under(heading: &str) -> &'static str {
+    let (_, text) = PAGE.split_once(&format!("\n### {}\n", heading)).expect(heading);
+    text.split("\n#").next().unwrap()
+}
+
+/// The indented blocks of a text, as the lines of each without their indent.
+fn blocks(text: &'static str) -> Vec<Vec<&'static str>> {
+    let paragraphs = text.split("\n\n").filter(|paragraph| paragraph.starts_with("    "));
+    paragraphs.map(|paragraph| paragraph.lines().map(|line| &line[4..]).collect()).collect()
+}
+
+fn from_hex(text: &str) -> Vec<u8> {
+    text.split_whitespace().map(|byte| u8::from_str_radix(byte, 16).unwrap()).collect()
+}
+
+/// The bytes of a dump: each line has a place, the bytes, and then words about them.
+fn bytes(dump: &[&str]) -> Vec<u8> {
+    let rows = dump.iter().map(|line| line.split_once("  ").unwrap().1);
+    rows.flat_map(|row| from_hex(row.split("   ").next().unwrap())).collect()
+}
+
+/// The cells of a table's rows, without its two head lines.
+fn table(text: &'static str) -> Vec<Vec<&'static str>> {
+    let lines = text.lines().filter(|line| line.starts_with('|')).skip(2);
+    lines.map(|line| line.trim_matches('|').split('|').map(str::trim).collect()).collect()
+}
+
+/// 10, 0x0A, 2^32 or 2^64 − 1.
+fn number(text: &str) -> u64 {
+    if let Some(hex) = text.strip_prefix("0x") {
+        return u64::from_str_radix(hex, 16).unwrap();
+    }
+    let plain = text.replace(',', "");
+    match plain.as_str() {
+        "2^32" => 1 << 32,
+        "2^64 − 1" => u64::MAX,
+        plain => plain.parse().expect(text),
+    }
+}
+
+fn on_a_share() -> Vec<u8> {
+    bytes(&blocks(under("A shortcut on a share"))[0])
+}
+
+#[test]
+fn the_shortest_listing() {
+    let shortest = Record::default().to_vec().unwrap();
+    assert_eq!(listing(&shortest).unwrap().lines().collect::<Vec<_>>(), blocks(under("Listing lines"))[0]);
+}
+
+#[test]
+fn a_shortcut_on_a_share() {
+    let text = under("A shortcut on a share");
+    let (shortcut, blocks) = (on_a_share(), blocks(text));
+    assert_eq!(listing(&shortcut).unwrap().lines().collect::<Vec<_>>(), blocks[1]);
+
+    let mut expected = [0; FIELDS];
+    for row in table(text) {
+        for pair in row.chunks(2).filter(|pair| !pair[0].is_empty()) {
+            let places = pair[0].split(", ").map(|place| number(place) as usize);
+            places.zip(pair[1].split(", ").map(number)).for_each(|(place, value)| expected[place] = value);
+        }
+    }
+    let mut fields = [0; FIELDS];
+    assert_eq!(boundary::read(&shortcut, &mut fields), 256 * shortcut.len() as u64);
+    assert_eq!(fields, expected);
+
+    let said = format!("Its target text is `{}`, 16 bytes", String::from_utf8(target(&shortcut).unwrap()).unwrap());
+    assert!(text.contains(&said) && text.contains("Its key has 43 bytes"));
+    let parts = blocks[2].iter().map(|line| line.split("   ").next().unwrap().replace(' ', ""));
+    assert_eq!(Hex(&key(&shortcut).unwrap()).to_string(), parts.collect::<String>());
+    assert!(text.contains("= 134,257,152.") && boundary::section(&shortcut, 6, 0) == 134_257_152);
+
+    let canonical = Record::read(&shortcut).unwrap().to_vec().unwrap();
+    assert!(text.contains("The canonical form has 163 bytes"));
+    assert_eq!(canonical, [&shortcut[..76], &bytes(&blocks[3]), &shortcut[146..164], &[0; 4]].concat());
+}
+
+/// The shortcut with a change that the page tells: `byte 05 is 04`, `bytes 9E to A1 are ..`, a byte less or more.
+fn changed(change: &str) -> Vec<u8> {
+    let mut shortcut = on_a_share();
+    let words: Vec<&str> = change.split(':').next().unwrap().split(' ').collect();
+    let place = |word: &str| usize::from_str_radix(word, 16).unwrap();
+    match words[..] {
+        ["byte", at, "is", byte] => shortcut[place(at)] = place(byte) as u8,
+        ["bytes", from, "to", to, "are", ..] => {
+            shortcut.splice(place(from)..=place(to), from_hex(&words[5..].join(" ")));
+        }
+        ["the", "last", "byte", ..] => shortcut.truncate(167),
+        _ => shortcut.push(0),
+    }
+    shortcut
+}
+
+#[test]
+fn the_same_with_one_fault() {
+    let rows = table(under("The same with one fault"));
+    assert!(rows.len() > 20);
+    for row in rows {
+        let (fault, position) = row[1].split_once(" at ").unwrap();
+        assert_eq!(boundary::check(&changed(row[0])), number(fault) + 256 * number(position), "{}", row[0]);
+    }
+}
+
+#[test]
+fn a_long_head() {
+    let local = Local { drive: 3, serial: 0x1234_5678, label: Label::Unicode(b"T\0"), path: br"C:\" };
+    let unicode = InfoUnicode { local: b"C\0:\0\\\0", suffix: b"" };
+    let info = Info::default().with_local(local).with_unicode(unicode);
+    let shortcut = Record { header: Header::default(), info: Some(info), ..Record::default() }.to_vec().unwrap();
+    assert_eq!(shortcut[76..shortcut.len() - 4], bytes(&blocks(under("LinkInfo with a long head"))[0]));
+}
+
+#[test]
+fn records_that_no_reader_made() {
+    let rows = table(under("Records that no reader made"));
+    assert!(rows.len() > 15);
+    for row in rows {
+        let (mut fields, mut room) = ([0; FIELDS], 100);
+        for change in row[0].split(':').next().unwrap().split(", ") {
+            match change.split_once(" is ") {
+                Some((place, value)) => fields[number(place) as usize] = number(value),
+                None => room = change.strip_prefix("room ").map_or(room, |text| number(text) as usize),
+            }
+        }
+        let body = from_hex(row[1].trim_matches('`').trim_matches(|c: char| c.is_ascii_lowercase()));
+        let answer = boundary::write(&fields, &body, &mut vec![0; room]);
+        let expected = row[2].strip_prefix("0, length ").map_or_else(|| number(row[2]), |length| 256 * number(length));
+        assert_eq!(answer, expected, "{}", row[0]);
+    }
+}
