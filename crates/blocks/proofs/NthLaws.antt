@@ -12,16 +12,19 @@ use Rattle.format.specs.Blocks.{blockSize, aTerminal, blockStep, blocks}
 use Rattle.format.proofs.Bools.{by-order}
 use Rattle.format.proofs.Chains.{got-elim, no-value}
 use Rattle.format.proofs.BlockLaws.{step-elim}
-use Rattle.blocks.specs.Steps.Walk.{Sized, bySize, nthBlock, nthPlace, NthOf}
+use Rattle.blocks.specs.Steps.Walk.{Sized, bySize, StepAnswer, nthBlock, nthPlace, NthOf}
 use Rattle.blocks.specs.declared.BlockStep.{BlockStep}
 use Rattle.blocks.specs.declared.BlockStep.the-variants.{Block, Terminal, Refused as NotOne}
-use Rattle.blocks.proofs.StepLaws.{step-none, by-block, by-end, by-fault}
+use Rattle.blocks.proofs.StepLaws.{step-read, step-none, by-block, by-end, by-fault}
 use Rattle.blocks.proofs.WalkLaws.{walk-ended, walk-refused}
 
 -- ---- the walk to it
 
 -- what the step answers at p
-module _ (s : List ℕ) (p : ℕ) {t : BlockStep} (e : t ≡ bySize (drop p s)) where
+module _ (s : List ℕ) (p : ℕ) {t : BlockStep} (r : StepAnswer (drop p s) t) where
+  e : t ≡ bySize (drop p s)
+  e = r .is
+
   pub none-ended : (k : ℕ) → t ≡ Terminal → noPlace ≡ nthBlock s p k
   unfolding nthBlock
   none-ended zero h = rw (← e, h)
@@ -78,9 +81,9 @@ module _ (s : List ℕ) (p : ℕ) {n j : ℕ} (inside : p ≤ length s) (z : Siz
       record { inside = h .inside; is = begins (λ ls. b ≡ nthPlace p ls (suc k)) (λ ls m i. h .is ls m i ∙ rw q) }
 
 nth-step : (k : ℕ) (s : List ℕ) (p : ℕ) → ((n : ℕ) → (k ≡ 0 → ⊥) → NthOf s (p + n) (k - 1) (nthBlock s (p + n) (k - 1))) → NthOf s p k (nthBlock s p k)
-nth-step k s p next = go (bySize (drop p s)) refl
+nth-step k s p next = go (bySize (drop p s)) (step-read (drop p s) refl)
   where
-    go : (t : BlockStep) → t ≡ bySize (drop p s) → NthOf s p k (nthBlock s p k)
+    go : (t : BlockStep) → StepAnswer (drop p s) t → NthOf s p k (nthBlock s p k)
     go Terminal e = rw (← (none-ended s p e k refl)) (nth-ended s p k (by-end (drop p s) e refl))
     go (NotOne f) e = rw (← (none-refused s p e k refl)) (nth-refused s p k (by-fault (drop p s) e refl))
     go (Block n j) e =

@@ -10,13 +10,13 @@ use Rattle.blocks.proofs.block_from as block-from
 use Rattle.blocks.proofs.nth_block as nth-block
 
 pub step-one-outcome : OneAnswer step.ended step.Reads.Post
-step-one-outcome κs a r q s t p o = p ∙ sym o
+step-one-outcome κs a r q s t p o = p .is ∙ sym (o .is)
 
 pub run-one-outcome : OneOutcome run.ended (λ κs s. now (s .1 .1 .0)) run.Reads.Post
 run-one-outcome κs a r q s t p o = passed-once (p .0) (p .1) (o .0) (o .1)
 
 pub blocks-one-outcome : OneAnswer blocks.ended blocks.Reads.Post
-blocks-one-outcome κs a r q s t p o = p ∙ sym o
+blocks-one-outcome κs a r q s t p o = p .is ∙ sym (o .is)
 
 pub block-from-one-outcome : OneAnswer block-from.ended block-from.Reads.Post
 block-from-one-outcome κs a r q s t p o = p ∙ sym o

@@ -1,22 +1,24 @@
 -- The step: one law for each way out.
 use mathlib.Core.Path.{_≡_, refl, sym, ap, _∙_}
 use mathlib.Core.List.{List, [], _∷_, _++_}
-use mathlib.Core.Bool.{Bool, true, false}
+use mathlib.Core.Bool.{Bool, true, false, cond}
 use Prim.Native.Nat.{ℕ, zero, suc, _+_, _-_, _≤_, _<_}
 use native.Mathlib.Omega.{arith}
 use lib.ListN.{length, take, drop, length-append, length-drop}
 use lib.Seq.{length-take-le, take-all, take-take, take-append-le}
-use lib.Dec.{leb}
+use lib.Dec.{leb, ltb}
 use borrow.Author.Tests.{le-leb, lt-leb, lt-ltb, le-ltb}
 use Rattle.octets.specs.Numbers.{u32At}
 use Rattle.octets.proofs.NumberLaws.{number-same}
 use Rattle.format.specs.declared.Fault.{Fault}
 use Rattle.format.specs.declared.Fault.the-variants.{Cut as CUT, Block as BLOCK}
 use Rattle.format.specs.Tests.{Outcome, got, refused, _else_, tests}
+use Rattle.format.specs.Numbers.{outcomeNumber}
+use Rattle.format.specs.Steps.Answers.{outcomeEnd}
 use Rattle.format.specs.Blocks.{SizeRule, signatures, sizeIn, slotOf, sizeFits, insideFits, slotAt, blockRules, blockSize, Standing, aBlock, aTerminal, blockStep}
 use Rattle.format.proofs.Bools.{by-order}
 use Rattle.format.proofs.Chains.{no-value}
-use Rattle.blocks.specs.Steps.Walk.{Sized, stepOf, bySize, Told, Stands}
+use Rattle.blocks.specs.Steps.Walk.{Sized, stepOf, bySize, stepNumber, stepValue, StepAnswer, Told, Stands}
 use Rattle.blocks.specs.declared.BlockStep.{BlockStep}
 use Rattle.blocks.specs.declared.BlockStep.the-variants.{Block, Terminal, Refused as NotOne}
 
@@ -49,17 +51,38 @@ size-other k n r =
 
 -- a way out of the step: what it answers, and what reading says of it
 abbrev Way : List ℕ → BlockStep → Type 0
-Way s t = (t ≡ bySize s) × Told s t
+Way s t = StepAnswer s t × Told s t
 
 module _ (s : List ℕ) where
+  -- the number and the value of the answer
+  pub step-read : {t : BlockStep} → t ≡ bySize s → StepAnswer s t
+  unfolding bySize stepNumber stepValue
+  step-read e =
+      let z = numbered (leb 4 (length s)) (ltb n 4) (leb 8 n) (leb n (length s)) (sizeFits (slotAt s) n) in
+      record { is = e; number = rw e (z .0); value = rw e (z .1) }
+    where
+      n : ℕ
+      n = blockSize s
+
+      by : Bool → Bool → Bool → Bool → Bool → Outcome Standing
+      by a b c d e = tests 0 (a else CUT ∷ []) (cond b (got aTerminal 4) (tests 0 (c else BLOCK ∷ d else CUT ∷ e else BLOCK ∷ []) (got aBlock n)))
+
+      numbered : (a b c d e : Bool) → (stepNumber (stepOf (slotAt s) (by a b c d e)) ≡ outcomeNumber (by a b c d e)) × (stepValue (stepOf (slotAt s) (by a b c d e)) ≡ outcomeEnd 0 (by a b c d e))
+      numbered false b c d e = (refl, refl)
+      numbered true true c d e = (refl, refl)
+      numbered true false false d e = (refl, refl)
+      numbered true false true false e = (refl, refl)
+      numbered true false true true false = (refl, refl)
+      numbered true false true true true = (refl, omega arith)
+
   pub step-none : length s < 4 → Way s (NotOne CUT)
   unfolding bySize
-  step-none h = let e = lt-leb 4 (length s) h in (rw e, λ p. rw e)
+  step-none h = let e = lt-leb 4 (length s) h in (step-read (rw e), λ p. rw e)
 
   module _ (room : 4 ≤ length s) {n : ℕ} (e : n ≡ blockSize s) where
     pub step-end : n < 4 → Way s Terminal
     unfolding bySize
-    step-end t = let l = le-leb 4 (length s) room in let z = lt-ltb n 4 t in (rw (l, ← e, z), λ p. rw (l, ← e, z))
+    step-end t = let l = le-leb 4 (length s) room in let z = lt-ltb n 4 t in (step-read (rw (l, ← e, z)), λ p. rw (l, ← e, z))
 
     here : 4 ≤ n → (p : ℕ) → blockStep p s ≡ tests p (leb 8 n else BLOCK ∷ leb n (length s) else CUT ∷ blockRules (take n s)) (got aBlock n)
     here t p = rw (le-leb 4 (length s) room, ← e, le-ltb n 4 t)
@@ -69,11 +92,11 @@ module _ (s : List ℕ) where
     sized t = rw (le-leb 4 (length s) room, ← e, le-ltb n 4 t)
 
     pub step-small : 4 ≤ n → n < 8 → Way s (NotOne BLOCK)
-    step-small t u = let z = lt-leb 8 n u in (rw z at (sized t), λ p. here t p ∙ rw z)
+    step-small t u = let z = lt-leb 8 n u in (step-read (rw z at (sized t)), λ p. here t p ∙ rw z)
 
     module _ (big : 8 ≤ n) where
       pub step-past : length s < n → Way s (NotOne CUT)
-      step-past t = let b = le-leb 8 n big in let z = lt-leb n (length s) t in (rw (b, z) at (sized (omega arith)), λ p. here (omega arith) p ∙ rw (b, z))
+      step-past t = let b = le-leb 8 n big in let z = lt-leb n (length s) t in (step-read (rw (b, z) at (sized (omega arith))), λ p. here (omega arith) p ∙ rw (b, z))
 
       module _ (inside : n ≤ length s) {k : ℕ} (slot : k ≡ slotOf (u32At s 4)) where
         -- a block's size and signature are those of the rest
@@ -87,10 +110,10 @@ module _ (s : List ℕ) where
         by-slot = rw (le-leb 8 n big, le-leb n (length s) inside, ← slot) at (sized (omega arith))
 
         pub step-wrong : sizeFits k n ≡ false → Way s (NotOne BLOCK)
-        step-wrong f = (rw f at by-slot, λ p. judged p ∙ rw f)
+        step-wrong f = (step-read (rw f at by-slot), λ p. judged p ∙ rw f)
 
         pub step-sized : sizeFits k n ≡ true → Way s (Block n k)
-        step-sized f = (rw f at by-slot, record { size = e; least = big; inside = inside; slot = slot; fits = f })
+        step-sized f = (step-read (rw f at by-slot), record { size = e; least = big; inside = inside; slot = slot; fits = f })
 
   -- every step goes one of these ways
   told : Told s (bySize s)
@@ -109,7 +132,7 @@ module _ (s : List ℕ) where
       k = slotOf (u32At s 4)
 
       way : {t : BlockStep} → Way s t → Told s (bySize s)
-      way w = rw (← (w .0)) (w .1)
+      way w = rw (← (w .0 .is)) (w .1)
 
       fits : 8 ≤ n → n ≤ length s → (b : Bool) → sizeFits k n ≡ b → Told s (bySize s)
       fits big inside true f = way (step-sized (omega arith) refl big inside refl f)
@@ -151,9 +174,9 @@ module _ (s y : List ℕ) {n k : ℕ} (z : Sized s n k) where
 
 -- from what the code answers to its facts
 module _ (s : List ℕ) {t : BlockStep} where
-  module _ (h : t ≡ bySize s) where
+  module _ (h : StepAnswer s t) where
     told-as : {u : BlockStep} → t ≡ u → Told s u
-    told-as e = rw (sym h ∙ e) at (told s)
+    told-as e = rw (sym (h .is) ∙ e) at (told s)
 
     pub by-block : {n k : ℕ} → t ≡ Block n k → Sized s n k
     by-block e = told-as e

@@ -14,10 +14,13 @@ use Rattle.format.specs.declared.Fault.{Fault}
 use Rattle.format.specs.declared.Fault.the-variants.{Cut as CUT, Block as BLOCK}
 use Rattle.format.specs.Tests.{Outcome, got, refused, andThen}
 use Rattle.format.specs.Blocks.{slotOf, insideFits, slotAt, blockSize, aBlock, aTerminal, blockStep, blocks}
+use Rattle.format.specs.Numbers.{outcomeNumber}
 use Rattle.format.specs.Steps.Firsts.{firsts}
+use Rattle.format.specs.Steps.Answers.{outcomeEnd, takenNumber, takenValue}
 use Rattle.format.specs.Shortcut.{most, sum}
 use Rattle.format.proofs.BlockLaws.{none-left, blocks-step}
-use Rattle.blocks.specs.Steps.Walk.{Sized, NoBlock, noFirsts, fieldOf, noted, notedAll, Walked, after, Passed, blocksRead, readTo, stoppedAt}
+use Rattle.blocks.specs.Steps.Walk.{Sized, NoBlock, noFirsts, fieldOf, noted, notedAll, BlocksTo, after, Passed, blocksTaken, blocksRead, BlocksAnswer, readTo, stoppedAt}
+use Rattle.blocks.specs.declared.BlocksRead.{BlocksRead}
 use Rattle.blocks.proofs.StepLaws.{tail-part, holds-right, holds-wrong, longer, step-longer}
 use Rattle.blocks.proofs.FirstLaws.{firsts-more}
 
@@ -62,7 +65,7 @@ after-more ls n (got more m) =
 after-more ls n (refused f q) = refl
 
 -- one block more
-walked-more : (s : List ℕ) (a p : ℕ) (ls : List ℕ) {n : ℕ} → Walked s a ls p → blockStep p (drop p s) ≡ got aBlock n → Walked s a (ls ++ n ∷ []) (p + n)
+walked-more : (s : List ℕ) (a p : ℕ) (ls : List ℕ) {n : ℕ} → BlocksTo s a ls p → blockStep p (drop p s) ≡ got aBlock n → BlocksTo s a (ls ++ n ∷ []) (p + n)
 walked-more s a p [] {n} w h = (rw w h, rw w)
 walked-more s a p (m ∷ ms) w h = (w .0, walked-more s (a + m) p ms (w .1) h)
 
@@ -95,7 +98,7 @@ passed-more s a p {row} {next} {n} {k} P z h e =
     }
 
 -- two walks from a on that end where no block stands went over the same blocks
-walked-once : (s : List ℕ) (a p q : ℕ) (ls ms : List ℕ) → Walked s a ls p → NoBlock s p → Walked s a ms q → NoBlock s q → ls ≡ ms
+walked-once : (s : List ℕ) (a p q : ℕ) (ls ms : List ℕ) → BlocksTo s a ls p → NoBlock s p → BlocksTo s a ms q → NoBlock s q → ls ≡ ms
 walked-once s a p q [] [] v f w g = refl
 walked-once s a p q [] (m ∷ ms) v f w g = absurd (f m (rw (← v) (w .0)))
 walked-once s a p q (n ∷ ns) [] v f w g = absurd (g n (rw (← w) (v .0)))
@@ -122,33 +125,46 @@ module _ {s : List ℕ} {a p : ℕ} {row rest : List ℕ} (P : Passed s a p row)
 -- ---- the ways out
 
 module _ (s : List ℕ) (a : ℕ) where
-  pub read-nowhere : length s < a → stoppedAt CUT a ≡ blocksRead s a
+  -- the number and the value of the answer
+  all-read : {r : BlocksRead} → r ≡ blocksRead s a → BlocksAnswer s a r
+  unfolding blocksRead takenNumber takenValue
+  all-read e = record { is = e; number = rw e (number (blocks a (drop a s))); value = rw e (value (blocks a (drop a s))) }
+    where
+      number : (o : Outcome (List ℕ)) → takenNumber (blocksTaken a o) ≡ outcomeNumber o
+      number (got ls n) = refl
+      number (refused f q) = refl
+
+      value : (o : Outcome (List ℕ)) → takenValue (blocksTaken a o) ≡ outcomeEnd a o
+      value (got ls n) = refl
+      value (refused f q) = refl
+
+  pub read-nowhere : length s < a → BlocksAnswer s a (stoppedAt CUT a)
   unfolding blocksRead
-  read-nowhere h = rw (none-left a (drop a s) (omega (arith, length-drop a s)))
+  read-nowhere h = all-read (rw (none-left a (drop a s) (omega (arith, length-drop a s))))
 
   module _ {p : ℕ} {row : List ℕ} (P : Passed s a p row) where
     all : blocks a (drop a s) ≡ after (P .lengths) (blocks p (drop p s))
     all = rw append-nil at (P .is [])
 
-    pub read-end : length s ≤ most → ((q : ℕ) → blockStep q (drop p s) ≡ got aTerminal 4) → readTo a p row ≡ blocksRead s a
+    pub read-end : length s ≤ most → ((q : ℕ) → blockStep q (drop p s) ≡ got aTerminal 4) → BlocksAnswer s a (readTo a p row)
     unfolding blocksRead
     read-end small h =
         let o : blocks a (drop a s) ≡ got (P .lengths) (sum (P .lengths) + 4)
         = rw append-nil at (all ∙ ap (after (P .lengths)) (walk-ended (drop p s) p (h p))) in
         let l : p - a ≡ sum (P .lengths) = omega (arith, P .adds) in
         let n : p + 4 ≡ a + (sum (P .lengths) + 4) = omega (arith, P .adds) in
-        rw (o, l, n, P .first small)
+        all-read (rw (o, l, n, P .first small))
 
-    pub read-stopped : {f : Fault} → ((q : ℕ) → blockStep q (drop p s) ≡ refused f q) → stoppedAt f p ≡ blocksRead s a
+    pub read-stopped : {f : Fault} → ((q : ℕ) → blockStep q (drop p s) ≡ refused f q) → BlocksAnswer s a (stoppedAt f p)
     unfolding blocksRead
     read-stopped h =
         let o = all ∙ ap (after (P .lengths)) (walk-refused (drop p s) p (h p)) in
-        rw o
+        all-read (rw o)
 
     -- a block by its sizes that is none: what it holds is wrong
-    pub read-wrong : NoBlock s p → {n k : ℕ} → Sized (drop p s) n k → stoppedAt BLOCK p ≡ blocksRead s a
+    pub read-wrong : NoBlock s p → {n k : ℕ} → Sized (drop p s) n k → BlocksAnswer s a (stoppedAt BLOCK p)
     read-wrong none {n} {k} z = go (insideFits k (take n (drop p s))) refl
       where
-        go : (b : Bool) → b ≡ insideFits k (take n (drop p s)) → stoppedAt BLOCK p ≡ blocksRead s a
+        go : (b : Bool) → b ≡ insideFits k (take n (drop p s)) → BlocksAnswer s a (stoppedAt BLOCK p)
         go true e = absurd (none n (holds-right (drop p s) z e refl p))
         go false e = read-stopped (holds-wrong (drop p s) z e refl)

@@ -9,7 +9,7 @@ ghost use Prim.Native.Nat.{_+_, _≤_, _<_};
 ghost use lib.ListN.{length};
 ghost use Rattle.format.specs.Blocks.{slotOf, sizeFits, pathTexts, insideFits};
 ghost use Rattle.format.specs.Shortcut.{most};
-ghost use Rattle.blocks.specs.Steps.Walk.{bySize, Stands, noFirsts, fieldOf, noted, Passed, NoBlock, blocksRead, readTo, stoppedAt, blockFrom, nthBlock};
+ghost use Rattle.blocks.specs.Steps.Walk.{StepAnswer, Stands, noFirsts, fieldOf, noted, Passed, NoBlock, BlocksAnswer, readTo, stoppedAt, blockFrom, nthBlock};
 
 // A block of so many bytes, with the slot of its signature; or the terminal block; or neither.
 pub enum BlockStep {
@@ -93,7 +93,7 @@ fn inside_ok(slot: usize, b: &[u8]) -> bool
 
 // What stands at the start of the rest, by its sizes; what a block holds is not looked at.
 pub fn step(rest: &[u8]) -> BlockStep
-    ensures { λ t. ⌜ t ≡ bySize (now (rest .entry)) ⌝ }
+    ensures { λ t. ⌜ StepAnswer (now (rest .entry)) t ⌝ }
 {
     let left = rest.len();
     if left < 4 {
@@ -205,7 +205,7 @@ fn stopped(f: Fault, p: usize) -> BlocksRead
 
 pub fn blocks(s: &[u8], c: Cursor) -> BlocksRead
     requires { ⌜ length (now s) ≤ most ⌝ }
-    ensures { λ r. ⌜ r ≡ blocksRead (now (s .entry)) (c .at) ⌝ }
+    ensures { λ r. ⌜ BlocksAnswer (now (s .entry)) (c .at) r ⌝ }
 {
     let start = c.at;
     if s.len() < start {

@@ -32,4 +32,5 @@ pub mod KeyDemands
 pub mod KeyRoom
 pub mod KeySame
 pub mod ProbeLaws
+pub mod AnswerLaws
 pub mod OneOutcome

@@ -1,9 +1,11 @@
 -- FORMAT: Numbers. The number of each fault, and the number and the value of every answer.
 use Prim.Native.Nat.{ℕ}
+use mathlib.Core.Path.{_≡_}
 use Rattle.format.specs.declared.Fault.{Fault}
 use Rattle.format.specs.declared.Fault.the-variants.{Long, Cut, Magic, Head, Items, Info, Piece, Block, Trail, Place, Unwritable, Room, NoTarget}
 use Rattle.format.specs.declared.Verdict.{Verdict}
 use Rattle.format.specs.declared.Verdict.the-variants.{Accepted, Refused}
+use Rattle.format.specs.Tests.{Outcome, got, refused}
 
 -- No | Name
 unfoldable pub numberOf : Fault → ℕ
@@ -31,3 +33,17 @@ answerNumber (Refused f p) = numberOf f
 unfoldable pub answerValue : Verdict → ℕ
 answerValue (Accepted n) = n
 answerValue (Refused f p) = p
+
+-- ---- the same of what reading or writing comes to
+
+abbrev pub outcomeNumber : {A : Type 0} → Outcome A → ℕ
+outcomeNumber (got a n) = 0
+outcomeNumber (refused f p) = numberOf f
+
+abbrev pub outcomeValue : {A : Type 0} → Outcome A → ℕ
+outcomeValue (got a n) = n
+outcomeValue (refused f p) = p
+
+-- the answer has the outcome's number and value
+abbrev pub Numbered : {A : Type 0} → Verdict → Outcome A → Type 0
+Numbered v o = (answerNumber v ≡ outcomeNumber o) × (answerValue v ≡ outcomeValue o)

@@ -2,3 +2,4 @@
 pub mod Firsts
 pub mod Lengths
 pub mod AllTests
+pub mod Answers

@@ -14,13 +14,16 @@ use Rattle.octets.proofs.NumberLaws.{number-split}
 use Rattle.format.specs.declared.Header.{Header}
 use Rattle.format.specs.declared.Fault.the-variants.{Cut as CUT, Magic as MAGIC, Head as HEAD}
 use Rattle.format.specs.Tests.{Outcome, got, refused}
+use Rattle.format.specs.Numbers.{outcomeNumber}
+use Rattle.format.specs.Steps.Answers.{outcomeEnd}
 use Rattle.format.specs.Steps.AllTests.{all}
-use Rattle.format.specs.Header.{classIdentifier, headerSizeOk, identifierOk, flagsOk, attributesOk, zerosFrom66, headTests, signed, headerFields}
+use Rattle.format.specs.Header.{classIdentifier, headerSizeOk, identifierOk, flagsOk, attributesOk, zerosFrom66, headTests, signed, headerFields, header}
 use Rattle.format.specs.Hotkey.{hotkeyOk}
 use Rattle.format.proofs.Bools.{and-true, and-both, same-truth, joined-every}
 use Rattle.format.proofs.Chains.{one-fault}
+use Rattle.header.specs.declared.HeaderTaken.{HeaderTaken}
 use Rattle.header.specs.declared.HeaderTaken.the-variants.{Got, Refused}
-use Rattle.header.specs.Steps.Taken.{headerTaken, headerAt}
+use Rattle.header.specs.Steps.Taken.{headerTaken, headerAt, headerNumber, headerValue, HeaderAnswer}
 
 -- sixteen bytes are four numbers
 sixteen : (l : List ℕ) → 20 ≤ length l → numberAt 16 l 4 ≡ u32At l 4 + 4294967296 * (u32At l 8 + 4294967296 * (u32At l 12 + 4294967296 * u32At l 16))
@@ -85,23 +88,36 @@ head-are l {a = a} {b = b} {c = c} {d = d} ef ea eg eb eh ec ed = joined-every a
 -- ---- the ways out
 
 module _ (s : List ℕ) where
-  pub header-cut : length s < 76 → Refused CUT 0 ≡ headerAt s
+  -- the number and the value of the answer
+  header-read : {r : HeaderTaken} → r ≡ headerAt s → HeaderAnswer s r
+  unfolding headerAt headerNumber headerValue
+  header-read e = record { is = e; number = rw e (number (header 0 s)); value = rw e (value (header 0 s)) }
+    where
+      number : (o : Outcome Header) → headerNumber (headerTaken o) ≡ outcomeNumber o
+      number (got h n) = refl
+      number (refused f q) = refl
+
+      value : (o : Outcome Header) → headerValue (headerTaken o) ≡ outcomeEnd 0 o
+      value (got h n) = omega arith
+      value (refused f q) = refl
+
+  pub header-cut : length s < 76 → HeaderAnswer s (Refused CUT 0)
   unfolding headerAt
-  header-cut h = rw (lt-leb 76 (length s) h)
+  header-cut h = header-read (rw (lt-leb 76 (length s) h))
 
   -- n is HeaderSize
   module _ (whole : 76 ≤ length s) {n : ℕ} {a : Bool} (en : n ≡ u32At (take 76 s) 0) (ea : a ≡ headerSizeOk n) where
     sized : {x : Bool} → a ≡ x → headerSizeOk (u32At (take 76 s) 0) ≡ x
     sized t = ap headerSizeOk (sym en) ∙ sym ea ∙ t
 
-    pub header-size : not a ≡ true → Refused MAGIC 0 ≡ headerAt s
+    pub header-size : not a ≡ true → HeaderAnswer s (Refused MAGIC 0)
     unfolding headerAt
-    header-size t = rw (le-leb 76 (length s) whole, sized (not-true a t))
+    header-size t = header-read (rw (le-leb 76 (length s) whole, sized (not-true a t)))
 
     module _ (ta : not a ≡ false) {b : Bool} (eb : b ≡ identifierOk (take 76 s)) where
-      pub header-identifier : not b ≡ true → Refused MAGIC 0 ≡ headerAt s
+      pub header-identifier : not b ≡ true → HeaderAnswer s (Refused MAGIC 0)
       unfolding headerAt
-      header-identifier t = rw (le-leb 76 (length s) whole, sized (not-false a ta), sym eb ∙ not-true b t)
+      header-identifier t = header-read (rw (le-leb 76 (length s) whole, sized (not-false a ta), sym eb ∙ not-true b t))
 
       module _ (tb : not b ≡ false) {k : Bool} (ek : k ≡ all (headTests (take 76 s))) where
         -- the rules of HEAD are one test
@@ -113,11 +129,11 @@ module _ (s : List ℕ) where
             rw (le-leb 76 (length s) whole, sized (not-false a ta), sym eb ∙ not-false b tb)
             (ap headerTaken (g ∙ ap (λ (x : Bool). cond x r (refused HEAD 0)) (sym ek)))
 
-        pub header-head : not k ≡ true → Refused HEAD 0 ≡ headerAt s
-        header-head t = sym (judged ∙ rw (not-true k t))
+        pub header-head : not k ≡ true → HeaderAnswer s (Refused HEAD 0)
+        header-head t = header-read (sym (judged ∙ rw (not-true k t)))
 
-        pub header-got : {h : Header} → not k ≡ false → h ≡ headerFields (take 76 s) → Got h (record { at = 76 }) ≡ headerAt s
-        header-got t e = rw e (sym (judged ∙ rw (not-false k t)))
+        pub header-got : {h : Header} → not k ≡ false → h ≡ headerFields (take 76 s) → HeaderAnswer s (Got h (record { at = 76 }))
+        header-got t e = header-read (rw e (sym (judged ∙ rw (not-false k t))))
 
 pub fields-are : (l : List ℕ) {a b c d e f h j : ℕ} {i : ℤ} → a ≡ u32At l 20 → b ≡ u32At l 24 → c ≡ u64At l 28 → d ≡ u64At l 36 → e ≡ u64At l 44 → f ≡ u32At l 52
     → i ≡ signed (u32At l 56) → h ≡ u32At l 60 → j ≡ u16At l 64

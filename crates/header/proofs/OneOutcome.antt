@@ -17,7 +17,7 @@ pub hotkey-ok-one-outcome : OneAnswer hotkey-ok.ended hotkey-ok.Reads.Post
 hotkey-ok-one-outcome κs a r q s t p o = p ∙ sym o
 
 pub header-one-outcome : OneAnswer header.ended header.Reads.Post
-header-one-outcome κs a r q s t p o = p ∙ sym o
+header-one-outcome κs a r q s t p o = p .is ∙ sym (o .is)
 
 pub window-one-outcome : OneAnswer window.ended window.Reads.Post
 window-one-outcome κs a r q s t p o = p ∙ sym o

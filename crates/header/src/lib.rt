@@ -8,7 +8,7 @@ ghost use lib.ListN.{length};
 ghost use Rattle.format.specs.Steps.AllTests.{all};
 ghost use Rattle.format.specs.Header.{headerSizeOk, identifierOk, flagsOk, attributesOk, zerosFrom66, headTests, headerFields, windowShown};
 ghost use Rattle.format.specs.Hotkey.{lowByteOk, highByteOk, hotkeyOk};
-ghost use Rattle.header.specs.Steps.Taken.{headerAt};
+ghost use Rattle.header.specs.Steps.Taken.{HeaderAnswer};
 
 // The header and the cursor after it, or why it is refused and where.
 pub enum HeaderTaken {
@@ -112,7 +112,7 @@ fn header_fields(l: &[u8]) -> Header
 }
 
 pub fn header(s: &[u8]) -> HeaderTaken
-    ensures { λ r. ⌜ r ≡ headerAt (now (s .entry)) ⌝ }
+    ensures { λ r. ⌜ HeaderAnswer (now (s .entry)) r ⌝ }
 {
     if s.len() < 76 {
         return HeaderTaken::Refused(Fault::Cut, 0);

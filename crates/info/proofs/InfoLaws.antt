@@ -13,22 +13,25 @@ use Rattle.format.specs.declared.Fault.{Fault}
 use Rattle.format.specs.declared.Fault.the-variants.{Cut as CUT, Info as INFO, Piece as PIECE}
 use Rattle.format.specs.declared.Info.{Info}
 use Rattle.format.specs.Tests.{Outcome, got, refused, Test, _else_, tests}
+use Rattle.format.specs.Numbers.{outcomeNumber}
 use Rattle.format.specs.Steps.AllTests.{all}
+use Rattle.format.specs.Steps.Answers.{outcomeEnd}
 use Rattle.format.specs.Pieces.{Piece, textPiece, absentZero, testsOf, apartTests}
 use Rattle.format.specs.Volume.{volumePiece}
 use Rattle.format.specs.Network.{networkPiece}
-use Rattle.format.specs.Info.{infoSize, infoHead, longHead, hasLocal, hasNetwork, infoPieces, infoHeadTests, infoRules, infoFields, hasLocalUnicode}
+use Rattle.format.specs.Info.{infoSize, infoHead, longHead, hasLocal, hasNetwork, infoPieces, infoHeadTests, infoRules, infoFields, hasLocalUnicode, info}
 use Rattle.format.specs.Presence.{localThere, networkThere, localUnicodeThere}
 use Rattle.format.proofs.Bools.{or-true, and-true, and-assoc, and-yes}
 use Rattle.format.proofs.Chains.{Pass, tests-append, all-pass, pass-all, one-fault}
 use Rattle.format.proofs.Holds.{infoPieceTests, info-head-holds, info-pieces-hold}
+use Rattle.info.specs.declared.InfoTaken.{InfoTaken}
 use Rattle.info.specs.declared.InfoTaken.the-variants.{Got, Refused}
 use Rattle.info.specs.declared.Text.{Text}
 use Rattle.info.specs.declared.VolumeFound.{VolumeFound}
 use Rattle.info.specs.declared.NetworkFound.{NetworkFound}
 use Rattle.info.specs.declared.Pieces.{Pieces}
 use Rattle.info.specs.Steps.Found.{fieldIf, pieceOk, textFound, volumeFound, networkFound, piecesFound}
-use Rattle.info.specs.Steps.Taken.{infoTaken, infoAt}
+use Rattle.info.specs.Steps.Taken.{infoTaken, infoAt, infoNumber, infoValue, InfoAnswer}
 use Rattle.info.proofs.TestLaws.{judge, pieces-judged, info-faults}
 use Rattle.info.proofs.TextLaws.{text-field, zero-field}
 use Rattle.info.proofs.StructLaws.{first-number}
@@ -162,9 +165,22 @@ three-pass : {A : Type 0} (p : ℕ) (a b c : Bool) (f g h : Fault) (ts : List Te
 three-pass p a b c f g h ts r i j k = rw (i, j, k)
 
 module _ (s : List ℕ) (p : ℕ) where
-  pub info-cut : length s < p + 4 → Refused CUT p ≡ infoAt s p
+  -- the number and the value of the answer
+  info-read : {r : InfoTaken} → r ≡ infoAt s p → InfoAnswer s p r
+  unfolding infoAt infoNumber infoValue
+  info-read e = record { is = e; number = rw e (number (info p (drop p s))); value = rw e (value (info p (drop p s))) }
+    where
+      number : (o : Outcome Info) → infoNumber (infoTaken p o) ≡ outcomeNumber o
+      number (got i n) = refl
+      number (refused f q) = refl
+
+      value : (o : Outcome Info) → infoValue (infoTaken p o) ≡ outcomeEnd p o
+      value (got i n) = refl
+      value (refused f q) = refl
+
+  pub info-cut : length s < p + 4 → InfoAnswer s p (Refused CUT p)
   unfolding infoAt
-  info-cut h = rw (length-drop, lt-leb 4 (length s - p) (omega arith))
+  info-cut h = info-read (rw (length-drop, lt-leb 4 (length s - p) (omega arith)))
 
   module _ {n : ℕ} (f : p + 4 ≤ length s) (e : n ≡ u32At s p) where
     size-is : infoSize (drop p s) ≡ n
@@ -173,16 +189,16 @@ module _ (s : List ℕ) (p : ℕ) where
     starts : leb 4 (length (drop p s)) ≡ true
     starts = le-leb 4 (length (drop p s)) (rw length-drop (omega arith))
 
-    pub info-small : n < 0x1C → Refused INFO p ≡ infoAt s p
+    pub info-small : n < 0x1C → InfoAnswer s p (Refused INFO p)
     unfolding infoAt
-    info-small h = rw (starts, size-is, lt-leb 0x1C n h)
+    info-small h = info-read (rw (starts, size-is, lt-leb 0x1C n h))
 
     module _ (h : 0x1C ≤ n) where
-      pub info-past : length s < p + n → Refused CUT p ≡ infoAt s p
+      pub info-past : length s < p + n → InfoAnswer s p (Refused CUT p)
       unfolding infoAt
       info-past g =
           let i : leb n (length (drop p s)) ≡ false = lt-leb n (length (drop p s)) (rw length-drop (omega arith)) in
-          rw (starts, size-is, le-leb 0x1C n h, i)
+          info-read (rw (starts, size-is, le-leb 0x1C n h, i))
 
       module _ {d : Cursor} {x : Bool} (g : p + n ≤ length s) (q : d .at ≡ p + n) (ex : x ≡ all (infoHeadTests (take (d .at - p) (drop p s)))) where
         abbrev part : List ℕ
@@ -203,18 +219,18 @@ module _ (s : List ℕ) (p : ℕ) where
             ∙ rules-grouped p part (got (infoFields p part) n)
             ∙ ap (λ (y : Bool). cond y (cond (all (infoPieceTests part)) (got (infoFields p part) n) (refused PIECE p)) (refused INFO p)) (sym ex))
 
-        pub info-head : not x ≡ true → Refused INFO p ≡ infoAt s p
-        info-head t = sym (info-is ∙ rw (not-true x t))
+        pub info-head : not x ≡ true → InfoAnswer s p (Refused INFO p)
+        info-head t = info-read (sym (info-is ∙ rw (not-true x t)))
 
         module _ {r : Pieces} (t : not x ≡ false) (er : r ≡ piecesFound p part) where
           judged : all (infoPieceTests part) ≡ r .ok
           unfolding piecesFound
           judged = sym (ap (λ (y : Pieces). y .ok) er)
 
-          pub info-piece : not (r .ok) ≡ true → Refused PIECE p ≡ infoAt s p
-          info-piece o = sym (info-is ∙ rw (not-false x t, judged ∙ not-true (r .ok) o))
+          pub info-piece : not (r .ok) ≡ true → InfoAnswer s p (Refused PIECE p)
+          info-piece o = info-read (sym (info-is ∙ rw (not-false x t, judged ∙ not-true (r .ok) o)))
 
-          pub info-got : not (r .ok) ≡ false → Got (r .info) d ≡ infoAt s p
+          pub info-got : not (r .ok) ≡ false → InfoAnswer s p (Got (r .info) d)
           info-got o =
               let i : r .ok ≡ true = not-false (r .ok) o in
-              rw (pieces-say p part er i) (sym (info-is ∙ rw (not-false x t, judged ∙ i, ← q)))
+              info-read (rw (pieces-say p part er i) (sym (info-is ∙ rw (not-false x t, judged ∙ i, ← q))))

@@ -20,7 +20,7 @@ use Rattle.info.specs.declared.Text.{Text}
 use Rattle.info.specs.declared.NetworkFound.{NetworkFound}
 use Rattle.info.specs.declared.NetworkRead.{NetworkRead}
 use Rattle.info.specs.declared.NetworkRead.the-variants.{Good, Bad}
-use Rattle.info.specs.Steps.Found.{fieldIf, pieceFound, textFound, networkIf, networkIn, makeNetwork, networkFound}
+use Rattle.info.specs.Steps.Found.{fieldIf, pieceFound, textFound, networkIf, networkIn, makeNetwork, networkFound, okOrPiece, networkNumber, PieceAnswers, NetworkAnswer}
 use Rattle.info.proofs.TestLaws.{uncut-room, judge, pieces-judged}
 use Rattle.info.proofs.TextLaws.{text-body, text-field, zero-field}
 use Rattle.info.proofs.StructLaws.{Kind}
@@ -97,10 +97,28 @@ four p v ef en ed et eh ea e₁ eb e₂ ec e₃ ee =
       deviceUnicode = ee ∙ rw (et, e₃, eh, ef, en) (text-field (hasDeviceUnicode v) true v p h 24 u (λ z. rw z));
     }
 
+-- the number of the answer
+chosen : (ok : Bool) (n : Network) → networkNumber (networkIf ok n) ≡ okOrPiece ok
+unfolding networkNumber
+chosen true n = refl
+chosen false n = refl
+
+pub if-good : {ok : Bool} (n : Network) → ok ≡ true → PieceAnswers networkNumber ok (networkIf ok n) (Good n)
+unfolding networkNumber
+if-good n e = record { is = rw e; number = rw e }
+
+pub if-bad : {ok : Bool} (n : Network) → ok ≡ false → PieceAnswers networkNumber ok (networkIf ok n) Bad
+unfolding networkNumber
+if-bad n e = record { is = rw e; number = rw e }
+
+network-judged : (p : ℕ) (v : List ℕ) {r : NetworkRead} → r ≡ networkIn p v → NetworkAnswer p v r
+unfolding networkIn
+network-judged p v e = record { is = e; number = rw e (chosen (all (networkRules v)) (networkFields p v)) }
+
 module _ (p : ℕ) (v : List ℕ) {ok : Bool} (ex : ok ≡ all (networkHeadTests v)) where
-  pub network-fails : not ok ≡ true → Bad ≡ networkIn p v
+  pub network-fails : not ok ≡ true → NetworkAnswer p v Bad
   unfolding networkIn
-  network-fails t = rw (rules-split v, ← ex, not-true ok t)
+  network-fails t = network-judged p v (rw (rules-split v, ← ex, not-true ok t))
 
   module _ {a b c d : Text} {far : Bool} (t : not ok ≡ false) (f : Four p v a b c d) (ef : far ≡ all (apartTests [] (a .span ∷ b .span ∷ c .span ∷ d .span ∷ []))) where
     judged : all (networkRules v) ≡ fourPass a b c d far
@@ -112,10 +130,10 @@ module _ (p : ℕ) (v : List ℕ) {ok : Bool} (ex : ok ≡ all (networkHeadTests
         rules-split v ∙ rw (← ex, not-false ok t, pieces-judged h (networkPieces v) fs ef) (simp (and-assoc, and-yes))
 
     pub network-read : {flags name kept provider : ℕ} {t : Bool} {r : NetworkRead} → flags ≡ u32At v 4 → name ≡ u32At v 8 → t ≡ providerThere flags → kept ≡ u32At v 16 → provider ≡ cond t kept 0
-        → r ≡ networkIf (fourPass a b c d far) (fourFields flags provider (ltb 0x14 name) a b c d) → r ≡ networkIn p v
+        → r ≡ networkIf (fourPass a b c d far) (fourFields flags provider (ltb 0x14 name) a b c d) → NetworkAnswer p v r
     unfolding networkIn
     network-read {flags} {name} {provider = provider} eg en et ek ep er =
-        er ∙ go (fourPass a b c d far) refl ∙ ap (λ (k : Bool). networkIf k (networkFields p v)) (sym judged)
+        network-judged p v (er ∙ go (fourPass a b c d far) refl ∙ ap (λ (k : Bool). networkIf k (networkFields p v)) (sym judged))
       where
         go : (k : Bool) → fourPass a b c d far ≡ k → networkIf k (fourFields flags provider (ltb 0x14 name) a b c d) ≡ networkIf k (networkFields p v)
         go true e =

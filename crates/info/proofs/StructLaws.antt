@@ -21,7 +21,7 @@ use Rattle.format.proofs.Holds.{struct-holds}
 use Rattle.format.proofs.PieceLaws.{pieceAt}
 use Rattle.info.specs.declared.StructEnd.{StructEnd}
 use Rattle.info.specs.declared.StructEnd.the-variants.{At, Outside}
-use Rattle.info.specs.Steps.Found.{EndSmall, pieceOk, pieceFound, endAt}
+use Rattle.info.specs.Steps.Found.{EndSmall, pieceOk, pieceFound, endsRight, endAt, okOrPiece, endNumber, endValue, EndAnswer}
 use Rattle.info.proofs.TestLaws.{found-absent, found-not, found-is}
 
 -- ---- a structure of LinkInfo as a piece, and what it says
@@ -38,30 +38,46 @@ pub first-number : (l : List ℕ) (o : ℕ) → u32At (drop o l) 0 ≡ u32At l o
 first-number l o = number-drop 4 o l 0 ∙ ap (numberAt 4 l) (add-zero o)
 
 module _ (l : List ℕ) (head least o : ℕ) where
-  pub end-low : o < head → Outside ≡ endAt l head least o
+  -- the number and the value of the answer
+  ends : {r : StructEnd} → r ≡ endAt l head least o → EndAnswer l head least o r
+  unfolding endAt endNumber endValue
+  ends i = record { is = i; number = rw i (number (endsRight l head least o)); value = rw i (value (endsRight l head least o)) }
+    where
+      e : ℕ
+      e = o + u32At (drop o l) 0
+
+      number : (b : Bool) → endNumber (cond b (At e) Outside) ≡ okOrPiece b
+      number true = refl
+      number false = refl
+
+      value : (b : Bool) → endValue (cond b (At e) Outside) ≡ cond b e 0
+      value true = refl
+      value false = refl
+
+  pub end-low : o < head → EndAnswer l head least o Outside
   unfolding endAt
-  end-low h = rw (lt-leb head o h)
+  end-low h = ends (rw (lt-leb head o h))
 
   module _ (h : head ≤ o) where
-    pub end-cut : length l < o + 4 → Outside ≡ endAt l head least o
+    pub end-cut : length l < o + 4 → EndAnswer l head least o Outside
     unfolding endAt
-    end-cut k = rw (le-leb head o h, length-drop, lt-leb 4 (length l - o) (omega arith))
+    end-cut k = ends (rw (le-leb head o h, length-drop, lt-leb 4 (length l - o) (omega arith)))
 
     module _ {n : ℕ} (f : o + 4 ≤ length l) (e : n ≡ u32At l o) where
-      pub end-past : length l < o + n → Outside ≡ endAt l head least o
+      pub end-past : length l < o + n → EndAnswer l head least o Outside
       unfolding endAt
-      end-past k = rw (le-leb head o h, length-drop, le-leb 4 (length l - o) (omega arith), first-number l o, ← e, lt-leb n (length l - o) (omega arith))
+      end-past k = ends (rw (le-leb head o h, length-drop, le-leb 4 (length l - o) (omega arith), first-number l o, ← e, lt-leb n (length l - o) (omega arith)))
 
       module _ (k : o + n ≤ length l) where
-        pub end-small : n < least → Outside ≡ endAt l head least o
+        pub end-small : n < least → EndAnswer l head least o Outside
         unfolding endAt
         end-small i =
-            rw (le-leb head o h, length-drop, le-leb 4 (length l - o) (omega arith), first-number l o, ← e, le-leb n (length l - o) (omega arith), lt-leb least n i)
+            ends (rw (le-leb head o h, length-drop, le-leb 4 (length l - o) (omega arith), first-number l o, ← e, le-leb n (length l - o) (omega arith), lt-leb least n i))
 
-        pub end-at : least ≤ n → {m : ℕ} → m ≡ o + n → At m ≡ endAt l head least o
+        pub end-at : least ≤ n → {m : ℕ} → m ≡ o + n → EndAnswer l head least o (At m)
         unfolding endAt
         end-at i q =
-            rw (q, le-leb head o h, length-drop, le-leb 4 (length l - o) (omega arith), first-number l o, ← e, le-leb n (length l - o) (omega arith), le-leb least n i)
+            ends (rw (q, le-leb head o h, length-drop, le-leb 4 (length l - o) (omega arith), first-number l o, ← e, le-leb n (length l - o) (omega arith), le-leb least n i))
 
 -- ---- from the answer to the facts
 

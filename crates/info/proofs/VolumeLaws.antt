@@ -18,7 +18,7 @@ use Rattle.info.specs.declared.Text.{Text}
 use Rattle.info.specs.declared.VolumeFound.{VolumeFound}
 use Rattle.info.specs.declared.VolumeRead.{VolumeRead}
 use Rattle.info.specs.declared.VolumeRead.the-variants.{Good, Bad}
-use Rattle.info.specs.Steps.Found.{pieceOk, pieceFound, labelAt, textFound, makeVolume, volumeFound, volumeIn}
+use Rattle.info.specs.Steps.Found.{pieceOk, pieceFound, labelAt, textFound, makeVolume, volumeFound, volumeIn, okOrPiece, volumeNumber, VolumeAnswer}
 use Rattle.info.proofs.TestLaws.{or-false, uncut-room}
 use Rattle.info.proofs.TextLaws.{text-ok, text-body}
 use Rattle.info.proofs.StructLaws.{Kind}
@@ -28,16 +28,25 @@ use Rattle.info.proofs.StructLaws.{Kind}
 pub label-room : (v : List ℕ) {x : Bool} (u a : Bool) → x ≡ uncut u 0x14 v → (a || not x) ≡ false → u ≡ true → 0x14 ≤ length v
 label-room v {x} u a e h = uncut-room u 0x14 v (sym e ∙ not-false x (or-false a (not x) h .1))
 
+-- the number of the answer
+volume-judged : (p : ℕ) (v : List ℕ) {r : VolumeRead} → r ≡ volumeIn p v → VolumeAnswer p v r
+unfolding volumeIn volumeNumber
+volume-judged p v e = record { is = e; number = rw e (number (all (volumeRules v))) }
+  where
+    number : (b : Bool) → volumeNumber (cond b (Good (volumeFields p v)) Bad) ≡ okOrPiece b
+    number true = refl
+    number false = refl
+
 module _ (p : ℕ) (v : List ℕ) {drive : ℕ} {u x : Bool} (ed : drive ≡ u32At v 4) (eu : u ≡ labelUnicode v) (ex : x ≡ uncut u 0x14 v) where
   rules-are : all (volumeRules v) ≡ (leb drive 6 && (x && pieceOk (labelLeast u) (textPiece true u v (labelAt v u))))
   rules-are = rw (ex, eu, ed)
 
-  pub volume-fixed : (ltb 6 drive || not x) ≡ true → Bad ≡ volumeIn p v
+  pub volume-fixed : (ltb 6 drive || not x) ≡ true → VolumeAnswer p v Bad
   unfolding volumeIn
   volume-fixed h =
       or-true (ltb 6 drive) (not x) h
-      (λ i. rw (rules-are, lt-leb drive 6 (ltb-true 6 drive i)))
-      (λ i. rw (rules-are, not-true x i, and-no))
+      (λ i. volume-judged p v (rw (rules-are, lt-leb drive 6 (ltb-true 6 drive i))))
+      (λ i. volume-judged p v (rw (rules-are, not-true x i, and-no)))
 
   module _ {o least : ℕ} {t : Text} (h : (ltb 6 drive || not x) ≡ false) (el : least ≡ labelLeast u) (eo : o ≡ labelAt v u) (et : t ≡ textFound true u v p least o) where
     rules-text : all (volumeRules v) ≡ t .ok
@@ -46,16 +55,16 @@ module _ (p : ℕ) (v : List ℕ) {drive : ℕ} {u x : Bool} (ed : drive ≡ u32
         let j : leb drive 6 ≡ true = le-leb drive 6 (ltb-false 6 drive (i .0)) in
         rules-are ∙ rw (j, not-false x (i .1), ← eo, ← el) (sym (text-ok true u v p least o et))
 
-    pub volume-open : not (t .ok) ≡ true → Bad ≡ volumeIn p v
+    pub volume-open : not (t .ok) ≡ true → VolumeAnswer p v Bad
     unfolding volumeIn
-    volume-open q = rw (rules-text ∙ not-true (t .ok) q)
+    volume-open q = volume-judged p v (rw (rules-text ∙ not-true (t .ok) q))
 
     pub volume-good : {serial : ℕ} {label : Label} → not (t .ok) ≡ false → serial ≡ u32At v 8 → label ≡ labelOf u (t .body)
-        → Good (record { drive = drive; serial = serial; label = label }) ≡ volumeIn p v
+        → VolumeAnswer p v (Good (record { drive = drive; serial = serial; label = label }))
     unfolding volumeIn
     volume-good q es eb =
         let i : t .ok ≡ true = not-false (t .ok) q in
-        rw (rules-text ∙ i, ed, es, eb, text-body true u v p least o et i, eo, eu)
+        volume-judged p v (rw (rules-text ∙ i, ed, es, eb, text-body true u v p least o et i, eo, eu))
 
 -- ---- the piece
 

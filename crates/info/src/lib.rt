@@ -20,9 +20,9 @@ ghost use Rattle.format.specs.Pieces.{absentZero, uncut, apart, apartTests};
 ghost use Rattle.format.specs.Volume.{labelLeast, noVolume};
 ghost use Rattle.format.specs.Network.{networkHead, networkHeadTests, noNetwork};
 ghost use Rattle.format.specs.Info.{infoHeadTests};
-ghost use Rattle.info.specs.Steps.Found.{EndSmall, fieldIf, makeText, textFound, endAt, labelAt, volumeIn, makeVolume, volumeFound};
-ghost use Rattle.info.specs.Steps.Found.{networkIf, networkIn, makeNetwork, networkFound, piecesFound};
-ghost use Rattle.info.specs.Steps.Taken.{infoAt};
+ghost use Rattle.info.specs.Steps.Found.{EndSmall, fieldIf, makeText, textFound, EndAnswer, labelAt, VolumeAnswer, makeVolume, volumeFound};
+ghost use Rattle.info.specs.Steps.Found.{networkIf, networkNumber, PieceAnswers, NetworkAnswer, makeNetwork, networkFound, piecesFound};
+ghost use Rattle.info.specs.Steps.Taken.{InfoAnswer};
 
 // LinkInfo and the cursor after it, or why it is refused and where.
 pub enum InfoTaken {
@@ -188,7 +188,7 @@ fn apart_six(a: Place, b: Place, c: Place, d: Place, e: Place, f: Place) -> bool
 
 // A structure at the offset o says its size in its first four bytes.
 fn end_of(l: &[u8], head: usize, least: u32, o: usize) -> StructEnd
-    ensures { λ r. ⌜ r ≡ endAt (now (l .entry)) head least o ⌝ }
+    ensures { λ r. ⌜ EndAnswer (now (l .entry)) head least o r ⌝ }
 {
     if o < head {
         return StructEnd::Outside;
@@ -230,7 +230,7 @@ fn label_offset(v: &[u8], unicode: bool) -> usize
 // VolumeID from its own part of the file, which starts at the place at.
 fn volume_in(v: &[u8], at: usize) -> VolumeRead
     requires { ⌜ (0x11 ≤ length (now v)) × (at + length (now v) ≤ 65536) ⌝ }
-    ensures { λ r. ⌜ r ≡ volumeIn at (now (v .entry)) ⌝ }
+    ensures { λ r. ⌜ VolumeAnswer at (now (v .entry)) r ⌝ }
 {
     let drive = octets::u32_at(v, 4);
     let unicode = octets::u32_at(v, 12) == 0x14;
@@ -313,7 +313,7 @@ fn network_head_ok(v: &[u8]) -> bool
 }
 
 fn network_if(ok: bool, n: Network) -> NetworkRead
-    ensures { λ r. ⌜ r ≡ networkIf ok n ⌝ }
+    ensures { λ r. ⌜ PieceAnswers networkNumber ok (networkIf ok n) r ⌝ }
 {
     if ok {
         NetworkRead::Good(n)
@@ -325,7 +325,7 @@ fn network_if(ok: bool, n: Network) -> NetworkRead
 // The network link from its own part of the file, which starts at the place at.
 fn network_in(v: &[u8], at: usize) -> NetworkRead
     requires { ⌜ (0x14 ≤ length (now v)) × (at + length (now v) ≤ 65536) ⌝ }
-    ensures { λ r. ⌜ r ≡ networkIn at (now (v .entry)) ⌝ }
+    ensures { λ r. ⌜ NetworkAnswer at (now (v .entry)) r ⌝ }
 {
     if !network_head_ok(v) {
         return NetworkRead::Bad;
@@ -462,7 +462,7 @@ fn info_pieces(l: &[u8], start: usize) -> Pieces
 // LinkInfo at the cursor; its readers are given its part of the file, from its start to its declared end.
 pub fn info(s: &[u8], c: Cursor) -> InfoTaken
     requires { ⌜ length (now s) ≤ 65536 ⌝ }
-    ensures { λ r. ⌜ r ≡ infoAt (now (s .entry)) (c .at) ⌝ }
+    ensures { λ r. ⌜ InfoAnswer (now (s .entry)) (c .at) r ⌝ }
 {
     let Took::Number(size, _) = c.take_u32(s) else {
         return InfoTaken::Refused(Fault::Cut, c.at);

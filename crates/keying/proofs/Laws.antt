@@ -25,8 +25,10 @@ use Rattle.format.specs.declared.Record.{Record}
 use Rattle.format.specs.declared.Reading.{Reading}
 use Rattle.format.specs.declared.Fault.{Fault}
 use Rattle.format.specs.declared.Fault.the-variants.{Room as ROOM}
+use Rattle.format.specs.declared.Verdict.{Verdict}
 use Rattle.format.specs.declared.Verdict.the-variants.{Accepted, Refused}
 use Rattle.format.specs.Tests.{got, refused, _else_, tests, oneOr0, place, noPlace}
+use Rattle.format.specs.Numbers.{Numbered}
 use Rattle.format.specs.Presence.{workdirBit, argumentsBit, stringThere, stringsUnicode}
 use Rattle.format.specs.Blocks.{blocks}
 use Rattle.format.specs.Steps.Firsts.{firstField, firsts}
@@ -36,6 +38,7 @@ use Rattle.format.specs.Writing.{outputOf}
 use Rattle.format.specs.Target.{hasTarget}
 use Rattle.format.specs.Key.{noPart, somePart, partIf, Key, blockText, environment, partBytes, keyBytes, key, keyAnswer, keyOutput, keyIn}
 use Rattle.format.specs.Demands.{Accepts}
+use Rattle.format.proofs.AnswerLaws.{numbered}
 use Rattle.format.proofs.BodyLaws.{body-part}
 use Rattle.format.proofs.Chains.{drop-take}
 use Rattle.format.proofs.AcceptedLaws.{accepted-read, accepted-held, accepted-bodies, accepted-limit, refused-read}
@@ -301,11 +304,19 @@ module _ (s : List ℕ) (k : KeyParts) where
 
 -- ---- the ways out
 
+-- what the call says of its answer v and its buffer x
+abbrev KeyCall : List ℕ → List ℕ → Verdict → List ℕ → Type 0
+KeyCall s out v x = (v ≡ keyAnswer s out) × ((x ≡ keyOutput s out) × Numbered v (key s (length out)))
+
+key-call : (s out : List ℕ) {v : Verdict} {x : List ℕ} → v ≡ keyAnswer s out → x ≡ keyOutput s out → KeyCall s out v x
+unfolding keyAnswer
+key-call s out a o = (a, (o, numbered (key s (length out)) a))
+
 module _ (s out : List ℕ) {g : Reading} (e : g ≡ reading s) where
   -- leaving with the refusal
-  pub key-left : {f : Fault} {p : ℕ} → g .verdict ≡ Refused f p → (g .verdict ≡ keyAnswer s out) × (out ≡ keyOutput s out)
+  pub key-left : {f : Fault} {p : ℕ} → g .verdict ≡ Refused f p → KeyCall s out (g .verdict) out
   unfolding keyAnswer keyOutput key outputOf
-  key-left q = let i = refused-read s (ap (λ (x : Reading). x .verdict) (sym e) ∙ q) in (q ∙ rw i, rw i)
+  key-left q = let i = refused-read s (ap (λ (x : Reading). x .verdict) (sym e) ∙ q) in key-call s out (q ∙ rw i) (rw i)
 
   module _ {n : ℕ} (q : g .verdict ≡ Accepted n) where
     pub accepts : Accepts s (g .held)
@@ -320,13 +331,13 @@ module _ (s out : List ℕ) {g : Reading} (e : g ≡ reading s) where
       long : length (keyBytes (keyIn s)) ≡ m
       long = ap (λ (x : Key). length (keyBytes x)) (sym shown) ∙ key-long s k stands ∙ sym is
 
-      pub key-room : length out < m → (Refused ROOM 0 ≡ keyAnswer s out) × (out ≡ keyOutput s out)
+      pub key-room : length out < m → KeyCall s out (Refused ROOM 0) out
       unfolding keyAnswer keyOutput outputOf
-      key-room o = let z : key s (length out) ≡ refused ROOM 0 = key-is ∙ rw (long, lt-leb m (length out) o) in (rw z, rw z)
+      key-room o = let z : key s (length out) ≡ refused ROOM 0 = key-is ∙ rw (long, lt-leb m (length out) o) in key-call s out (rw z) (rw z)
 
-      pub key-written : {x : List ℕ} {r : ℕ} → m ≤ length out → Wrote out 0 (keyBytes (keyShown s k)) (keyLength k) x r → (Accepted r ≡ keyAnswer s out) × (x ≡ keyOutput s out)
+      pub key-written : {x : List ℕ} {r : ℕ} → m ≤ length out → Wrote out 0 (keyBytes (keyShown s k)) (keyLength k) x r → KeyCall s out (Accepted r) x
       unfolding keyAnswer keyOutput outputOf
       key-written o w =
           let z : key s (length out) ≡ got (keyBytes (keyIn s)) m = key-is ∙ rw (long, le-leb m (length out) o) in
           let a : _ ≡ m = w .next ∙ omega arith in
-          (rw (z, a), rw z (w .content ∙ rw shown))
+          key-call s out (rw (z, a)) (rw z (w .content ∙ rw shown))

@@ -11,7 +11,8 @@ ghost use lib.ListN.{length};
 ghost use Rattle.octets.specs.Numbers.{little};
 ghost use Rattle.octets.specs.Steps.Puts.{Wrote};
 ghost use Rattle.format.specs.Tests.{oneOr0};
-ghost use Rattle.format.specs.Key.{partBytes, keyBytes, keyIn, keyAnswer, keyOutput};
+ghost use Rattle.format.specs.Numbers.{Numbered};
+ghost use Rattle.format.specs.Key.{partBytes, keyBytes, key, keyIn, keyAnswer, keyOutput};
 ghost use Rattle.format.specs.Demands.{Accepts};
 ghost use Rattle.blocks.specs.Steps.Walk.{blockFrom};
 ghost use Rattle.reader.specs.Steps.Finish.{FirstsOf};
@@ -156,6 +157,7 @@ fn put_key(s: &[u8], k: KeyParts, out: &mut [u8]) -> usize
 pub fn key(s: &[u8], out: &mut [u8]) -> Verdict
     ensures answer { λ r. ⌜ r ≡ keyAnswer (now (s .entry)) (now (out .entry)) ⌝ }
     ensures output { λ _. ⌜ now (out .exit) ≡ keyOutput (now (s .entry)) (now (out .entry)) ⌝ }
+    ensures numbers { λ r. ⌜ Numbered r (key (now (s .entry)) (length (now (out .entry)))) ⌝ }
 {
     let o = reader::outline_of(s);
     let next = o.next;

@@ -7,7 +7,7 @@ use native.Mathlib.Omega.{arith}
 use lib.ListN.{length}
 use borrow.Author.Tests.{le-leb, lt-leb, leb-true, leb-false}
 use Rattle.octets.specs.Numbers.{numberAt}
-use Rattle.octets.specs.Steps.Cursors.{inside, taken, skipped, okOrCut, tookNumber, tookValue, skippedNumber, skippedValue, Takes, Skips}
+use Rattle.octets.specs.Steps.Cursors.{inside, taken, skipped, okOrCut, tookNumber, tookValue, skippedNumber, skippedValue, TakeAnswer, SkipAnswer}
 use Rattle.octets.specs.declared.Cursor.{Cursor}
 use Rattle.octets.specs.declared.Took.{Took}
 use Rattle.octets.specs.declared.Took.the-variants.{Number, Cut}
@@ -17,7 +17,7 @@ use Rattle.octets.proofs.ChoiceLaws.{cond-first, cond-second}
 
 -- ---- from the code to the definition
 module _ (w : ℕ) (s : List ℕ) (i : ℕ) where
-  took : {t : Took} → t ≡ taken w s i → Takes w s i t
+  took : {t : Took} → t ≡ taken w s i → TakeAnswer w s i t
   unfolding taken tookNumber tookValue
   took e = record { is = e; number = rw e (number (inside s i w)); value = rw e (value (inside s i w)) }
     where
@@ -32,16 +32,16 @@ module _ (w : ℕ) (s : List ℕ) (i : ℕ) where
       value true = refl
       value false = refl
 
-  pub take-cut : length s < i + w → Takes w s i (Cut (record { at = i }))
+  pub take-cut : length s < i + w → TakeAnswer w s i (Cut (record { at = i }))
   unfolding taken
   take-cut h = took (rw (lt-leb (i + w) (length s) h))
 
-  pub take-number : {x : ℕ} → i + w ≤ length s → x ≡ numberAt w s i → Takes w s i (Number x (record { at = i + w }))
+  pub take-number : {x : ℕ} → i + w ≤ length s → x ≡ numberAt w s i → TakeAnswer w s i (Number x (record { at = i + w }))
   unfolding taken
   take-number h e = took (rw (le-leb (i + w) (length s) h, e))
 
 module _ (s : List ℕ) (i n : ℕ) where
-  skips : {t : Skipped} → t ≡ skipped s i n → Skips s i n t
+  skips : {t : Skipped} → t ≡ skipped s i n → SkipAnswer s i n t
   unfolding skipped skippedNumber skippedValue
   skips e = record { is = e; number = rw e (number (inside s i n)); value = rw e (value (inside s i n)) }
     where
@@ -56,11 +56,11 @@ module _ (s : List ℕ) (i n : ℕ) where
       value true = refl
       value false = refl
 
-  pub skip-cut : length s < i + n → Skips s i n (Short (record { at = i }))
+  pub skip-cut : length s < i + n → SkipAnswer s i n (Short (record { at = i }))
   unfolding skipped
   skip-cut h = skips (rw (lt-leb (i + n) (length s) h))
 
-  pub skip-to : i + n ≤ length s → Skips s i n (To (record { at = i + n }))
+  pub skip-to : i + n ≤ length s → SkipAnswer s i n (To (record { at = i + n }))
   unfolding skipped
   skip-to h = skips (rw (le-leb (i + n) (length s) h))
 
@@ -72,7 +72,7 @@ number-not-cut p q = let z : _≡_ {A = ℕ} 0 1 = cc in omega arith
 pub to-not-cut : {t : Skipped} {d e : Cursor} → t ≡ To d → t ≡ Short e → ⊥
 to-not-cut p q = let z : _≡_ {A = ℕ} 0 1 = cc in omega arith
 
-module _ (w : ℕ) (s : List ℕ) (i : ℕ) {t : Took} (e : Takes w s i t) where
+module _ (w : ℕ) (s : List ℕ) (i : ℕ) {t : Took} (e : TakeAnswer w s i t) where
   pub take-got : {n : ℕ} {d : Cursor} → t ≡ Number n d → (i + w ≤ length s) × (n ≡ numberAt w s i) × (d .at ≡ i + w)
   unfolding taken
   take-got {n} {d} h =
@@ -84,7 +84,7 @@ module _ (w : ℕ) (s : List ℕ) (i : ℕ) {t : Took} (e : Takes w s i t) where
   unfolding taken
   take-lost h = leb-false (i + w) (length s) (cond-second (inside s i w) (e .is) (λ c. number-not-cut c h) .0)
 
-module _ (s : List ℕ) (i n : ℕ) {t : Skipped} (e : Skips s i n t) where
+module _ (s : List ℕ) (i n : ℕ) {t : Skipped} (e : SkipAnswer s i n t) where
   pub skip-got : {d : Cursor} → t ≡ To d → (i + n ≤ length s) × (d .at ≡ i + n)
   unfolding skipped
   skip-got {d} h =

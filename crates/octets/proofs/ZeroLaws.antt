@@ -11,7 +11,7 @@ use borrow.Author.Tests.{lt-ltb, leb-true, leb-false, eqb-false, ne-eqb, not-tru
 use Rattle.octets.specs.Numbers.{number, numberAt}
 use Rattle.octets.specs.Characters.{bytesOf, units, characters, beforeZero, hasZero}
 use Rattle.octets.specs.Steps.Cursors.{okOrCut}
-use Rattle.octets.specs.Steps.Scans.{zeroFrom, zeroNumber, zeroValue, Scans, scanOn, scanAt, other, others, before, sixteens, Passed}
+use Rattle.octets.specs.Steps.Scans.{zeroFrom, zeroNumber, zeroValue, ScanAnswer, scanOn, scanAt, other, others, before, sixteens, Passed}
 use Rattle.octets.specs.declared.Zero.{Zero}
 use Rattle.octets.specs.declared.Zero.the-variants.{After, Nowhere}
 use Rattle.octets.proofs.AndLaws.{and-true, and-assoc, and-yes}
@@ -217,7 +217,7 @@ module _ (u : Bool) (s : List ℕ) (i : ℕ) where
 
 -- ---- from an answer to the facts
 
-pub scans : (u : Bool) (s : List ℕ) (i : ℕ) {z : Zero} → z ≡ zeroFrom u s i → Scans u s i z
+pub scans : (u : Bool) (s : List ℕ) (i : ℕ) {z : Zero} → z ≡ zeroFrom u s i → ScanAnswer u s i z
 unfolding zeroFrom zeroNumber zeroValue
 scans u s i e = record { is = e; number = rw e (number (hasZero l)); value = rw e (value (hasZero l)) }
   where

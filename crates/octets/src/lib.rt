@@ -9,8 +9,8 @@ ghost use Prim.Native.Nat.{_+_, _≤_, _<_};
 ghost use lib.ListN.{length};
 ghost use Rattle.octets.specs.Numbers.{u16At, u32At, u64At, little};
 ghost use Rattle.octets.specs.Characters.{characters, hasZero};
-ghost use Rattle.octets.specs.Steps.Scans.{zeroFrom, Scans};
-ghost use Rattle.octets.specs.Steps.Cursors.{Takes, Skips};
+ghost use Rattle.octets.specs.Steps.Scans.{zeroFrom, ScanAnswer};
+ghost use Rattle.octets.specs.Steps.Cursors.{TakeAnswer, SkipAnswer};
 ghost use Rattle.octets.specs.Parts.{put};
 ghost use Rattle.octets.specs.Steps.Puts.{part};
 
@@ -84,7 +84,7 @@ impl Cursor {
     }
 
     pub fn take_u16(self, s: &[u8]) -> Took
-        ensures { λ r. ⌜ Takes 2 (now (s .entry)) (self .at) r ⌝ }
+        ensures { λ r. ⌜ TakeAnswer 2 (now (s .entry)) (self .at) r ⌝ }
     {
         let at = self.at;
         if stands(s, at, 2) {
@@ -95,7 +95,7 @@ impl Cursor {
     }
 
     pub fn take_u32(self, s: &[u8]) -> Took
-        ensures { λ r. ⌜ Takes 4 (now (s .entry)) (self .at) r ⌝ }
+        ensures { λ r. ⌜ TakeAnswer 4 (now (s .entry)) (self .at) r ⌝ }
     {
         let at = self.at;
         if stands(s, at, 4) {
@@ -106,7 +106,7 @@ impl Cursor {
     }
 
     pub fn skip(self, s: &[u8], n: usize) -> Skipped
-        ensures { λ r. ⌜ Skips (now (s .entry)) (self .at) n r ⌝ }
+        ensures { λ r. ⌜ SkipAnswer (now (s .entry)) (self .at) n r ⌝ }
     {
         let at = self.at;
         if stands(s, at, n) {
@@ -154,7 +154,7 @@ fn zero_unit(s: &[u8], from: usize) -> Zero
 
 // The same of either kind of character.
 pub fn zero_from(unicode: bool, s: &[u8], from: usize) -> Zero
-    ensures { λ r. ⌜ Scans unicode (now (s .entry)) from r ⌝ }
+    ensures { λ r. ⌜ ScanAnswer unicode (now (s .entry)) from r ⌝ }
 {
     if unicode {
         zero_unit(s, from)

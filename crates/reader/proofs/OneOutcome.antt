@@ -7,13 +7,13 @@ use Rattle.reader.proofs.read as read
 use Rattle.reader.proofs.check as check
 
 pub outline-of-one-outcome : OneAnswer outline-of.ended outline-of.Reads.Post
-outline-of-one-outcome κs a r q s t p o = p ∙ sym o
+outline-of-one-outcome κs a r q s t p o = p .is ∙ sym (o .is)
 
 pub finish-one-outcome : OneAnswer finish.ended finish.Reads.Post
-finish-one-outcome κs a r q s t p o = p ∙ sym o
+finish-one-outcome κs a r q s t p o = p .is ∙ sym (o .is)
 
 pub read-one-outcome : OneAnswer read.ended read.Reads.Post
-read-one-outcome κs a r q s t p o = p ∙ sym o
+read-one-outcome κs a r q s t p o = p .0 ∙ sym (o .0)
 
 pub check-one-outcome : OneAnswer check.ended check.Reads.Post
-check-one-outcome κs a r q s t p o = p ∙ sym o
+check-one-outcome κs a r q s t p o = p .0 ∙ sym (o .0)

@@ -6,7 +6,7 @@ use Prim.Native.Nat.{ℕ, _+_, _≤_, _<_}
 use native.Mathlib.Omega.{arith}
 use lib.ListN.{length, take, drop}
 use lib.Dec.{leb, eqb}
-use borrow.Author.Tests.{le-leb, lt-leb, leb-true, leb-false, eq-eqb}
+use borrow.Author.Tests.{le-leb, lt-leb, leb-true, leb-false, eq-eqb, ne-eqb}
 use Rattle.octets.specs.declared.Cursor.{Cursor}
 use Rattle.format.specs.declared.Fault.{Fault}
 use Rattle.format.specs.declared.Fault.the-variants.{Long as LONG, Cut as CUT, Trail as TRAIL}
@@ -20,9 +20,12 @@ use Rattle.format.specs.declared.Verdict.the-variants.{Accepted, Refused as Sto
 use Rattle.format.specs.Tests.{Outcome, got, refused, Test, _else_, tests, place}
 use Rattle.format.specs.Presence.{itemsThere, infoThere, nameBit, relativeBit, workdirBit, argumentsBit, iconBit, stringThere, stringsUnicode}
 use Rattle.format.specs.Header.{headerRules, headerFields, header}
+use Rattle.format.specs.Numbers.{answerNumber, answerValue, outcomeNumber, Numbered}
 use Rattle.format.specs.Steps.Firsts.{firsts}
+use Rattle.format.specs.Steps.Answers.{outcomeEnd}
 use Rattle.format.specs.Shortcut.{Section, Tail, Sections, most, tail, sections, shortcut, recordOf, reading, sum}
 use Rattle.format.proofs.Chains.{tests-elim, got-elim}
+use Rattle.format.proofs.AnswerLaws.{numbered}
 use Rattle.header.specs.Steps.Taken.{headerTaken, headerAt}
 use Rattle.header.specs.declared.HeaderTaken.{HeaderTaken}
 use Rattle.header.specs.declared.HeaderTaken.the-variants.{Got, Refused}
@@ -34,7 +37,7 @@ use Rattle.reader.specs.declared.Step.{Step}
 use Rattle.reader.specs.declared.InfoStep.{InfoStep}
 use Rattle.reader.specs.declared.BlocksStep.{BlocksStep}
 use Rattle.reader.specs.Steps.EachSection.{itemsStep, stringStep, infoStep, blocksStep, atOf, endsOf, outlineFrom}
-use Rattle.reader.specs.Steps.Finish.{refusedAt, finished, outlineOff, outlineAfter, outlineOf, FirstsOf}
+use Rattle.reader.specs.Steps.Finish.{refusedAt, finished, outlineOff, outlineAfter, outlineOf, FirstsOf, nextNumber, nextValue, toTerminal, OutlineAnswer, ending, FinishAnswer}
 use Rattle.reader.proofs.Runs.{Reached, Runs, sectionOf, then-from, on-not-off}
 use Rattle.reader.proofs.StepLaws.{items-from, string-from, info-from, BlocksFact, blocks-from}
 
@@ -260,12 +263,58 @@ pub long-reading : (s : List ℕ) → most < length s → refusedAt LONG 65536 �
 unfolding reading refusedAt
 long-reading s h = rw (long-shortcut s h)
 
+-- ---- numbers and values
+
+abbrev nextOf : Outcome Sections → Next
+nextOf (got c n) = On (record { at = n })
+nextOf (refused f p) = Off f p
+
+next-number : (o : Outcome Sections) → nextNumber (nextOf o) ≡ outcomeNumber o
+unfolding nextNumber
+next-number (got c n) = refl
+next-number (refused f p) = refl
+
+next-value : (o : Outcome Sections) → nextValue (nextOf o) ≡ outcomeEnd 0 o
+unfolding nextValue
+next-value (got c n) = omega arith
+next-value (refused f p) = refl
+
+finishes : (n : ℕ) (t : Next) (r : Record) {g : Reading} → g ≡ finished n t r → FinishAnswer n t r g
+unfolding finished refusedAt answerNumber answerValue
+finishes n (On c) r e = record { is = e; number = rw e (number (eqb (c .at) n)); value = rw e (value (eqb (c .at) n)) }
+  where
+    by : Bool → Reading
+    by b = cond b (record { verdict = Accepted (c .at); held = r }) (refusedAt TRAIL (c .at))
+
+    number : (b : Bool) → answerNumber (by b .verdict) ≡ outcomeNumber (tests (c .at) (b else TRAIL ∷ []) (got (On c) (c .at)))
+    number true = refl
+    number false = refl
+
+    value : (b : Bool) → answerValue (by b .verdict) ≡ outcomeEnd 0 (tests (c .at) (b else TRAIL ∷ []) (got (On c) (c .at)))
+    value true = omega arith
+    value false = refl
+finishes n (Off f p) r e = record { is = e; number = rw e; value = rw e }
+
+-- the answer has the number and the value of the reading
+pub read-numbered : (s : List ℕ) {v : Verdict} → v ≡ reading s .verdict → Numbered v (shortcut s)
+unfolding reading
+read-numbered s e = numbered (shortcut s) e
+
 -- ---- for the code
 
--- the cursor stands at the shortcut's end
-pub finished-whole : {n : ℕ} {t : Next} {c : Cursor} {r : Record} → t ≡ On c → c .at ≡ n → record { verdict = Accepted (c .at); held = r } ≡ finished n t r
-unfolding finished
-finished-whole e k = rw (e, eq-eqb _ _ k)
+-- the ways out of finishing: the cursor stands at the shortcut's end, or before it, or there was a refusal
+module _ (n : ℕ) (t : Next) (r : Record) where
+  pub finished-whole : {c : Cursor} → t ≡ On c → c .at ≡ n → FinishAnswer n t r (record { verdict = Accepted (c .at); held = r })
+  unfolding finished
+  finished-whole e k = finishes n t r (rw (e, eq-eqb _ _ k))
+
+  pub finished-trail : {c : Cursor} {g : Reading} → t ≡ On c → (c .at ≡ n → ⊥) → g ≡ refusedAt TRAIL (c .at) → FinishAnswer n t r g
+  unfolding finished
+  finished-trail e k i = finishes n t r (rw (e, ne-eqb _ _ k) i)
+
+  pub finished-off : {f : Fault} {p : ℕ} {g : Reading} → t ≡ Off f p → g ≡ refusedAt f p → FinishAnswer n t r g
+  unfolding finished
+  finished-off e i = finishes n t r (rw e i)
 
 -- the outline from its steps
 pub outline-is : (s : List ℕ) (h : Header) (c : Cursor) {items name relative workdir arguments icon : Step} {info : InfoStep} {blocks : BlocksStep} {e : SectionEnds} {u t₁ t₂ t₃ t₄ t₅ t₆ t₇ : Bool}
@@ -317,23 +366,48 @@ outline-first s h c k lengths n e =
     rw at (got-elim (λ ls n. o .firsts ≡ firsts s (o .ends .icon) ls) (sym (F .is) ∙ (rw at at e)) (F .first))
 
 module _ (s : List ℕ) where
-  pub outline-long : {o : Outline} → most < length s → o ≡ outlineOff LONG 65536 → o ≡ outlineOf s
-  unfolding outlineOf
-  outline-long h e = rw (lt-leb (length s) most h) e
+  -- the number and the value of the answer: the outline goes on where the sections end
+  outline-next : nextOf (toTerminal s) ≡ outlineOf s .next
+  unfolding outlineOf outlineOff sections
+  outline-next = go (leb (length s) most) refl
+    where
+      next : (h : Header) → header 0 s ≡ got h 76 → (t : Next) → outline s h .next ≡ t → nextOf (sections 0 s) ≡ t
+      next h e (On c) k =
+          let x = outline-runs s h .on c k in
+          rw (sections-got s h e (x .is), x .ends)
+      next h e (Off f q) k = rw (sections-refused s h e (outline-runs s h .off f q k))
 
-  pub outline-got : {o : Outline} {t : HeaderTaken} {h : Header} {c : Cursor} → length s ≤ most → t ≡ headerAt s → t ≡ Got h c → o ≡ outlineFrom s h c → o ≡ outlineOf s
-  unfolding outlineOf
-  outline-got k e q r = rw (le-leb (length s) most k, ← e, q) r
+      after : (t : HeaderTaken) → t ≡ headerAt s → nextOf (sections 0 s) ≡ outlineAfter s t .next
+      after (Got h c) i = let g = header-got s i refl in rw (g .at) (next h (g .is) (outline s h .next) refl)
+      after (Refused f p) i = rw (header-refused s i refl)
 
-  pub outline-refused : {o : Outline} {t : HeaderTaken} {f : Fault} {q : ℕ} → length s ≤ most → t ≡ headerAt s → t ≡ Refused f q → o ≡ outlineOff f q → o ≡ outlineOf s
+      go : (b : Bool) → leb (length s) most ≡ b → nextOf (tests most (b else LONG ∷ []) (sections 0 s)) ≡ cond b (outlineAfter s (headerAt s)) (outlineOff LONG 65536) .next
+      go true k = after (headerAt s) refl
+      go false k = refl
+
+  outlined : {o : Outline} → o ≡ outlineOf s → OutlineAnswer s o
+  outlined e = record { is = e; number = rw (e, ← outline-next) (next-number (toTerminal s)); value = rw (e, ← outline-next) (next-value (toTerminal s)) }
+
+  pub outline-long : {o : Outline} → most < length s → o ≡ outlineOff LONG 65536 → OutlineAnswer s o
   unfolding outlineOf
-  outline-refused k e i r = rw (le-leb (length s) most k, ← e, i) r
+  outline-long h e = outlined (rw (lt-leb (length s) most h) e)
+
+  pub outline-got : {o : Outline} {t : HeaderTaken} {h : Header} {c : Cursor} → length s ≤ most → t ≡ headerAt s → t ≡ Got h c → o ≡ outlineFrom s h c → OutlineAnswer s o
+  unfolding outlineOf
+  outline-got k e q r = outlined (rw (le-leb (length s) most k, ← e, q) r)
+
+  pub outline-refused : {o : Outline} {t : HeaderTaken} {f : Fault} {q : ℕ} → length s ≤ most → t ≡ headerAt s → t ≡ Refused f q → o ≡ outlineOff f q → OutlineAnswer s o
+  unfolding outlineOf
+  outline-refused k e i r = outlined (rw (le-leb (length s) most k, ← e, i) r)
 
   -- the outline, finished, is the reading
-  pub outline-read : {o : Outline} {r : Reading} → o ≡ outlineOf s → r ≡ finished (length s) (o .next) (o .held) → r ≡ reading s
+  pub outline-read : {o : Outline} {r : Reading} → OutlineAnswer s o → FinishAnswer (length s) (o .next) (o .held) r → r ≡ reading s
   unfolding outlineOf outlineOff finished
-  outline-read {o} {r} e q = go (leb (length s) most) refl e
+  outline-read {o} {r} O F = go (leb (length s) most) refl (O .is)
     where
+      q : r ≡ finished (length s) (o .next) (o .held)
+      q = F .is
+
       after : length s ≤ most → (t : HeaderTaken) → t ≡ headerAt s → o ≡ outlineAfter s t → r ≡ reading s
       after k (Got h c) i x =
           let g = header-got s i refl in
@@ -346,12 +420,12 @@ module _ (s : List ℕ) where
       go false k x = q ∙ rw x (long-reading s (leb-false (length s) most k))
 
   -- the row of an accepted shortcut is that of its blocks
-  pub first-accepted : {o : Outline} {r : Reading} {n : ℕ} → o ≡ outlineOf s → r ≡ finished (length s) (o .next) (o .held) → r .verdict ≡ Accepted n → FirstsOf s (r .held) (o .firsts)
+  pub first-accepted : {o : Outline} {r : Reading} {n : ℕ} → OutlineAnswer s o → FinishAnswer (length s) (o .next) (o .held) r → r .verdict ≡ Accepted n → FirstsOf s (r .held) (o .firsts)
   unfolding outlineOf outlineOff finished refusedAt
-  first-accepted {o} {r} {n} e q v = ended (o .next) refl q
+  first-accepted {o} {r} {n} O F v = ended (o .next) refl (F .is)
     where
       noted : (c : Cursor) → o .next ≡ On c → FirstsOf s (o .held) (o .firsts)
-      noted c k = go (leb (length s) most) e
+      noted c k = go (leb (length s) most) (O .is)
         where
           after : (t : HeaderTaken) → t ≡ headerAt s → o ≡ outlineAfter s t → FirstsOf s (o .held) (o .firsts)
           after (Got h d) i x =

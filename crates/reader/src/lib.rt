@@ -14,11 +14,12 @@ ghost use mathlib.Core.Path.{_≡_};
 ghost use Prim.Native.Nat.{_≤_};
 ghost use lib.ListN.{length};
 ghost use Rattle.format.specs.Info.{noInfo};
-ghost use Rattle.format.specs.Shortcut.{reading};
+ghost use Rattle.format.specs.Numbers.{Numbered};
+ghost use Rattle.format.specs.Shortcut.{shortcut, reading};
 ghost use Rattle.format.specs.Tests.{noPlace};
 ghost use Rattle.blocks.specs.Steps.Walk.{noFirsts};
 ghost use Rattle.reader.specs.Steps.EachSection.{step, stepInfo, settled, itemsOn, itemsStep, stringOn, stringStep, infoOn, infoStep, stepBlocks, blocksOn, blocksStep, atOf, endsOf, outlineFrom};
-ghost use Rattle.reader.specs.Steps.Finish.{refusedAt, finished, outlineOff, outlineOf};
+ghost use Rattle.reader.specs.Steps.Finish.{refusedAt, outlineOff, OutlineAnswer, FinishAnswer};
 
 // Going on from the cursor, or refused with a fault at a position.
 pub enum Next {
@@ -317,7 +318,7 @@ fn outline_off(f: Fault, at: usize) -> Outline
 
 // What stands where: every section that was reached, the record, and how it went on.
 pub fn outline_of(s: &[u8]) -> Outline
-    ensures { λ r. ⌜ r ≡ outlineOf (now (s .entry)) ⌝ }
+    ensures { λ r. ⌜ OutlineAnswer (now (s .entry)) r ⌝ }
 {
     if 65536 < s.len() {
         return outline_off(Fault::Long, 65536);
@@ -339,7 +340,7 @@ fn refused(f: Fault, at: usize) -> Reading
 
 // n is the shortcut's length.
 pub fn finish(n: usize, next: Next, held: Record) -> Reading
-    ensures { λ r. ⌜ r ≡ finished n next held ⌝ }
+    ensures { λ r. ⌜ FinishAnswer n next held r ⌝ }
 {
     match next {
         Next::On(c) => {
@@ -358,7 +359,8 @@ pub fn finish(n: usize, next: Next, held: Record) -> Reading
 
 // The verdict on a shortcut, beside its record.
 pub fn read(s: &[u8]) -> Reading
-    ensures { λ r. ⌜ r ≡ reading (now (s .entry)) ⌝ }
+    ensures answer { λ r. ⌜ r ≡ reading (now (s .entry)) ⌝ }
+    ensures numbers { λ r. ⌜ Numbered (r .verdict) (shortcut (now (s .entry))) ⌝ }
 {
     let o = outline_of(s);
     let next = o.next;
@@ -368,7 +370,8 @@ pub fn read(s: &[u8]) -> Reading
 
 // The verdict alone.
 pub fn check(s: &[u8]) -> Verdict
-    ensures { λ r. ⌜ r ≡ reading (now (s .entry)) .verdict ⌝ }
+    ensures answer { λ r. ⌜ r ≡ reading (now (s .entry)) .verdict ⌝ }
+    ensures numbers { λ r. ⌜ Numbered r (shortcut (now (s .entry))) ⌝ }
 {
     let g = read(s);
     g.verdict

@@ -11,11 +11,14 @@ use Rattle.format.specs.declared.Reading.{Reading}
 use Rattle.format.specs.declared.Verdict.{Verdict}
 use Rattle.format.specs.declared.Verdict.the-variants.{Accepted, Refused}
 use Rattle.format.specs.Shortcut.{reading}
-use Rattle.format.specs.Writing.{writeAnswer, writeOutput}
+use Rattle.format.specs.Numbers.{Numbered}
+use Rattle.format.specs.Writing.{writing, outputOf, writeAnswer, writeOutput}
 use Rattle.format.specs.Demands.{Accepts, ReadsAs, Ends, misplaced, unwritable, no-room, written}
 use Rattle.format.proofs.Bools.{clash}
+use Rattle.format.proofs.AnswerLaws.{numbered}
+use Rattle.format.proofs.AcceptedLaws.{accepted-read, accepted-held, refused-read}
 use Rattle.format.proofs.Demands.{bodies-inside, same-self}
-use Rattle.rewriting.specs.Rewrite.{answerBy, outputBy, rewriteAnswer, rewriteOutput}
+use Rattle.rewriting.specs.Rewrite.{rewriting, rewriteAnswer, rewriteOutput}
 use Rattle.rewriting.specs.Kept.{Kept, Keeps}
 
 -- the shortcut reads as its own record, so the writer cannot refuse that record where the shortcut itself has room
@@ -31,36 +34,37 @@ kept s r out e b l z = go z
     go (no-room w q y h) = absurd (let z = h s itself in omega arith)
     go (written w q y k h) = record { form = w; reads = y; least = h; short = h s itself; answer = refl; output = refl }
 
+-- what the call says of its answer v and its buffer x
+abbrev RewriteCall : List ℕ → List ℕ → Verdict → List ℕ → Type 0
+RewriteCall s out v x = (v ≡ rewriteAnswer s out) × ((x ≡ rewriteOutput s out) × (Numbered v (rewriting s (length out)) × Keeps s out v x))
+
+rewrite-call : (s out : List ℕ) {v : Verdict} {x : List ℕ} → v ≡ rewriteAnswer s out → x ≡ rewriteOutput s out → Keeps s out v x → RewriteCall s out v x
+unfolding rewriteAnswer
+rewrite-call s out a o k = (a, (o, (numbered (rewriting s (length out)) a, k)))
+
 module _ (s out : List ℕ) {g : Reading} (e : g ≡ reading s) where
-  answer-is : answerBy (g .verdict) (g .held) s out ≡ rewriteAnswer s out
-  unfolding rewriteAnswer
-  answer-is = ap (λ (x : Reading). answerBy (x .verdict) (x .held) s out) e
-
-  output-is : outputBy (g .verdict) (g .held) s out ≡ rewriteOutput s out
-  unfolding rewriteOutput
-  output-is = ap (λ (x : Reading). outputBy (x .verdict) (x .held) s out) e
-
   held-is : {r : Record} → Accepts s r → g ≡ record { verdict = Accepted (length s); held = r }
   unfolding Accepts
   held-is a = e ∙ a
 
-  pub rewrite-left : {f : Fault} {p : ℕ} → g .verdict ≡ Refused f p → (g .verdict ≡ rewriteAnswer s out) × ((out ≡ rewriteOutput s out) × Keeps s out (g .verdict) out)
+  pub rewrite-left : {f : Fault} {p : ℕ} → g .verdict ≡ Refused f p → RewriteCall s out (g .verdict) out
+  unfolding rewriteAnswer rewriteOutput rewriting outputOf
   rewrite-left {f} {p} q =
-      let a : g .verdict ≡ answerBy (g .verdict) (g .held) s out = rw q in
-      let o : out ≡ outputBy (g .verdict) (g .held) s out = rw q in (
-        a ∙ answer-is,
-        (
-          o ∙ output-is,
-          λ r i l.
-              let v : Refused f p ≡ Accepted (length s) = sym q ∙ ap (λ (x : Reading). x .verdict) (held-is i) in
-              absurd (let z : _≡_ {A = ℕ} 0 1 = cc in omega arith),
-        ),
-      )
+      let i = refused-read s (ap (λ (x : Reading). x .verdict) (sym e) ∙ q) in
+      rewrite-call s out (q ∙ rw i) (rw i)
+      (λ r a l.
+      let v : Refused f p ≡ Accepted (length s) = sym q ∙ ap (λ (x : Reading). x .verdict) (held-is a) in
+      absurd (let z : _≡_ {A = ℕ} 0 1 = cc in omega arith))
+
+  written-is : {n : ℕ} → g .verdict ≡ Accepted n → rewriting s (length out) ≡ writing (g .held) s (length out)
+  unfolding rewriting
+  written-is {n} q =
+      let y = accepted-read s (g .held) n (accepted-held s e q) in
+      rw (y .is) (ap (λ (r : Record). writing r s (length out)) (y .held))
 
   pub rewrite-written : {n : ℕ} {v : Verdict} {x : List ℕ} → Bytes s → g .verdict ≡ Accepted n
-      → (v ≡ writeAnswer (g .held) s out) × ((x ≡ writeOutput (g .held) s out) × Ends (g .held) s out v x)
-      → (v ≡ rewriteAnswer s out) × ((x ≡ rewriteOutput s out) × Keeps s out v x)
-  rewrite-written {v = v} {x} b q (h, (k, z)) =
-      let a : v ≡ answerBy (g .verdict) (g .held) s out = rw q h in
-      let o : x ≡ outputBy (g .verdict) (g .held) s out = rw q k in
-      (a ∙ answer-is, (o ∙ output-is, λ r i l. kept s r out i b l (subst (λ (t : Record). Ends t s out v x) (ap (λ (x : Reading). x .held) (held-is i)) z)))
+      → (v ≡ writeAnswer (g .held) s out) × ((x ≡ writeOutput (g .held) s out) × (Numbered v (writing (g .held) s (length out)) × Ends (g .held) s out v x)) → RewriteCall s out v x
+  unfolding rewriteAnswer rewriteOutput writeAnswer writeOutput
+  rewrite-written {n} {v} {x} b q (h, (k, (number, z))) =
+      rewrite-call s out (rw (written-is q) h) (rw (written-is q) k)
+      (λ r a l. kept s r out a b l (subst (λ (t : Record). Ends t s out v x) (ap (λ (y : Reading). y .held) (held-is a)) z))

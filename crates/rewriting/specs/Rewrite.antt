@@ -1,25 +1,22 @@
--- FORMAT: Other programs. A shortcut read, then written again over its own bytes.
+-- A shortcut read, then written again over its own bytes.
 use Prim.Native.Nat.{ℕ}
 use mathlib.Core.List.{List}
-use Rattle.format.specs.declared.Record.{Record}
+use lib.ListN.{length}
 use Rattle.format.specs.declared.Verdict.{Verdict}
-use Rattle.format.specs.declared.Verdict.the-variants.{Accepted, Refused}
-use Rattle.format.specs.Shortcut.{reading}
-use Rattle.format.specs.Writing.{writeAnswer, writeOutput}
+use Rattle.format.specs.Tests.{Outcome, andThen}
+use Rattle.format.specs.Shortcut.{shortcut, recordOf, verdictOf}
+use Rattle.format.specs.Writing.{writing, outputOf}
 
 -- a refusal stays; what was accepted is written
-abbrev pub answerBy : Verdict → Record → List ℕ → List ℕ → Verdict
-answerBy (Accepted n) r s out = writeAnswer r s out
-answerBy (Refused f p) r s out = Refused f p
+unfoldable pub rewriting : List ℕ → ℕ → Outcome (List ℕ)
+unfolding shortcut
+rewriting s room = andThen (shortcut s) (λ c n. writing (recordOf c) s room)
 
-abbrev pub outputBy : Verdict → Record → List ℕ → List ℕ → List ℕ
-outputBy (Accepted n) r s out = writeOutput r s out
-outputBy (Refused f p) r s out = out
-
+-- the answer, and the output buffer afterwards; the room is the buffer's length
 unfoldable pub rewriteAnswer : List ℕ → List ℕ → Verdict
-unfolding reading writeAnswer
-rewriteAnswer s out = answerBy (reading s .verdict) (reading s .held) s out
+unfolding rewriting
+rewriteAnswer s out = verdictOf (rewriting s (length out))
 
 unfoldable pub rewriteOutput : List ℕ → List ℕ → List ℕ
-unfolding reading writeOutput
-rewriteOutput s out = outputBy (reading s .verdict) (reading s .held) s out
+unfolding rewriting outputOf
+rewriteOutput s out = outputOf (rewriting s (length out)) out

@@ -1,12 +1,15 @@
 // The canonical form of a shortcut: read, then written again.
 use format::Verdict;
 ghost use mathlib.Core.Path.{_≡_};
-ghost use Rattle.rewriting.specs.Rewrite.{rewriteAnswer, rewriteOutput};
+ghost use lib.ListN.{length};
+ghost use Rattle.format.specs.Numbers.{Numbered};
+ghost use Rattle.rewriting.specs.Rewrite.{rewriting, rewriteAnswer, rewriteOutput};
 ghost use Rattle.rewriting.specs.Kept.{Keeps};
 
 pub fn rewrite(s: &[u8], out: &mut [u8]) -> Verdict
     ensures answer { λ v. ⌜ v ≡ rewriteAnswer (now (s .entry)) (now (out .entry)) ⌝ }
     ensures output { λ _. ⌜ now (out .exit) ≡ rewriteOutput (now (s .entry)) (now (out .entry)) ⌝ }
+    ensures numbers { λ v. ⌜ Numbered v (rewriting (now (s .entry)) (length (now (out .entry)))) ⌝ }
     ensures kept { λ v. ⌜ Keeps (now (s .entry)) (now (out .entry)) v (now (out .exit)) ⌝ }
 {
     let g = reader::read(s);

@@ -11,7 +11,8 @@ use Rattle.format.specs.declared.Fault.{Fault}
 use Rattle.format.specs.declared.Verdict.{Verdict}
 use Rattle.format.specs.declared.Verdict.the-variants.{Accepted, Refused}
 use Rattle.format.specs.Shortcut.{reading}
-use Rattle.format.specs.Writing.{writeAnswer, writeOutput}
+use Rattle.format.specs.Numbers.{Numbered}
+use Rattle.format.specs.Writing.{writing, writeAnswer, writeOutput}
 use Rattle.format.specs.Demands.{Ends}
 use Rattle.format.proofs.Bools.{clash}
 use Rattle.fields.specs.Fields.{fieldCount, fieldsOf, areRecord, recordFrom}
@@ -65,10 +66,10 @@ module _ (f d out : List ℕ) where
       pub is-record : areRecord f ≡ true
       is-record = sym e ∙ not-false b t
 
-      pub write-answered : {q : Record} → q ≡ recordFrom f → {v : Verdict} {x : List ℕ} {r : ℕ} → (v ≡ writeAnswer q d out) × ((x ≡ writeOutput q d out) × Ends q d out v x) → r ≡ codeOf v
+      pub write-answered : {q : Record} → q ≡ recordFrom f → {v : Verdict} {x : List ℕ} {r : ℕ} → (v ≡ writeAnswer q d out) × ((x ≡ writeOutput q d out) × (Numbered v (writing q d (length out)) × Ends q d out v x)) → r ≡ codeOf v
           → (r ≡ writeCode f d out) × ((x ≡ writtenFields f d out) × EndsOf f d out r x)
       unfolding writeCode writtenFields
-      write-answered i {v} {x} (j, (k, z)) l =
+      write-answered i {v} {x} (j, (k, (number, z))) l =
           let n = eq-eqb (length f) fieldCount h in (
             rw (n, is-record) (l ∙ rw (j, i)),
             (

@@ -1,5 +1,5 @@
 -- One law for each way out of the readers of strings and item lists.
-use mathlib.Core.Path.{_≡_, sym, ap, _∙_}
+use mathlib.Core.Path.{_≡_, refl, sym, ap, _∙_}
 use mathlib.Core.List.{List, [], _∷_}
 use mathlib.Core.Bool.{Bool, true, false, not}
 use Prim.Native.Nat.{ℕ, _+_, _-_, _≤_, _<_}
@@ -13,56 +13,80 @@ use Rattle.octets.specs.Characters.{bytesOf}
 use Rattle.octets.specs.declared.Cursor.{Cursor}
 use Rattle.octets.proofs.NumberLaws.{number-drop}
 use Rattle.format.specs.declared.Fault.the-variants.{Cut as CUT, Items as ITEMS}
+use Rattle.format.specs.declared.Place.{Place}
+use Rattle.format.specs.declared.Taken.{Taken}
 use Rattle.format.specs.declared.Taken.the-variants.{Got, Refused}
-use Rattle.format.specs.Tests.{place}
+use Rattle.format.specs.Tests.{Outcome, got, refused, place}
+use Rattle.format.specs.Numbers.{outcomeNumber}
+use Rattle.format.specs.Steps.Answers.{outcomeEnd, takenNumber, takenValue}
 use Rattle.format.specs.Items.{itemList, items}
+use Rattle.format.specs.Strings.{string}
 use Rattle.format.proofs.Chains.{drop-take}
 use Rattle.format.proofs.ItemsLaws.{ends}
-use Rattle.single.specs.Steps.Taken.{stringAt, itemsAt}
+use Rattle.single.specs.Steps.Taken.{placeTaken, stringAt, itemsAt, StringAnswer, ItemsAnswer}
 
 -- the first number of what is left
 first : (s : List ℕ) (p : ℕ) → u16At (drop p s) 0 ≡ u16At s p
 first s p = number-drop 2 p s 0 ∙ ap (numberAt 2 s) (add-zero p)
 
+-- the number and the value of the answer
+taken-number : (p : ℕ) (o : Outcome Place) → takenNumber (placeTaken p o) ≡ outcomeNumber o
+unfolding takenNumber
+taken-number p (got b n) = refl
+taken-number p (refused f q) = refl
+
+taken-value : (p : ℕ) (o : Outcome Place) → takenValue (placeTaken p o) ≡ outcomeEnd p o
+unfolding takenValue
+taken-value p (got b n) = refl
+taken-value p (refused f q) = refl
+
 -- ---- strings
 
 module _ (u : Bool) (s : List ℕ) (p : ℕ) where
-  pub string-no-count : length s < p + 2 → Refused CUT p ≡ stringAt u s p
+  string-read : {r : Taken} → r ≡ stringAt u s p → StringAnswer u s p r
   unfolding stringAt
-  string-no-count h = rw (lt-leb 2 (length (drop p s)) (omega (arith, length-drop p s)))
+  string-read e = let o = string u p (drop p s) in record { is = e; number = rw e (taken-number p o); value = rw e (taken-value p o) }
+
+  pub string-no-count : length s < p + 2 → StringAnswer u s p (Refused CUT p)
+  unfolding stringAt
+  string-no-count h = string-read (rw (lt-leb 2 (length (drop p s)) (omega (arith, length-drop p s))))
 
   -- a is where the characters stand
   module _ {k n a : ℕ} (h : p + 2 ≤ length s) (e : k ≡ u16At s p) (at : a ≡ p + 2) (q : n ≡ bytesOf u k) where
     size : bytesOf u (u16At (drop p s) 0) ≡ n
     size = ap (bytesOf u) (first s p ∙ sym e) ∙ sym q
 
-    pub string-cut : length s < a + n → Refused CUT p ≡ stringAt u s p
+    pub string-cut : length s < a + n → StringAnswer u s p (Refused CUT p)
     unfolding stringAt
     string-cut o =
         let d = length-drop p s in
-        rw (size, le-leb 2 (length (drop p s)) (omega arith), lt-leb (2 + n) (length (drop p s)) (omega arith))
+        string-read (rw (size, le-leb 2 (length (drop p s)) (omega arith), lt-leb (2 + n) (length (drop p s)) (omega arith)))
 
-    pub string-got : {c : Cursor} → a + n ≤ length s → c .at ≡ a + n → Got (place a n) c ≡ stringAt u s p
+    pub string-got : {c : Cursor} → a + n ≤ length s → c .at ≡ a + n → StringAnswer u s p (Got (place a n) c)
     unfolding stringAt
     string-got {c} o z =
         let d = length-drop p s in
         let x : p + (2 + n) ≡ c .at = omega arith in
-        rw (size, le-leb 2 (length (drop p s)) (omega arith), le-leb (2 + n) (length (drop p s)) (omega arith), x, at)
+        string-read (rw (size, le-leb 2 (length (drop p s)) (omega arith), le-leb (2 + n) (length (drop p s)) (omega arith), x, at))
 
 -- ---- the item list
 
 module _ (s : List ℕ) (p : ℕ) where
-  pub items-no-size : length s < p + 2 → Refused CUT p ≡ itemsAt s p
+  items-read : {r : Taken} → r ≡ itemsAt s p → ItemsAnswer s p r
   unfolding itemsAt
-  items-no-size h = rw (lt-leb 2 (length (drop p s)) (omega (arith, length-drop p s)))
+  items-read e = let o = items p (drop p s) in record { is = e; number = rw e (taken-number p o); value = rw e (taken-value p o) }
+
+  pub items-no-size : length s < p + 2 → ItemsAnswer s p (Refused CUT p)
+  unfolding itemsAt
+  items-no-size h = items-read (rw (lt-leb 2 (length (drop p s)) (omega (arith, length-drop p s))))
 
   -- a is where the items stand, and z where they end
   module _ {n a : ℕ} (h : p + 2 ≤ length s) (e : n ≡ u16At s p) (at : a ≡ p + 2) where
-    pub items-cut : length s < a + n → Refused CUT p ≡ itemsAt s p
+    pub items-cut : length s < a + n → ItemsAnswer s p (Refused CUT p)
     unfolding itemsAt
     items-cut o =
         let d = length-drop p s in
-        rw (first s p, ← e, le-leb 2 (length (drop p s)) (omega arith), lt-leb (2 + n) (length (drop p s)) (omega arith))
+        items-read (rw (first s p, ← e, le-leb 2 (length (drop p s)) (omega arith), lt-leb (2 + n) (length (drop p s)) (omega arith)))
 
     module _ {z : ℕ} (o : a + n ≤ length s) (to : z ≡ a + n) {b : Bool} (r : b ≡ itemList (take (z - a) (drop a s))) where
       list : itemList (drop 2 (take (2 + n) (drop p s))) ≡ b
@@ -70,11 +94,11 @@ module _ (s : List ℕ) (p : ℕ) where
           let k : z - a ≡ n = omega arith in
           ap itemList (drop-take 2 n (drop p s) ∙ ap (take n) (drop-drop 2 p s)) ∙ sym (rw (k, at) at r)
 
-      pub items-bad : not b ≡ true → Refused ITEMS p ≡ itemsAt s p
+      pub items-bad : not b ≡ true → ItemsAnswer s p (Refused ITEMS p)
       unfolding itemsAt
       items-bad t =
           let d = length-drop p s in
-          rw (first s p, ← e, le-leb 2 (length (drop p s)) (omega arith), le-leb (2 + n) (length (drop p s)) (omega arith), list ∙ not-true b t)
+          items-read (rw (first s p, ← e, le-leb 2 (length (drop p s)) (omega arith), le-leb (2 + n) (length (drop p s)) (omega arith), list ∙ not-true b t))
 
       pub items-two : not b ≡ false → 2 ≤ n
       items-two t =
@@ -82,11 +106,11 @@ module _ (s : List ℕ) (p : ℕ) where
           let l = ap length (y .1) ∙ length-append (y .0) (0 ∷ 0 ∷ []) in
           omega (arith, length-take (z - a) (drop a s))
 
-      pub items-got : {c : Cursor} → not b ≡ false → c .at ≡ z → Got (place a (n - 2)) c ≡ itemsAt s p
+      pub items-got : {c : Cursor} → not b ≡ false → c .at ≡ z → ItemsAnswer s p (Got (place a (n - 2)) c)
       unfolding itemsAt
       items-got {c} t q =
           let d = length-drop p s in
           let k = items-two t in
           let x : p + (2 + n) ≡ c .at = omega arith in
           let w : 2 + n - 4 ≡ n - 2 = omega arith in
-          rw (first s p, ← e, le-leb 2 (length (drop p s)) (omega arith), le-leb (2 + n) (length (drop p s)) (omega arith), list ∙ not-false b t, x, w, at)
+          items-read (rw (first s p, ← e, le-leb 2 (length (drop p s)) (omega arith), le-leb (2 + n) (length (drop p s)) (omega arith), list ∙ not-false b t, x, w, at))

@@ -7,7 +7,7 @@ use octets::Skipped;
 use octets::Took;
 ghost use mathlib.Core.Path.{_≡_};
 ghost use Rattle.octets.specs.Characters.{bytesOf};
-ghost use Rattle.single.specs.Steps.Taken.{stringAt, itemsAt};
+ghost use Rattle.single.specs.Steps.Taken.{StringAnswer, ItemsAnswer};
 
 // The count is of characters, of two bytes each in Unicode.
 fn bytes_of(unicode: bool, count: u32) -> usize
@@ -20,7 +20,7 @@ fn bytes_of(unicode: bool, count: u32) -> usize
 }
 
 pub fn string(s: &[u8], c: Cursor, unicode: bool) -> Taken
-    ensures { λ r. ⌜ r ≡ stringAt unicode (now (s .entry)) (c .at) ⌝ }
+    ensures { λ r. ⌜ StringAnswer unicode (now (s .entry)) (c .at) r ⌝ }
 {
     let Took::Number(count, body) = c.take_u16(s) else {
         return Taken::Refused(Fault::Cut, c.at);
@@ -35,7 +35,7 @@ pub fn string(s: &[u8], c: Cursor, unicode: bool) -> Taken
 
 // The two zero bytes at the end are no part of the body.
 pub fn items(s: &[u8], c: Cursor) -> Taken
-    ensures { λ r. ⌜ r ≡ itemsAt (now (s .entry)) (c .at) ⌝ }
+    ensures { λ r. ⌜ ItemsAnswer (now (s .entry)) (c .at) r ⌝ }
 {
     let Took::Number(size, body) = c.take_u16(s) else {
         return Taken::Refused(Fault::Cut, c.at);

@@ -16,13 +16,16 @@ use Rattle.format.specs.declared.Record.{Record}
 use Rattle.format.specs.declared.Reading.{Reading}
 use Rattle.format.specs.declared.Fault.{Fault}
 use Rattle.format.specs.declared.Fault.the-variants.{Room as ROOM, NoTarget as NOTARGET}
+use Rattle.format.specs.declared.Verdict.{Verdict}
 use Rattle.format.specs.declared.Verdict.the-variants.{Accepted, Refused}
 use Rattle.format.specs.Tests.{got, refused, _else_, tests}
+use Rattle.format.specs.Numbers.{Numbered}
 use Rattle.format.specs.Presence.{localThere}
 use Rattle.format.specs.Shortcut.{reading}
 use Rattle.format.specs.Contents.{bytesAt}
 use Rattle.format.specs.Writing.{outputOf}
 use Rattle.format.specs.Target.{hasTarget, separated, backslash, separator, joined, targetText, target, targetAnswer, targetOutput}
+use Rattle.format.proofs.AnswerLaws.{numbered}
 use Rattle.format.proofs.BodyLaws.{body-length, body-part, part-length}
 use Rattle.format.proofs.TargetLaws.{separator-few}
 use Rattle.format.proofs.AcceptedLaws.{accepted-read, accepted-held, refused-read, accepted-bodies, accepted-limit}
@@ -122,11 +125,19 @@ texts-long s t h =
 
 -- ---- the ways out
 
+-- what the call says of its answer v and its buffer x
+abbrev TargetCall : List ℕ → List ℕ → Verdict → List ℕ → Type 0
+TargetCall s out v x = (v ≡ targetAnswer s out) × ((x ≡ targetOutput s out) × Numbered v (target s (length out)))
+
+target-call : (s out : List ℕ) {v : Verdict} {x : List ℕ} → v ≡ targetAnswer s out → x ≡ targetOutput s out → TargetCall s out v x
+unfolding targetAnswer
+target-call s out a o = (a, (o, numbered (target s (length out)) a))
+
 module _ (s out : List ℕ) {g : Reading} (e : g ≡ reading s) where
   -- leaving with the refusal
-  pub target-left : {f : Fault} {p : ℕ} → g .verdict ≡ Refused f p → (g .verdict ≡ targetAnswer s out) × (out ≡ targetOutput s out)
+  pub target-left : {f : Fault} {p : ℕ} → g .verdict ≡ Refused f p → TargetCall s out (g .verdict) out
   unfolding targetAnswer targetOutput target outputOf
-  target-left q = let i = refused-read s (ap (λ (x : Reading). x .verdict) (sym e) ∙ q) in (q ∙ rw i, rw i)
+  target-left q = let i = refused-read s (ap (λ (x : Reading). x .verdict) (sym e) ∙ q) in target-call s out (q ∙ rw i) (rw i)
 
   module _ {n : ℕ} (q : g .verdict ≡ Accepted n) where
     accepted : reading s ≡ record { verdict = Accepted n; held = g .held }
@@ -149,11 +160,11 @@ module _ (s out : List ℕ) {g : Reading} (e : g ≡ reading s) where
     target-is = let x = accepted-read s (g .held) n accepted in rw (x .is, x .held)
 
     module _ {k : Bool} (h : k ≡ hasTarget (g .held)) where
-      pub target-none : not k ≡ true → (Refused NOTARGET 0 ≡ targetAnswer s out) × (out ≡ targetOutput s out)
+      pub target-none : not k ≡ true → TargetCall s out (Refused NOTARGET 0) out
       unfolding targetAnswer targetOutput outputOf
       target-none t =
           let z : target s (length out) ≡ refused NOTARGET 0 = target-is ∙ rw (sym h ∙ not-true k t) in
-          (rw z, rw z)
+          target-call s out (rw z) (rw z)
 
       module _ (has : not k ≡ false) {t : Texts} {m : ℕ} (is : t ≡ textsOf s (g .held)) (sum : m ≡ textsLength t) where
         target-text : targetText s (g .held) ≡ textsBytes s t
@@ -162,19 +173,19 @@ module _ (s out : List ℕ) {g : Reading} (e : g ≡ reading s) where
         long : length (textsBytes s t) ≡ m
         long = texts-long s t (found is .stands) ∙ sym sum
 
-        pub target-room : length out < m → (Refused ROOM 0 ≡ targetAnswer s out) × (out ≡ targetOutput s out)
+        pub target-room : length out < m → TargetCall s out (Refused ROOM 0) out
         unfolding targetAnswer targetOutput outputOf
         target-room o =
             let z : target s (length out) ≡ refused ROOM 0
             = target-is ∙ rw (target-text, long, sym h ∙ not-false k has, lt-leb m (length out) o) in
-            (rw z, rw z)
+            target-call s out (rw z) (rw z)
 
-        pub target-written : {x : List ℕ} → m ≤ length out → x ≡ put out 0 (textsBytes s t) → (Accepted m ≡ targetAnswer s out) × (x ≡ targetOutput s out)
+        pub target-written : {x : List ℕ} → m ≤ length out → x ≡ put out 0 (textsBytes s t) → TargetCall s out (Accepted m) x
         unfolding targetAnswer targetOutput outputOf
         target-written o w =
             let z : target s (length out) ≡ got (textsBytes s t) m
             = target-is ∙ rw (target-text, long, sym h ∙ not-false k has, le-leb m (length out) o) in
-            (rw z, rw z w)
+            target-call s out (rw z) (rw z w)
 
 -- ---- putting the text
 

@@ -17,4 +17,4 @@ pub put-texts-one-outcome : OneOutcome put-texts.ended (λ κs s. now (s .1 .1 .
 put-texts-one-outcome κs a r q s t p o = (refl, p ∙ sym o)
 
 pub target-one-outcome : OneOutcome target.ended (λ κs s. now (s .1 .0)) target.Reads.Post
-target-one-outcome κs a r q s t p o = (p .0 ∙ sym (o .0), p .1 ∙ sym (o .1))
+target-one-outcome κs a r q s t p o = (p .0 ∙ sym (o .0), p .1 .0 ∙ sym (o .1 .0))

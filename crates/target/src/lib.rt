@@ -7,7 +7,8 @@ ghost use mathlib.Core.Path.{_≡_};
 ghost use Prim.Native.Nat.{_+_, _≤_};
 ghost use lib.ListN.{length};
 ghost use Rattle.octets.specs.Parts.{put};
-ghost use Rattle.format.specs.Target.{hasTarget, targetAnswer, targetOutput};
+ghost use Rattle.format.specs.Numbers.{Numbered};
+ghost use Rattle.format.specs.Target.{hasTarget, target, targetAnswer, targetOutput};
 ghost use Rattle.target.specs.Steps.Texts.{firstText, separators, textsOf, Stands, textsLength, textsBytes};
 
 // The two texts, and how many separators stand between them.
@@ -83,6 +84,7 @@ pub fn put_texts(s: &[u8], t: Texts, at: usize, out: &mut [u8])
 pub fn target(s: &[u8], out: &mut [u8]) -> Verdict
     ensures answer { λ r. ⌜ r ≡ targetAnswer (now (s .entry)) (now (out .entry)) ⌝ }
     ensures output { λ _. ⌜ now (out .exit) ≡ targetOutput (now (s .entry)) (now (out .entry)) ⌝ }
+    ensures numbers { λ r. ⌜ Numbered r (target (now (s .entry)) (length (now (out .entry)))) ⌝ }
 {
     let g = reader::read(s);
     let v = g.verdict;

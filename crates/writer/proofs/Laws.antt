@@ -14,12 +14,14 @@ use Rattle.format.specs.declared.Fault.the-variants.{Place as PLACE, Unwritable
 use Rattle.format.specs.declared.Verdict.{Verdict}
 use Rattle.format.specs.declared.Verdict.the-variants.{Accepted, Refused}
 use Rattle.format.specs.Tests.{got, refused, _else_, tests}
+use Rattle.format.specs.Numbers.{Numbered}
 use Rattle.format.specs.Bodies.{bodies, allInside}
 use Rattle.format.specs.Steps.Lengths.{writtenLength}
 use Rattle.format.specs.Contents.{present, bodiesOf, contents}
 use Rattle.format.specs.Writing.{canonical, writable, writing, outputOf, writeAnswer, writeOutput}
 use Rattle.format.specs.Demands.{Ends}
 use Rattle.format.proofs.Ranges.{FitsRecord}
+use Rattle.format.proofs.AnswerLaws.{numbered}
 use Rattle.format.proofs.TableLaws.{placed-present}
 use Rattle.format.proofs.Demands.{the-writer}
 use Rattle.sizes.specs.declared.Starts.{Starts}
@@ -33,8 +35,9 @@ end-counted q e = ap (λ (x : Starts). x .end) e
 
 -- an outcome of the definitions is an end of demand 3, since the types give that the numbers fit and that bytes are bytes
 pub ended : (r : Record) (d out : List ℕ) → FitsRecord r × Bytes d → {v : Verdict} {x : List ℕ} → (v ≡ writeAnswer r d out) × (x ≡ writeOutput r d out)
-    → (v ≡ writeAnswer r d out) × ((x ≡ writeOutput r d out) × Ends r d out v x)
-ended r d out (fits, bytes) (p, q) = (p, (q, rw (p, q) (the-writer r d fits bytes out)))
+    → (v ≡ writeAnswer r d out) × ((x ≡ writeOutput r d out) × (Numbered v (writing r d (length out)) × Ends r d out v x))
+unfolding writeAnswer
+ended r d out (fits, bytes) (p, q) = (p, (q, (numbered (writing r d (length out)) p, rw (p, q) (the-writer r d fits bytes out))))
 
 module _ (r : Record) (d out : List ℕ) {q : Record} (e : q ≡ present r) where
   abbrev w : List ℕ

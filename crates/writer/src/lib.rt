@@ -3,12 +3,15 @@ use format::Fault;
 use format::Record;
 use format::Verdict;
 ghost use mathlib.Core.Path.{_≡_};
-ghost use Rattle.format.specs.Writing.{writeAnswer, writeOutput};
+ghost use lib.ListN.{length};
+ghost use Rattle.format.specs.Numbers.{Numbered};
+ghost use Rattle.format.specs.Writing.{writing, writeAnswer, writeOutput};
 ghost use Rattle.format.specs.Demands.{Ends};
 
 pub fn write(r: Record, d: &[u8], out: &mut [u8]) -> Verdict
     ensures answer { λ v. ⌜ v ≡ writeAnswer r (now (d .entry)) (now (out .entry)) ⌝ }
     ensures output { λ _. ⌜ now (out .exit) ≡ writeOutput r (now (d .entry)) (now (out .entry)) ⌝ }
+    ensures numbers { λ v. ⌜ Numbered v (writing r (now (d .entry)) (length (now (out .entry)))) ⌝ }
     ensures least { λ v. ⌜ Ends r (now (d .entry)) (now (out .entry)) v (now (out .exit)) ⌝ }
 {
     let q = writable::present(r);

@@ -1,5 +1,4 @@
 -- The walk passes all blocks and stops where none stands; what stands there, told by one more step, is the answer.
-use mathlib.Core.Path.{_∙_}
 use Rattle.blocks.proofs.StepLaws.{tail-part, by-block, by-end, by-fault}
 use Rattle.blocks.proofs.WalkLaws.{read-nowhere, read-end, read-stopped, read-wrong}
 use borrow.Author.Needs.{needs}
@@ -10,7 +9,7 @@ stopped-requires : tie.Need-stopped-requires
 stopped-requires c κs = search needs
 
 returns : tie.Need-returns
-returns c = c .stopped .ensures ∙ read-nowhere _ _ (c .before .if1 .taken)
+returns c = rw (c .stopped .ensures) (read-nowhere _ _ (c .before .if1 .taken))
 
 no-firsts-requires : tie.Need-no-firsts-requires
 no-firsts-requires c κs = search needs
@@ -55,19 +54,19 @@ returns-2 c =
     let after-no-firsts = after-run .before .before in
     let start = after-no-firsts .before .before .before in
     let r = after-run .run .ensures in
-    c .read-to .ensures ∙ read-end _ _ (r .0) (start .pre) (by-end _ (rw tail-part at (after-step .step .ensures)) (c .before .enum-told .given .1))
+    rw (c .read-to .ensures) (read-end _ _ (r .0) (start .pre) (by-end _ (rw tail-part at (after-step .step .ensures)) (c .before .enum-told .given .1)))
 
 returns-3 : tie.Need-returns-3
 returns-3 c =
     let after-step = c .before .before .before .before in
     let r = after-step .before .before .run .ensures in
-    c .stopped2 .ensures ∙ read-stopped _ _ (r .0) (by-fault _ (rw tail-part at (after-step .step .ensures)) (c .before .before .f .given .1))
+    rw (c .stopped2 .ensures) (read-stopped _ _ (r .0) (by-fault _ (rw tail-part at (after-step .step .ensures)) (c .before .before .f .given .1)))
 
 returns-4 : tie.Need-returns-4
 returns-4 c =
     let after-step = c .before .before .before in
     let r = after-step .before .before .run .ensures in
-    c .stopped3 .ensures ∙ read-wrong _ _ (r .0) (r .1) (by-block _ (rw tail-part at (after-step .step .ensures)) (c .before .enum-told2 .given .1))
+    rw (c .stopped3 .ensures) (read-wrong _ _ (r .0) (r .1) (by-block _ (rw tail-part at (after-step .step .ensures)) (c .before .enum-told2 .given .1)))
 
 pub blocks-spec : {M : Type 1} → statement M
 blocks-spec =

@@ -11,7 +11,9 @@ use Rattle.format.specs.declared.Fault.the-variants.{Cut as CUT, Block as BLOCK
 use Rattle.format.specs.declared.Place.{Place}
 use Rattle.format.specs.Tests.{_else_, tests, Outcome, got, refused, andThen, place, noPlace}
 use Rattle.format.specs.Blocks.{slotOf, sizeFits, slotAt, blockSize, Standing, aBlock, aTerminal, blockStep, blocks}
+use Rattle.format.specs.Numbers.{numberOf}
 use Rattle.format.specs.Steps.Firsts.{firsts}
+use Rattle.format.specs.Steps.Answers.{Answers, takenNumber, takenValue}
 use Rattle.format.specs.Shortcut.{most, sum}
 use Rattle.blocks.specs.declared.BlockStep.{BlockStep}
 use Rattle.blocks.specs.declared.BlockStep.the-variants.{Block, Terminal, Refused as NotOne}
@@ -35,12 +37,28 @@ stepOf slot (got aTerminal n) = Terminal
 stepOf slot (refused f q) = NotOne f
 
 -- the step of reading, but what a block holds is not looked at
-unfoldable pub bySize : List ℕ → BlockStep
-bySize s =
+abbrev pub sizeStep : List ℕ → Outcome Standing
+sizeStep s =
     let n = blockSize s in
-    stepOf (slotAt s)
-    (tests 0 (leb 4 (length s) else CUT ∷ [])
-    (cond (ltb n 4) (got aTerminal 4) (tests 0 (leb 8 n else BLOCK ∷ leb n (length s) else CUT ∷ sizeFits (slotAt s) n else BLOCK ∷ []) (got aBlock n))))
+    tests 0 (leb 4 (length s) else CUT ∷ [])
+    (cond (ltb n 4) (got aTerminal 4) (tests 0 (leb 8 n else BLOCK ∷ leb n (length s) else CUT ∷ sizeFits (slotAt s) n else BLOCK ∷ []) (got aBlock n)))
+
+unfoldable pub bySize : List ℕ → BlockStep
+bySize s = stepOf (slotAt s) (sizeStep s)
+
+unfoldable pub stepNumber : BlockStep → ℕ
+stepNumber (Block n k) = 0
+stepNumber Terminal = 0
+stepNumber (NotOne f) = numberOf f
+
+-- where the block or the terminal ends; a refusal is at its start
+unfoldable pub stepValue : BlockStep → ℕ
+stepValue (Block n k) = n
+stepValue Terminal = 4
+stepValue (NotOne f) = 0
+
+abbrev pub StepAnswer : List ℕ → BlockStep → Type 0
+StepAnswer s t = Answers stepNumber stepValue 0 (sizeStep s) (bySize s) t
 
 -- what reading says of that step
 abbrev pub Told : List ℕ → BlockStep → Type 0
@@ -80,9 +98,9 @@ notedAll s p [] row = row
 notedAll s p (n ∷ ns) row = notedAll s (p + n) ns (noted row (slotAt (drop p s)) (fieldOf p))
 
 -- blocks of these lengths stand from a on, up to p
-abbrev pub Walked : List ℕ → ℕ → List ℕ → ℕ → Type 0
-Walked s a [] p = a ≡ p
-Walked s a (n ∷ ns) p = (blockStep a (drop a s) ≡ got aBlock n) × Walked s (a + n) ns p
+abbrev pub BlocksTo : List ℕ → ℕ → List ℕ → ℕ → Type 0
+BlocksTo s a [] p = a ≡ p
+BlocksTo s a (n ∷ ns) p = (blockStep a (drop a s) ≡ got aBlock n) × BlocksTo s (a + n) ns p
 
 -- what is read after blocks of these lengths
 abbrev pub after : List ℕ → Outcome (List ℕ) → Outcome (List ℕ)
@@ -93,7 +111,7 @@ pub record Passed (s : List ℕ) (a p : ℕ) (row : List ℕ) : Type 0 where
   pub lengths : List ℕ
   pub adds : p ≡ a + sum lengths
   pub inside : p ≤ length s
-  pub walked : Walked s a lengths p
+  pub walked : BlocksTo s a lengths p
   pub notes : row ≡ notedAll s a lengths noFirsts
   pub is : (y : List ℕ) → blocks a (drop a (s ++ y)) ≡ after lengths (blocks p (drop p (s ++ y)))
   pub first : length s ≤ most → row ≡ firsts s a lengths
@@ -110,6 +128,9 @@ firstsBy s p (refused f q) = noFirsts
 
 unfoldable pub blocksRead : List ℕ → ℕ → BlocksRead
 blocksRead s p = record { taken = blocksTaken p (blocks p (drop p s)); firsts = firstsBy s p (blocks p (drop p s)) }
+
+abbrev pub BlocksAnswer : List ℕ → ℕ → BlocksRead → Type 0
+BlocksAnswer s p r = Answers (λ (b : BlocksRead). takenNumber (b .taken)) (λ (b : BlocksRead). takenValue (b .taken)) p (blocks p (drop p s)) (blocksRead s p) r
 
 abbrev pub readTo : ℕ → ℕ → List ℕ → BlocksRead
 readTo a p row = record { taken = Got (place a (p - a)) (record { at = p + 4 }); firsts = row }

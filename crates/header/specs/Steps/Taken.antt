@@ -4,6 +4,8 @@ use mathlib.Core.List.{List}
 use Rattle.format.specs.declared.Header.{Header}
 use Rattle.format.specs.Tests.{Outcome, got, refused}
 use Rattle.format.specs.Header.{header}
+use Rattle.format.specs.Numbers.{numberOf}
+use Rattle.format.specs.Steps.Answers.{Answers}
 use Rattle.header.specs.declared.HeaderTaken.{HeaderTaken}
 use Rattle.header.specs.declared.HeaderTaken.the-variants.{Got, Refused}
 
@@ -13,3 +15,15 @@ headerTaken (refused f q) = Refused f q
 
 unfoldable pub headerAt : List ℕ → HeaderTaken
 headerAt s = headerTaken (header 0 s)
+
+unfoldable pub headerNumber : HeaderTaken → ℕ
+headerNumber (Got h c) = 0
+headerNumber (Refused f q) = numberOf f
+
+-- where the header ends, or the position of a refusal
+unfoldable pub headerValue : HeaderTaken → ℕ
+headerValue (Got h c) = c .at
+headerValue (Refused f q) = q
+
+abbrev pub HeaderAnswer : List ℕ → HeaderTaken → Type 0
+HeaderAnswer s r = Answers headerNumber headerValue 0 (header 0 s) (headerAt s) r

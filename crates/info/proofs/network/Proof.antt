@@ -27,23 +27,23 @@ no-network-requires-2 c κs = search needs
 
 returns-2 : tie.Need-returns-2
 returns-2 c =
-    struct-lost networkKind _ _ _ _ _ (c .before .before .before .before .if1 .left) (c .before .before .before .end-of .ensures) (c .before .enum-told .given .1) (c .no-network2 .ensures)
+    struct-lost networkKind _ _ _ _ _ (c .before .before .before .before .if1 .left) (c .before .before .before .end-of .ensures .is) (c .before .enum-told .given .1) (c .no-network2 .ensures)
 
 sub-v : tie.Need-sub-v
-sub-v c = omega (arith, ended _ _ _ _ (c .before .before .before .end-of .ensures) (c .before .e .given .1))
+sub-v c = omega (arith, ended _ _ _ _ (c .before .before .before .end-of .ensures .is) (c .before .e .given .1))
 
 part-v-start : tie.Need-part-v-start
-part-v-start c = omega (arith, ended _ _ _ _ (c .before .before .before .end-of .ensures) (c .before .e .given .1))
+part-v-start c = omega (arith, ended _ _ _ _ (c .before .before .before .end-of .ensures .is) (c .before .e .given .1))
 
 part-v-end : tie.Need-part-v-end
-part-v-end c = omega (arith, ended _ _ _ _ (c .before .before .before .end-of .ensures) (c .before .e .given .1))
+part-v-end c = omega (arith, ended _ _ _ _ (c .before .before .before .end-of .ensures .is) (c .before .e .given .1))
 
 add-network-in : tie.Need-add-network-in
-add-network-in c = omega (arith, ended _ _ _ _ (c .before .before .before .before .end-of .ensures) (c .before .before .e .given .1))
+add-network-in c = omega (arith, ended _ _ _ _ (c .before .before .before .before .end-of .ensures .is) (c .before .before .e .given .1))
 
 network-in-requires : tie.Need-network-in-requires
 network-in-requires c κs =
-    let w = ended _ _ _ _ (c .before .before .before .before .end-of .ensures) (c .before .before .e .given .1) in
+    let w = ended _ _ _ _ (c .before .before .before .before .end-of .ensures .is) (c .before .before .e .given .1) in
     simp (length-take, length-drop) (omega arith, omega arith)
 
 enum-known-network : tie.Need-enum-known-network
@@ -59,20 +59,20 @@ returns-3 : tie.Need-returns-3
 returns-3 c =
     let after-network-in = c .before .before .before in
     let after-e = after-network-in .before .before .before in
-    struct-bad networkKind _ _ _ _ _ (after-e .before .before .before .if1 .left) (after-e .before .before .end-of .ensures) (after-e .e .given .1)
-    (after-network-in .network-in .ensures) (c .before .enum-told2 .given .1) (c .no-network3 .ensures)
+    struct-bad networkKind _ _ _ _ _ (after-e .before .before .before .if1 .left) (after-e .before .before .end-of .ensures .is) (after-e .e .given .1)
+    (after-network-in .network-in .ensures .is) (c .before .enum-told2 .given .1) (c .no-network3 .ensures)
 
 sub-t12 : tie.Need-sub-t12
 sub-t12 c =
     let after-v = c .before .before .before .before in
-    omega (arith, ended _ _ _ _ (after-v .before .before .before .before .end-of .ensures) (after-v .before .before .e .given .1))
+    omega (arith, ended _ _ _ _ (after-v .before .before .before .before .end-of .ensures .is) (after-v .before .before .e .given .1))
 
 returns-4 : tie.Need-returns-4
 returns-4 c =
     let after-network-in = c .before .before .before in
     let after-e = after-network-in .before .before .before in
-    struct-good networkKind _ _ _ _ _ (after-e .before .before .before .if1 .left) (after-e .before .before .end-of .ensures) (after-e .e .given .1)
-    (after-network-in .network-in .ensures) (omega arith) (c .before .network .given .1)
+    struct-good networkKind _ _ _ _ _ (after-e .before .before .before .if1 .left) (after-e .before .before .end-of .ensures .is) (after-e .e .given .1)
+    (after-network-in .network-in .ensures .is) (omega arith) (c .before .network .given .1)
 
 pub network-spec : {M : Type 1} → statement M
 network-spec =

@@ -121,7 +121,7 @@ returns-2 c =
     network-read _ _ (after-test .before .network-head-ok .ensures) (after-test .if1 .left) f (after-apart .apart-four .ensures)
     (after-flags .u32-at .ensures) (after-name .u32-at2 .ensures)
     (after-provider-there .provider-there .ensures) (after-provider-field .u32-at4 .ensures) (after-provider .number-if .ensures)
-    (c .network-if .ensures)
+    (c .network-if .ensures .is)
 
 pub network-in-spec : {M : Type 1} → statement M
 network-in-spec =

@@ -27,23 +27,23 @@ no-volume-requires-2 c κs = search needs
 
 returns-2 : tie.Need-returns-2
 returns-2 c =
-    struct-lost volumeKind _ _ _ _ _ (c .before .before .before .before .if1 .left) (c .before .before .before .end-of .ensures) (c .before .enum-told .given .1) (c .no-volume2 .ensures)
+    struct-lost volumeKind _ _ _ _ _ (c .before .before .before .before .if1 .left) (c .before .before .before .end-of .ensures .is) (c .before .enum-told .given .1) (c .no-volume2 .ensures)
 
 sub-v : tie.Need-sub-v
-sub-v c = omega (arith, ended _ _ _ _ (c .before .before .before .end-of .ensures) (c .before .e .given .1))
+sub-v c = omega (arith, ended _ _ _ _ (c .before .before .before .end-of .ensures .is) (c .before .e .given .1))
 
 part-v-start : tie.Need-part-v-start
-part-v-start c = omega (arith, ended _ _ _ _ (c .before .before .before .end-of .ensures) (c .before .e .given .1))
+part-v-start c = omega (arith, ended _ _ _ _ (c .before .before .before .end-of .ensures .is) (c .before .e .given .1))
 
 part-v-end : tie.Need-part-v-end
-part-v-end c = omega (arith, ended _ _ _ _ (c .before .before .before .end-of .ensures) (c .before .e .given .1))
+part-v-end c = omega (arith, ended _ _ _ _ (c .before .before .before .end-of .ensures .is) (c .before .e .given .1))
 
 add-volume-in : tie.Need-add-volume-in
-add-volume-in c = omega (arith, ended _ _ _ _ (c .before .before .before .before .end-of .ensures) (c .before .before .e .given .1))
+add-volume-in c = omega (arith, ended _ _ _ _ (c .before .before .before .before .end-of .ensures .is) (c .before .before .e .given .1))
 
 volume-in-requires : tie.Need-volume-in-requires
 volume-in-requires c κs =
-    let w = ended _ _ _ _ (c .before .before .before .before .end-of .ensures) (c .before .before .e .given .1) in
+    let w = ended _ _ _ _ (c .before .before .before .before .end-of .ensures .is) (c .before .before .e .given .1) in
     simp (length-take, length-drop) (omega arith, omega arith)
 
 enum-known-volume : tie.Need-enum-known-volume
@@ -59,20 +59,20 @@ returns-3 : tie.Need-returns-3
 returns-3 c =
     let after-volume-in = c .before .before .before in
     let after-e = after-volume-in .before .before .before in
-    struct-bad volumeKind _ _ _ _ _ (after-e .before .before .before .if1 .left) (after-e .before .before .end-of .ensures) (after-e .e .given .1)
-    (after-volume-in .volume-in .ensures) (c .before .enum-told2 .given .1) (c .no-volume3 .ensures)
+    struct-bad volumeKind _ _ _ _ _ (after-e .before .before .before .if1 .left) (after-e .before .before .end-of .ensures .is) (after-e .e .given .1)
+    (after-volume-in .volume-in .ensures .is) (c .before .enum-told2 .given .1) (c .no-volume3 .ensures)
 
 sub-t12 : tie.Need-sub-t12
 sub-t12 c =
     let after-v = c .before .before .before .before in
-    omega (arith, ended _ _ _ _ (after-v .before .before .before .before .end-of .ensures) (after-v .before .before .e .given .1))
+    omega (arith, ended _ _ _ _ (after-v .before .before .before .before .end-of .ensures .is) (after-v .before .before .e .given .1))
 
 returns-4 : tie.Need-returns-4
 returns-4 c =
     let after-volume-in = c .before .before .before in
     let after-e = after-volume-in .before .before .before in
-    struct-good volumeKind _ _ _ _ _ (after-e .before .before .before .if1 .left) (after-e .before .before .end-of .ensures) (after-e .e .given .1)
-    (after-volume-in .volume-in .ensures) (omega arith) (c .before .volume .given .1)
+    struct-good volumeKind _ _ _ _ _ (after-e .before .before .before .if1 .left) (after-e .before .before .end-of .ensures .is) (after-e .e .given .1)
+    (after-volume-in .volume-in .ensures .is) (omega arith) (c .before .volume .given .1)
 
 pub volume-spec : {M : Type 1} → statement M
 volume-spec =

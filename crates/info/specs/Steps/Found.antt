@@ -1,14 +1,17 @@
 -- What the functions of this crate find: format's definitions, with zeros where a test fails.
 use Prim.Native.Nat.{ℕ, _+_, _≤_}
+use mathlib.Core.Path.{_≡_}
 use mathlib.Core.List.{List, []}
 use mathlib.Core.Bool.{Bool, true, false, _&&_, cond}
 use lib.ListN.{drop}
 use lib.Dec.{leb}
 use Rattle.octets.specs.Numbers.{u32At}
+use Rattle.format.specs.declared.Fault.the-variants.{Piece as PIECE}
 use Rattle.format.specs.declared.Place.{Place}
 use Rattle.format.specs.declared.Volume.{Volume}
 use Rattle.format.specs.declared.Network.{Network}
 use Rattle.format.specs.Tests.{noPlace}
+use Rattle.format.specs.Numbers.{numberOf}
 use Rattle.format.specs.Steps.AllTests.{all}
 use Rattle.format.specs.Pieces.{Piece, textPiece, textPlace, structTests, testsOf, span, pieceTests}
 use Rattle.format.specs.Volume.{volumePiece, volumeAt, volumeRules, volumeFields, noVolume}
@@ -66,9 +69,13 @@ networkFound present l start head o = pieceFound makeNetwork head (networkPiece 
 
 -- ---- structures
 
--- where the structure at the offset o ends, if it starts after the head and its size is right
+-- the structure at the offset o starts after the head and its size is right
+abbrev pub endsRight : List ℕ → ℕ → ℕ → ℕ → Bool
+endsRight l head least o = leb head o && all (structTests least (λ v. []) (drop o l))
+
+-- where it ends then
 unfoldable pub endAt : List ℕ → ℕ → ℕ → ℕ → StructEnd
-endAt l head least o = cond (leb head o && all (structTests least (λ v. []) (drop o l))) (At (o + u32At (drop o l) 0)) Outside
+endAt l head least o = cond (endsRight l head least o) (At (o + u32At (drop o l) 0)) Outside
 
 abbrev pub labelAt : List ℕ → Bool → ℕ
 labelAt v unicode = cond unicode (u32At v 16) (u32At v 12)
@@ -81,6 +88,45 @@ networkIf ok n = cond ok (GoodNetwork n) BadNetwork
 
 unfoldable pub networkIn : ℕ → List ℕ → NetworkRead
 networkIn p v = networkIf (all (networkRules v)) (networkFields p v)
+
+-- ---- numbers and values of the answers
+
+-- 0 OK or 7 PIECE
+abbrev pub okOrPiece : Bool → ℕ
+okOrPiece ok = cond ok 0 (numberOf PIECE)
+
+unfoldable pub endNumber : StructEnd → ℕ
+endNumber (At e) = 0
+endNumber Outside = numberOf PIECE
+
+-- where the structure ends
+unfoldable pub endValue : StructEnd → ℕ
+endValue (At e) = e
+endValue Outside = 0
+
+unfoldable pub volumeNumber : VolumeRead → ℕ
+volumeNumber (GoodVolume v) = 0
+volumeNumber BadVolume = numberOf PIECE
+
+unfoldable pub networkNumber : NetworkRead → ℕ
+networkNumber (GoodNetwork n) = 0
+networkNumber BadNetwork = numberOf PIECE
+
+-- r is e, whose number says whether all is right
+pub record PieceAnswers {R : Type 0} (numberIn : R → ℕ) (ok : Bool) (e r : R) : Type 0 where
+  pub is : r ≡ e
+  pub number : numberIn r ≡ okOrPiece ok
+
+abbrev pub VolumeAnswer : ℕ → List ℕ → VolumeRead → Type 0
+VolumeAnswer p v r = PieceAnswers volumeNumber (all (volumeRules v)) (volumeIn p v) r
+
+abbrev pub NetworkAnswer : ℕ → List ℕ → NetworkRead → Type 0
+NetworkAnswer p v r = PieceAnswers networkNumber (all (networkRules v)) (networkIn p v) r
+
+pub record EndAnswer (l : List ℕ) (head least o : ℕ) (r : StructEnd) : Type 0 where
+  pub is : r ≡ endAt l head least o
+  pub number : endNumber r ≡ okOrPiece (endsRight l head least o)
+  pub value : endValue r ≡ cond (endsRight l head least o) (o + u32At (drop o l) 0) 0
 
 -- ---- LinkInfo
 

@@ -5,6 +5,8 @@ use lib.ListN.{drop}
 use Rattle.format.specs.declared.Info.{Info}
 use Rattle.format.specs.Tests.{Outcome, got, refused}
 use Rattle.format.specs.Info.{info}
+use Rattle.format.specs.Numbers.{numberOf}
+use Rattle.format.specs.Steps.Answers.{Answers}
 use Rattle.info.specs.declared.InfoTaken.{InfoTaken}
 use Rattle.info.specs.declared.InfoTaken.the-variants.{Got, Refused}
 
@@ -15,3 +17,15 @@ infoTaken p (refused f q) = Refused f q
 
 unfoldable pub infoAt : List ℕ → ℕ → InfoTaken
 infoAt s p = infoTaken p (info p (drop p s))
+
+unfoldable pub infoNumber : InfoTaken → ℕ
+infoNumber (Got i c) = 0
+infoNumber (Refused f q) = numberOf f
+
+-- where LinkInfo ends, or the position of a refusal
+unfoldable pub infoValue : InfoTaken → ℕ
+infoValue (Got i c) = c .at
+infoValue (Refused f q) = q
+
+abbrev pub InfoAnswer : List ℕ → ℕ → InfoTaken → Type 0
+InfoAnswer s p r = Answers infoNumber infoValue p (info p (drop p s)) (infoAt s p) r

@@ -46,13 +46,13 @@ skippedValue (To c) = c .at
 skippedValue (Short c) = c .at
 
 -- what taking a number of w bytes at the place i answers
-pub record Takes (w : ℕ) (s : List ℕ) (i : ℕ) (t : Took) : Type 0 where
+pub record TakeAnswer (w : ℕ) (s : List ℕ) (i : ℕ) (t : Took) : Type 0 where
   pub is : t ≡ taken w s i
   pub number : tookNumber t ≡ okOrCut (inside s i w)
   pub value : tookValue t ≡ cond (inside s i w) (numberAt w s i) i
 
 -- what skipping n bytes at the place i answers
-pub record Skips (s : List ℕ) (i n : ℕ) (t : Skipped) : Type 0 where
+pub record SkipAnswer (s : List ℕ) (i n : ℕ) (t : Skipped) : Type 0 where
   pub is : t ≡ skipped s i n
   pub number : skippedNumber t ≡ okOrCut (inside s i n)
   pub value : skippedValue t ≡ cond (inside s i n) (i + n) i

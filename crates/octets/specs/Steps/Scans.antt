@@ -26,7 +26,7 @@ zeroValue (After n) = n
 zeroValue Nowhere = 0
 
 -- what a scan from the place i on answers
-pub record Scans (u : Bool) (s : List ℕ) (i : ℕ) (z : Zero) : Type 0 where
+pub record ScanAnswer (u : Bool) (s : List ℕ) (i : ℕ) (z : Zero) : Type 0 where
   pub is : z ≡ zeroFrom u s i
   pub number : zeroNumber z ≡ okOrCut (hasZero (characters u (drop i s)))
   pub value : zeroValue z ≡ cond (hasZero (characters u (drop i s))) (beforeZero (characters u (drop i s))) 0

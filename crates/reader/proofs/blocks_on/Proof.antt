@@ -20,14 +20,14 @@ returns : tie.Need-returns
 unfolding blocksOn settledBlocks
 returns c =
     let after-blocks = c .before .before .before .before in
-    rw (← (after-blocks .blocks2 .ensures), c .before .taken .given .1)
+    rw (← (after-blocks .blocks2 .ensures .is), c .before .taken .given .1)
 
 returns-2 : tie.Need-returns-2
 unfolding blocksOn settledBlocks
 returns-2 c =
     let after-refused = c .before .before in
     let after-blocks = after-refused .before .before .before in
-    rw (← (after-blocks .blocks2 .ensures), after-refused .taken2 .given .1) (c .blocks-off .ensures)
+    rw (← (after-blocks .blocks2 .ensures .is), after-refused .taken2 .given .1) (c .blocks-off .ensures)
 
 pub blocks-on-spec : {M : Type 1} → statement M
 blocks-on-spec =

@@ -9,7 +9,7 @@ read-requires : tie.Need-read-requires
 read-requires c κs = search needs
 
 returns : tie.Need-returns
-returns c = ap (λ (x : Reading). x .verdict) (c .read .ensures)
+returns c = (ap (λ (x : Reading). x .verdict) (c .read .ensures .0), c .read .ensures .1)
 
 pub check-spec : {M : Type 1} → statement M
 check-spec = tie.close (tie.spec read-requires returns)

@@ -25,13 +25,13 @@ returns-2 : tie.Need-returns-2
 unfolding infoOn settledInfo
 returns-2 c =
     let after-if1 = c .before .before .before .before in
-    rw (not-false (after-if1 .before .before .args .present) (after-if1 .if1 .left), ← (c .before .before .before .info .ensures), c .before .i .given .1)
+    rw (not-false (after-if1 .before .before .args .present) (after-if1 .if1 .left), ← (c .before .before .before .info .ensures .is), c .before .i .given .1)
 
 returns-3 : tie.Need-returns-3
 unfolding infoOn settledInfo
 returns-3 c =
     let after-info = c .before .before .before .before in
-    rw (not-false (after-info .before .before .before .args .present) (after-info .before .if1 .left), ← (after-info .info .ensures), c .before .before .f .given .1)
+    rw (not-false (after-info .before .before .before .args .present) (after-info .before .if1 .left), ← (after-info .info .ensures .is), c .before .before .f .given .1)
     (c .info-off .ensures)
 
 pub info-on-spec : {M : Type 1} → statement M

@@ -17,7 +17,7 @@ settle-requires c κs = search needs
 
 returns-2 : tie.Need-returns-2
 unfolding itemsOn
-returns-2 c = rw (not-false (c .before .before .before .before .args .present) (c .before .before .if1 .left), c .settle .ensures, c .before .items .ensures)
+returns-2 c = rw (not-false (c .before .before .before .before .args .present) (c .before .before .if1 .left), c .settle .ensures, c .before .items .ensures .is)
 
 pub items-on-spec : {M : Type 1} → statement M
 items-on-spec = tie.close (tie.spec returns items-requires settle-requires returns-2)

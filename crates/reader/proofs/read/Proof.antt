@@ -1,5 +1,7 @@
 -- An outline, finished at the shortcut's length, is the reading.
-use Rattle.reader.proofs.OutlineLaws.{outline-read}
+use Rattle.reader.proofs.OutlineLaws.{outline-read, read-numbered}
+use Rattle.format.specs.declared.Reading.{Reading}
+use mathlib.Core.Path.{ap}
 use borrow.Author.Needs.{needs}
 use Rattle.reader.proofs.read.Statement.{statement}
 use Rattle.reader.proofs.read.Tie as tie
@@ -11,7 +13,9 @@ finish-requires : tie.Need-finish-requires
 finish-requires c κs = search needs
 
 returns : tie.Need-returns
-returns c = outline-read _ (c .before .before .outline-of .ensures) (c .finish .ensures)
+returns c =
+    let e = outline-read _ (c .before .before .outline-of .ensures) (c .finish .ensures) in
+    (e, read-numbered _ (ap (λ (x : Reading). x .verdict) e))
 
 pub read-spec : {M : Type 1} → statement M
 read-spec = tie.close (tie.spec outline-of-requires finish-requires returns)

@@ -17,7 +17,7 @@ settle-requires c κs = search needs
 
 returns-2 : tie.Need-returns-2
 unfolding stringOn
-returns-2 c = rw (not-false (c .before .before .before .before .args .present) (c .before .before .if1 .left), c .settle .ensures, c .before .string .ensures)
+returns-2 c = rw (not-false (c .before .before .before .before .args .present) (c .before .before .if1 .left), c .settle .ensures, c .before .string .ensures .is)
 
 pub string-on-spec : {M : Type 1} → statement M
 string-on-spec =

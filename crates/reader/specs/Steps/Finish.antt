@@ -1,7 +1,7 @@
 -- How reading ends: all of the shortcut was read, or bytes are left, or a section was refused.
 use Prim.Native.Nat.{ℕ}
 use mathlib.Core.Path.{_≡_}
-use mathlib.Core.List.{List}
+use mathlib.Core.List.{List, [], _∷_}
 use mathlib.Core.Bool.{cond}
 use lib.ListN.{length, drop}
 use lib.Dec.{leb, eqb}
@@ -10,10 +10,12 @@ use Rattle.format.specs.declared.Fault.the-variants.{Long as LONG, Trail as TRA
 use Rattle.format.specs.declared.Record.{Record}
 use Rattle.format.specs.declared.Reading.{Reading}
 use Rattle.format.specs.declared.Verdict.the-variants.{Accepted, Refused}
-use Rattle.format.specs.Tests.{got}
+use Rattle.format.specs.Tests.{_else_, tests, Outcome, got, refused}
 use Rattle.format.specs.Blocks.{blocks}
+use Rattle.format.specs.Numbers.{numberOf, answerNumber, answerValue}
 use Rattle.format.specs.Steps.Firsts.{firsts}
-use Rattle.format.specs.Shortcut.{most, noRecord}
+use Rattle.format.specs.Steps.Answers.{Answers}
+use Rattle.format.specs.Shortcut.{Sections, sections, most, noRecord}
 use Rattle.header.specs.declared.HeaderTaken.{HeaderTaken}
 use Rattle.header.specs.declared.HeaderTaken.the-variants.{Got, Refused as Stopped}
 use Rattle.header.specs.Steps.Taken.{headerAt}
@@ -53,3 +55,29 @@ finished n (Off f p) r = refusedAt f p
 -- the row is that of the blocks which the record r holds
 abbrev pub FirstsOf : List ℕ → Record → List ℕ → Type 0
 FirstsOf s r row = (lengths : List ℕ) (n : ℕ) → blocks (r .blocks .at) (drop (r .blocks .at) s) ≡ got lengths n → row ≡ firsts s (r .blocks .at) lengths
+
+-- ---- numbers and values of the answers
+
+unfoldable pub nextNumber : Next → ℕ
+nextNumber (On c) = 0
+nextNumber (Off f p) = numberOf f
+
+-- where the sections end, or the position of a refusal
+unfoldable pub nextValue : Next → ℕ
+nextValue (On c) = c .at
+nextValue (Off f p) = p
+
+-- reading, but for what follows the terminal block
+abbrev pub toTerminal : List ℕ → Outcome Sections
+toTerminal s = tests most (leb (length s) most else LONG ∷ []) (sections 0 s)
+
+abbrev pub OutlineAnswer : List ℕ → Outline → Type 0
+OutlineAnswer s r = Answers (λ (o : Outline). nextNumber (o .next)) (λ (o : Outline). nextValue (o .next)) 0 (toTerminal s) (outlineOf s) r
+
+-- the terminal block ends at the cursor; bytes after it: TRAIL
+abbrev pub ending : ℕ → Next → Outcome Next
+ending n (On c) = tests (c .at) (eqb (c .at) n else TRAIL ∷ []) (got (On c) (c .at))
+ending n (Off f p) = refused f p
+
+abbrev pub FinishAnswer : ℕ → Next → Record → Reading → Type 0
+FinishAnswer n next held r = Answers (λ (g : Reading). answerNumber (g .verdict)) (λ (g : Reading). answerValue (g .verdict)) 0 (ending n next) (finished n next held) r

@@ -8,10 +8,10 @@ check-requires : tie.Need-check-requires
 check-requires c κs = search needs
 
 code-of-requires : tie.Need-code-of-requires
-code-of-requires c κs = rw (c .check .ensures) (check-small _)
+code-of-requires c κs = rw (c .check .ensures .0) (check-small _)
 
 returns : tie.Need-returns
-returns c = rw (← (c .before .check .ensures)) (c .code-of .ensures)
+returns c = rw (← (c .before .check .ensures .0)) (c .code-of .ensures)
 
 pub herringnet-check-spec : {M : Type 1} → statement M
 herringnet-check-spec = tie.close (tie.spec check-requires code-of-requires returns)

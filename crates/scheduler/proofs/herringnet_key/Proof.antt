@@ -18,7 +18,7 @@ same-length : tie.Need-same-length
 same-length c = search needs
 
 returns : tie.Need-returns
-returns c = (rw (← (c .before .before .before .key .ensures .0)) (c .code-of .ensures), c .before .before .before .key .ensures .1)
+returns c = (rw (← (c .before .before .before .key .ensures .0)) (c .code-of .ensures), c .before .before .before .key .ensures .1 .0)
 
 pub herringnet-key-spec : {M : Type 1} → statement M
 herringnet-key-spec = tie.close (tie.spec key-requires code-of-requires same-length returns)

@@ -19,14 +19,14 @@ enum-told : tie.Need-enum-told
 enum-told c = search needs
 
 code-of-requires : tie.Need-code-of-requires
-code-of-requires c κs = rw (c .before .before .before .read .ensures) (check-small _)
+code-of-requires c κs = rw (c .before .before .before .read .ensures .0) (check-small _)
 
 returns-2 : tie.Need-returns-2
 returns-2 c =
     let after-refused = c .before in
     let after-read = after-refused .before .before .before in
     let after-count-asked = after-read .before in
-    read-refused _ _ (after-count-asked .if1 .left) (after-read .read .ensures) (after-refused .enum-told .given .1) (c .code-of .ensures)
+    read-refused _ _ (after-count-asked .if1 .left) (after-read .read .ensures .0) (after-refused .enum-told .given .1) (c .code-of .ensures)
 
 put-fields-requires : tie.Need-put-fields-requires
 put-fields-requires c κs = search needs
@@ -38,7 +38,7 @@ mul-result c =
     let after-read = after-accepted .before .before .before in
     let after-count-asked = after-read .before in
     let start = after-count-asked .before .before .before in
-    record { fits = omega (arith, read-small _ (start .args .f .now) (after-count-asked .if1 .left) (after-read .read .ensures) (after-accepted .v .given .1)) }
+    record { fits = omega (arith, read-small _ (start .args .f .now) (after-count-asked .if1 .left) (after-read .read .ensures .0) (after-accepted .v .given .1)) }
 
 same-length : tie.Need-same-length
 same-length c = search needs
@@ -49,7 +49,7 @@ returns-3 c =
     let after-accepted = after-put-fields .before .before .before in
     let after-read = after-accepted .before .before .before in
     let after-count-asked = after-read .before in
-    read-filled _ _ (after-count-asked .if1 .left) (after-read .read .ensures) (after-accepted .v .given .1) (after-put-fields .put-fields .ensures .0)
+    read-filled _ _ (after-count-asked .if1 .left) (after-read .read .ensures .0) (after-accepted .v .given .1) (after-put-fields .put-fields .ensures .0)
 
 pub herringnet-read-spec : {M : Type 1} → statement M
 herringnet-read-spec =

@@ -15,7 +15,7 @@ same-length c = search needs
 
 returns : tie.Need-returns
 returns c =
-    (rw (← (c .before .before .before .target .ensures .0)) (c .code-of .ensures), c .before .before .before .target .ensures .1)
+    (rw (← (c .before .before .before .target .ensures .0)) (c .code-of .ensures), c .before .before .before .target .ensures .1 .0)
 
 pub herringnet-target-spec : {M : Type 1} → statement M
 herringnet-target-spec = tie.close (tie.spec target-requires code-of-requires same-length returns)

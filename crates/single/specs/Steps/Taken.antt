@@ -9,6 +9,7 @@ use Rattle.format.specs.declared.Taken.the-variants.{Got, Refused}
 use Rattle.format.specs.Tests.{Outcome, got, refused}
 use Rattle.format.specs.Items.{items}
 use Rattle.format.specs.Strings.{string}
+use Rattle.format.specs.Steps.Answers.{Answers, takenNumber, takenValue}
 
 -- a section from p on
 abbrev pub placeTaken : ℕ → Outcome Place → Taken
@@ -20,3 +21,9 @@ stringAt unicode s p = placeTaken p (string unicode p (drop p s))
 
 unfoldable pub itemsAt : List ℕ → ℕ → Taken
 itemsAt s p = placeTaken p (items p (drop p s))
+
+abbrev pub StringAnswer : Bool → List ℕ → ℕ → Taken → Type 0
+StringAnswer unicode s p r = Answers takenNumber takenValue p (string unicode p (drop p s)) (stringAt unicode s p) r
+
+abbrev pub ItemsAnswer : List ℕ → ℕ → Taken → Type 0
+ItemsAnswer s p r = Answers takenNumber takenValue p (items p (drop p s)) (itemsAt s p) r
