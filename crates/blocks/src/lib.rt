@@ -5,7 +5,7 @@ use format::Taken;
 use octets::Cursor;
 ghost use mathlib.Core.Path.{_≡_};
 ghost use mathlib.Core.Bool.{true};
-ghost use Prim.Native.Nat.{_+_, _≤_, _<_};
+ghost use Prim.Native.Nat.{_≤_};
 ghost use lib.ListN.{length};
 ghost use Rattle.format.specs.Blocks.{slotOf, sizeFits, pathTexts, insideFits};
 ghost use Rattle.format.specs.Shortcut.{most};
