@@ -19,7 +19,7 @@ use Rattle.format.proofs.AcceptedLaws.{refused-read}
 use Rattle.reader.specs.declared.Next.{Next}
 use Rattle.reader.specs.declared.Next.the-variants.{On, Off}
 use Rattle.reader.specs.declared.Outline.{Outline}
-use Rattle.reader.specs.Steps.Finish.{finished, outlineOf, refusedAt}
+use Rattle.reader.specs.Steps.Finish.{finished, refusedAt, OutlineAnswer, FinishAnswer}
 use Rattle.reader.proofs.Runs.{sectionOf}
 use Rattle.reader.proofs.OutlineLaws.{outline-read}
 use Rattle.shown.proofs.Laws.{AllRows, all-rows}
@@ -53,16 +53,16 @@ outlined-lines s o R = rw (R .rows) (simp (rows-first, rows-append, row-line, he
 stopped-not : {f : Fault} {p n : ℕ} → _≡_ {A = Verdict} (Refused f p) (Accepted n) → ⊥
 stopped-not e = let z : _≡_ {A = ℕ} 0 1 = cc in omega arith
 
-module _ (s : List ℕ) {o : Outline} {g : Reading} (e : o ≡ outlineOf s) (q : g ≡ finished (length s) (o .next) (o .held)) where
+module _ (s : List ℕ) {o : Outline} {g : Reading} (e : OutlineAnswer s o) (q : FinishAnswer (length s) (o .next) (o .held) g) where
   pub accepted-rows : {n : ℕ} → g .verdict ≡ Accepted n → AllRows s o
   unfolding finished refusedAt
-  accepted-rows v = ended (o .next) refl q
+  accepted-rows v = ended (o .next) refl (q .is)
     where
       ended : (t : Next) → o .next ≡ t → g ≡ finished (length s) t (o .held) → AllRows s o
       ended (On c) k x = whole (eqb (c .at) (length s)) refl x
         where
           whole : (b : Bool) → eqb (c .at) (length s) ≡ b → g ≡ cond b (record { verdict = Accepted (c .at); held = o .held }) (refusedAt TRAIL (c .at)) → AllRows s o
-          whole true i y = all-rows s o c e k (eqb-true (c .at) (length s) i)
+          whole true i y = all-rows s o c (e .is) k (eqb-true (c .at) (length s) i)
           whole false i y = absurd (stopped-not (ap (λ (z : Reading). z .verdict) (sym y) ∙ v))
       ended (Off f p) k x = absurd (stopped-not (ap (λ (z : Reading). z .verdict) (sym x) ∙ v))
 
