@@ -1,5 +1,5 @@
 -- The part that is copied is the body at its place in the body buffer, so its bytes are what is written.
-use Rattle.canonical.proofs.WroteLaws.{length-part, wrote-body}
+use Rattle.canonical.proofs.WroteLaws.{part-short, wrote-body}
 use native.Mathlib.Omega.{arith}
 use borrow.Author.Needs.{needs}
 use Rattle.canonical.proofs.texts.put_body.Statement.{statement}
@@ -10,7 +10,7 @@ part-requires c κs = search needs
 
 put-bytes-requires : tie.Need-put-bytes-requires
 put-bytes-requires c κs =
-    omega (arith, length-part (c .before .before .before .before .pre .0) (c .part .ensures))
+    omega (arith, part-short _ _ _ (c .part .ensures))
 
 add-result : tie.Need-add-result
 add-result c = search needs
