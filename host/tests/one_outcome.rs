@@ -8,7 +8,7 @@ use std::path::Path;
 
 /// A public function: its crate, its file under `src` without the ending, the type that it is a method of, its name.
 struct Function {
-    library: String,
+    crate_name: String,
     file: String,
     owner: Option<String>,
     name: String,
@@ -19,7 +19,7 @@ struct Function {
 
 impl Function {
     fn path(&self) -> String {
-        format!("crates/{}/src/{}.rt", self.library, self.file)
+        format!("crates/{}/src/{}.rt", self.crate_name, self.file)
     }
 
     /// Its name in the theorems: a method has its type's name in front.
@@ -45,7 +45,7 @@ impl Function {
 }
 
 /// The public functions of a file of code.
-fn functions(library: &str, file: &str, source: &str) -> Vec<Function> {
+fn functions(crate_name: &str, file: &str, source: &str) -> Vec<Function> {
     let mut owner = None;
     let mut found = Vec::new();
     for (at, _) in source.match_indices('\n') {
@@ -60,7 +60,7 @@ fn functions(library: &str, file: &str, source: &str) -> Vec<Function> {
         if let Some(named) = public.and_then(|word| word.strip_prefix("fn ")) {
             let signature = rest.split('{').next().unwrap();
             found.push(Function {
-                library: library.to_string(),
+                crate_name: crate_name.to_string(),
                 file: file.to_string(),
                 owner: owner.clone(),
                 name: named.split('(').next().unwrap().to_string(),
@@ -75,7 +75,7 @@ fn functions(library: &str, file: &str, source: &str) -> Vec<Function> {
 /// Whether the theorems of a crate have that of the function: in its form, over its contract, with each of its buffers.
 fn proved(theorems: &str, function: &Function) -> bool {
     let law = function.law();
-    let cites = format!("use Rattle.{}.proofs.{} as {}", function.library, function.module(), law);
+    let cites = format!("use Rattle.{}.proofs.{} as {}", function.crate_name, function.module(), law);
     let begins = format!("pub {}-one-outcome : {} {}.ended ", law, function.form(), law);
     let ends = format!(" {}.Reads.Post", law);
     let buffers = |line: &str| line.matches("now (s ").count();
@@ -96,7 +96,7 @@ fn complaints(all: &[Function], theorems: &BTreeMap<String, String>, page: &str)
     let mut found = Vec::new();
     for one in all {
         let listed = left_out.iter().any(|(file, name, _)| *file == one.path() && *name == one.name);
-        let holds = theorems.get(&one.library).is_some_and(|text| proved(text, one));
+        let holds = theorems.get(&one.crate_name).is_some_and(|text| proved(text, one));
         match (listed, holds) {
             (false, false) => found.push(format!("{} of {} has no theorem and no reason", one.name, one.path())),
             (true, true) => found.push(format!("{} of {} has the theorem and is left out", one.name, one.path())),
