@@ -39,10 +39,15 @@ extern "C" {
 #define HERRINGNET_START(answer) (HERRINGNET_VALUE(answer) % 65537)
 #define HERRINGNET_LENGTH(answer) (HERRINGNET_VALUE(answer) / 65537)
 
+/* The three parts of the value that herringnet_fault answers. */
+#define HERRINGNET_FAULT_POSITION(answer) (HERRINGNET_VALUE(answer) % 65537)
+#define HERRINGNET_FAULT_START(answer) (HERRINGNET_VALUE(answer) / 65537 % 65537)
+#define HERRINGNET_FAULT_SECTION(answer) ((unsigned)(HERRINGNET_VALUE(answer) / 65537 / 65537))
+
 /* The most bytes that a shortcut may have. */
 #define HERRINGNET_LONGEST 65536
 
-/* The numbers of answers (FORMAT: Numbers). Positions are the start of the section at fault, 65,536 for LONG, the
+/* The numbers of answers (FORMAT: Numbers). A position is the first byte of the field found wrong, 65,536 for LONG, the
  * first byte after the terminal block for TRAIL, and 0 from PLACE on (FORMAT: Positions). */
 enum herringnet_number {
     HERRINGNET_OK = 0,
@@ -162,6 +167,11 @@ enum herringnet_field {
 
 /* Tests a shortcut by all rules (FORMAT: Order of reading). Success: its length. Refusals: 1 to 9. */
 uint64_t herringnet_check(const uint8_t *shortcut, size_t shortcut_len);
+
+/* The same verdict with the section at fault: HERRINGNET_FAULT_POSITION, and start and name of the section, which is a
+ * number of enum herringnet_section_name. A block has its own start. The terminal block is at fault for TRAIL, and
+ * where fewer than four bytes stand where a block's size was due. LONG has start 0 and name 0. Success: value 0. */
+uint64_t herringnet_fault(const uint8_t *shortcut, size_t shortcut_len);
 
 /* Puts the target text into out: local path or net name, and then the suffix; a backslash between them if neither is
  * empty and the first does not end in one. Success: its length. Refusals: as herringnet_check, then NOTARGET, then

@@ -1,4 +1,4 @@
-//! The six proved functions, as they stand in the archive.
+//! The seven proved functions, as they stand in the archive.
 //!
 //! Every answer is one number (FORMAT: C numbers): its number, 0 for success, + 256 × a value, which is the length
 //! of a success or the position of a refusal. A refusal changes no byte of `out` and no number of `fields`. The other
@@ -10,6 +10,9 @@
 extern "C" {
     // pub extern "C" fn herringnet_check(s: &[u8]) -> u64
     fn herringnet_check(s: *const u8, s_len: usize) -> u64;
+
+    // pub extern "C" fn herringnet_fault(s: &[u8]) -> u64
+    fn herringnet_fault(s: *const u8, s_len: usize) -> u64;
 
     // pub extern "C" fn herringnet_target(s: &[u8], out: &mut [u8]) -> u64
     fn herringnet_target(s: *const u8, s_len: usize, out: *mut u8, out_len: usize) -> u64;
@@ -27,12 +30,18 @@ extern "C" {
     fn herringnet_write(f: *const u64, f_len: usize, d: *const u8, d_len: usize, out: *mut u8, out_len: usize) -> u64;
 }
 
-// In all six calls pointer and length come from one slice, and a slice that is written to is borrowed by
+// In all seven calls pointer and length come from one slice, and a slice that is written to is borrowed by
 // nobody else: that is all that the functions need, since they have no other condition.
 
 /// The verdict on a shortcut; the value of a success is its length.
 pub fn check(shortcut: &[u8]) -> u64 {
     unsafe { herringnet_check(shortcut.as_ptr(), shortcut.len()) }
+}
+
+/// The verdict on a shortcut with the section at fault: the value of a refusal is its position + 65,537 × (the section's
+/// start + 65,537 × the section's number in the order of the listing), that of a success is 0.
+pub fn fault(shortcut: &[u8]) -> u64 {
+    unsafe { herringnet_fault(shortcut.as_ptr(), shortcut.len()) }
 }
 
 /// Puts the target text at the front of `out`; the value of a success is its length.

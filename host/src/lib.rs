@@ -19,12 +19,14 @@ pub mod record;
 mod refusal;
 mod section;
 pub mod show;
+mod spot;
 pub mod text;
 mod unwritable;
 
 pub use record::Record;
 pub use refusal::{Fault, Refusal};
 pub use section::{listed, listing, section, sections, Section, SectionName};
+pub use spot::{Spot, WrongField};
 pub use text::{StringName, Text};
 pub use unwritable::Cause;
 
@@ -43,13 +45,23 @@ pub const LONGEST: usize = 65_536;
 ///
 /// # Errors
 ///
-/// Numbers 1 to 9, with the start of the section at fault.
+/// Numbers 1 to 9, with the first byte of the field found wrong.
 ///
 /// ```
 #[doc = include_str!("../examples/check.rs")]
 /// ```
 pub fn check(shortcut: &[u8]) -> Result<usize, Refusal> {
     answer(boundary::check(shortcut))
+}
+
+/// Where and why a shortcut is refused: the verdict of [`check`] with the section at fault, which can name the field;
+/// `None` for a shortcut that is accepted.
+///
+/// ```
+#[doc = include_str!("../examples/fault.rs")]
+/// ```
+pub fn fault(shortcut: &[u8]) -> Option<Spot> {
+    spot::spot(boundary::fault(shortcut))
 }
 
 /// The target text of a shortcut: local path or net name, and then the suffix, as bytes; a backslash between them if

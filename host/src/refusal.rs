@@ -106,7 +106,7 @@ impl fmt::Display for Fault {
 pub struct Refusal {
     /// Why.
     pub fault: Fault,
-    /// The start of the section at fault; 65,536 for LONG; 0 where the fault has no position.
+    /// The first byte of the field found wrong; 65,536 for LONG; 0 where the fault has no position.
     pub position: usize,
     /// The field that makes a record unwritable, where it was found; `None` for every other fault.
     pub cause: Option<Cause>,

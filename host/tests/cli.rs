@@ -29,10 +29,88 @@ fn check_says_a_line_for_each_file() {
     let s = Shortcuts::new("check");
     s.run(&["check", "a.lnk"]).is(0, "a.lnk: ok 459\n", "");
     s.run(&["check", "a.lnk", "z.lnk"]).is(0, "a.lnk: ok 459\nz.lnk: ok 80\n", "");
-    let cut = "cut.lnk: refused 2 CUT at 76: it is cut off inside a field or a part\n";
+    let cut = "cut.lnk: refused 2 CUT at 76: terminal block (at 76), TerminalBlock is cut off: \
+               3 of its 4 bytes stand before the file's end\n";
     let long = "long.lnk: refused 1 LONG at 65536: it has more than 65,536 bytes\n";
     s.run(&["check", "cut.lnk"]).is(1, cut, "");
     s.run(&["check", "cut.lnk", "z.lnk", "long.lnk"]).is(1, &format!("{}z.lnk: ok 80\n{}", cut, long), "");
+}
+
+/// A shortcut with LinkInfo of 0x1D bytes, whose head and suffix offset are these.
+fn with_info(head: u8, suffix: u8) -> Vec<u8> {
+    let mut info = vec![0; 0x1D];
+    (info[0], info[4], info[24]) = (0x1D, head, suffix);
+    let mut shortcut = z();
+    shortcut[20] = 2;
+    shortcut.splice(76..76, info);
+    shortcut
+}
+
+#[test]
+fn check_names_the_field() {
+    let s = Shortcuts::none("check_field");
+    let mut flags = z();
+    flags[23] = 0x18;
+    let mut drive = SAMPLE.to_vec();
+    drive[267 + 0x1C + 4] = 7;
+    let rows: [(&str, &[u8], &str); 10] = [
+        (
+            "7 PIECE at 100",
+            &with_info(0x1C, 0x1B),
+            "LinkInfo (at 76), CommonPathSuffixOffset is 0x1B, before the end of the head at 0x1C",
+        ),
+        (
+            "6 INFO at 80",
+            &with_info(0x20, 0x1C),
+            "LinkInfo (at 76), LinkInfoHeaderSize is 0x20, neither 0x1C nor from 0x24 to LinkInfoSize, which is 0x1D",
+        ),
+        ("7 PIECE at 299", &drive, "LinkInfo (at 267), VolumeID (at 295), DriveType is 0x7, more than 0x6"),
+        ("4 HEAD at 20", &flags, "header (at 0), LinkFlags is 0x18000000, where bits 27, 28 have to be clear"),
+        ("2 CUT at 0", &SAMPLE[..75], "header (at 0), 75 bytes of its 76"),
+        ("9 TRAIL at 459", &[SAMPLE, b"x"].concat(), "terminal block (at 455), and 1 byte after it"),
+        (
+            "2 CUT at 343",
+            &SAMPLE[..350],
+            "working directory (at 343), CountCharacters is 0x7 characters of two bytes, and the file has 5 bytes left",
+        ),
+        (
+            "2 CUT at 359",
+            &SAMPLE[..400],
+            "TrackerDataBlock (at 359), BlockSize is 0x60, and the file has 41 bytes left",
+        ),
+        (
+            "2 CUT at 76",
+            &SAMPLE[..77],
+            "item list (at 76), IDListSize is cut off: 1 of its 2 bytes stand before the file's end",
+        ),
+        (
+            "5 ITEMS at 98",
+            &[&SAMPLE[..98], b"\x01", &SAMPLE[99..]].concat(),
+            "item list (at 76), IDList (at 78), ItemIDSize is 0x1, less than 0x2",
+        ),
+    ];
+    for (place, bytes, words) in rows {
+        s.put("x.lnk", bytes);
+        s.run(&["check", "x.lnk"]).is(1, &format!("x.lnk: refused {}: {}\n", place, words), "");
+    }
+}
+
+#[test]
+fn check_shows_the_field_in_hex() {
+    let s = Shortcuts::new("check_hex");
+    s.put("x.lnk", &with_info(0x1C, 0x1B));
+    let lines =
+        "x.lnk: refused 7 PIECE at 100: LinkInfo (at 76), CommonPathSuffixOffset is 0x1B, before the end of the \
+                 head at 0x1C\n\
+                 \x20 0054  00 00 00 00 00 00 00 00 00 00 00 00 00 00 00 00\n\
+                 > 0064  1B 00 00 00\n\
+                 \x20 0068  00 00 00 00 00\n";
+    s.run(&["check", "--hex", "x.lnk"]).is(1, lines, "");
+    s.put("cut.lnk", &z()[..76]);
+    let said = s.run(&["check", "--hex", "cut.lnk", "a.lnk", "long.lnk"]);
+    let lines = "\n  003C  00 00 00 00 00 00 00 00 00 00 00 00 00 00 00 00\n> 004C\na.lnk: ok 459\nlong.lnk: ";
+    assert!(text(&said.out).contains(lines), "{}", text(&said.out));
+    assert!(text(&said.out).ends_with("\n> 10000  00\n"), "{}", text(&said.out));
 }
 
 #[test]
@@ -272,7 +350,7 @@ fn words_that_make_no_sense() {
     let s = Shortcuts::new("usage");
     let see = "herringnet: see herringnet --help\n";
     let one_of = "-o, --in-place and --suffix exclude each other, and each may stand once";
-    let wrong: [(&[&str], &str); 25] = [
+    let wrong: [(&[&str], &str); 27] = [
         (&[], "a command is missing"),
         (&["frobnicate"], "there is no command frobnicate"),
         (&["two\nlines"], "there is no command two<U+000A>lines"),
@@ -297,6 +375,8 @@ fn words_that_make_no_sense() {
         (&["check", "--all-files", "."], "--all-files goes with -r"),
         (&["target", "--raw", "-r", "."], "--raw takes one input"),
         (&["target", "--raw", "--json", "a.lnk"], "--raw excludes --json and -0"),
+        (&["check", "--hex", "--json", "a.lnk"], "--hex excludes --json"),
+        (&["list", "--hex", "a.lnk"], "list has no option --hex"),
         (&["check", "--files-from", "-", "-"], "standard input can be read only once"),
     ];
     for (words, why) in wrong {

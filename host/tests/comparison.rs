@@ -101,6 +101,7 @@ impl Comparison {
         let mut random = inputs::random_of(!number);
         let answer = self.check(shortcut);
         self.verdicts.add(answer);
+        self.fault(shortcut);
         self.read(shortcut, &mut random);
         self.sections(shortcut, &mut random);
         self.putting("target", [proved::target, independent::boundary_target], shortcut, &mut random);
@@ -133,6 +134,11 @@ impl Comparison {
         let independent = independent::boundary_check(shortcut);
         self.agree("check", proved::check(shortcut), independent, &|| hex(shortcut));
         independent
+    }
+
+    fn fault(&mut self, shortcut: &[u8]) {
+        let independent = independent::boundary_fault(shortcut);
+        self.agree("fault", proved::fault(shortcut), independent, &|| hex(shortcut));
     }
 
     fn read(&mut self, shortcut: &[u8], random: &mut Random) {

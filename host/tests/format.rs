@@ -106,8 +106,12 @@ fn the_same_with_one_fault() {
     let rows = table(under("The same with one fault"));
     assert!(rows.len() > 20);
     for row in rows {
-        let (fault, position) = row[1].split_once(" at ").unwrap();
-        assert_eq!(boundary::check(&changed(row[0])), number(fault) + 256 * number(position), "{}", row[0]);
+        let cells: Vec<u64> = row[1].split(&[' ', ','][..]).filter_map(|word| word.parse().ok()).collect();
+        let [fault, position, section, start]: [u64; 4] = cells.try_into().unwrap();
+        let shortcut = changed(row[0]);
+        assert_eq!(boundary::check(&shortcut), fault + 256 * position, "{}", row[0]);
+        let value = position + 65_537 * (start + 65_537 * section);
+        assert_eq!(boundary::fault(&shortcut), fault + 256 * value, "{}", row[0]);
     }
 }
 

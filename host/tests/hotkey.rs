@@ -67,7 +67,7 @@ fn exactly_the_keys_of_the_page_are_read_and_shown() {
             }
             None => {
                 let refusal = check(&shortcut).unwrap_err();
-                assert_eq!((refusal.fault, refusal.position), (Fault::Head, 0), "{:04X}", hotkey);
+                assert_eq!((refusal.fault, refusal.position), (Fault::Head, 64), "{:04X}", hotkey);
             }
         }
     }

@@ -68,13 +68,31 @@ fn the_lines_of_the_sample() {
 fn refusals_and_failures_are_objects() {
     let s = Shortcuts::new("json_refused");
     let refusal = "{\"number\":2,\"name\":\"CUT\",\"position\":76,\
-                   \"reason\":\"it is cut off inside a field or a part\"}";
-    let cut = format!("{{\"file\":\"cut.lnk\",\"status\":\"refused\",\"refusal\":{}}}\n", refusal);
+                   \"reason\":\"it is cut off inside a field or a part\"";
+    let field = "{\"structure\":\"TerminalBlock\",\"start\":76,\"name\":\"TerminalBlock\",\"bytes\":\"000000\",\
+                 \"wrong\":\"is cut off: 3 of its 4 bytes stand before the file's end\"}";
     let none = "{\"file\":\"none.lnk\",\"status\":\"failed\",\"error\":\"No such file or directory\"}\n";
     for command in COMMANDS {
+        let more = match command {
+            "check" => format!(",\"section\":\"end\",\"start\":76,\"field\":{}", field),
+            _ => String::new(),
+        };
+        let cut = format!("{{\"file\":\"cut.lnk\",\"status\":\"refused\",\"refusal\":{}{}}}}}\n", refusal, more);
         s.run(&[command, "--json", "cut.lnk"]).is(1, &cut, "");
         s.run(&[command, "--json", "none.lnk", "cut.lnk"]).is(3, &format!("{}{}", none, cut), "");
     }
+}
+
+#[test]
+fn no_field_is_null() {
+    let s = Shortcuts::new("json_no_field");
+    s.put("trail.lnk", &[z(), vec![7]].concat());
+    let lines = values(&s.run(&["check", "--json", "long.lnk", "trail.lnk"]).out);
+    let found = lines.iter().map(|line| line.get("refusal").unwrap());
+    let found: Vec<_> =
+        found.map(|refusal| ["section", "start", "field"].map(|name| refusal.get(name).cloned())).collect();
+    let expected = |name: &str, start| [Value::String(name.to_string()), Value::Number(start), Value::Null].map(Some);
+    assert_eq!(found, [expected("header", 0), expected("end", 76)]);
 }
 
 #[test]

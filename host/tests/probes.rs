@@ -2,7 +2,7 @@
 
 mod independent;
 
-use independent::*;
+use independent::{boundary_fault, read, section, sections, window, Body, Record, Refusal};
 
 fn z() -> Vec<u8> {
     let mut bytes = vec![0; 80];
@@ -24,8 +24,29 @@ fn with_u32(mut bytes: Vec<u8>, at: usize, number: u32) -> Vec<u8> {
     bytes
 }
 
-fn refused(number: u8, position: usize) -> Result<usize, Refusal> {
-    Err(Refusal { number, position })
+fn refused(number: u8, position: usize) -> Result<usize, (u8, usize)> {
+    Err((number, position))
+}
+
+/// An answer without the section at fault.
+fn short(answer: Result<usize, Refusal>) -> Result<usize, (u8, usize)> {
+    answer.map_err(|refusal| (refusal.number, refusal.position))
+}
+
+fn check(shortcut: &[u8]) -> Result<usize, (u8, usize)> {
+    short(independent::check(shortcut))
+}
+
+fn target(shortcut: &[u8], out: &mut [u8]) -> Result<usize, (u8, usize)> {
+    short(independent::target(shortcut, out))
+}
+
+fn key(shortcut: &[u8], out: &mut [u8]) -> Result<usize, (u8, usize)> {
+    short(independent::key(shortcut, out))
+}
+
+fn write(record: &Record, body: &[u8], out: &mut [u8]) -> Result<usize, (u8, usize)> {
+    short(independent::write(record, body, out))
 }
 
 #[test]
@@ -44,9 +65,9 @@ fn p5_terminal() {
 
 #[test]
 fn p6_header() {
-    assert_eq!(check(&with_u32(z(), 20, 0x0800_0000)), refused(4, 0));
+    assert_eq!(check(&with_u32(z(), 20, 0x0800_0000)), refused(4, 20));
     assert_eq!(check(&with_u32(z(), 64, 0x0646)), Ok(80));
-    assert_eq!(check(&with_u32(z(), 64, 0x0600)), refused(4, 0));
+    assert_eq!(check(&with_u32(z(), 64, 0x0600)), refused(4, 64));
 }
 
 #[test]
@@ -54,7 +75,7 @@ fn p7_p8_items() {
     let shortcut = z_with(1, &[2, 0, 0, 0]);
     assert_eq!(check(&shortcut), Ok(84));
     assert_eq!(read(&shortcut).unwrap().items, Body::new(78, 0));
-    assert_eq!(check(&z_with(1, &[3, 0, 1, 0, 0])), refused(5, 76));
+    assert_eq!(check(&z_with(1, &[3, 0, 1, 0, 0])), refused(5, 78));
 }
 
 #[test]
@@ -77,8 +98,8 @@ fn p10(head: u32, suffix: u32) -> Vec<u8> {
 #[test]
 fn p10_info() {
     assert_eq!(check(&p10(0x1C, 0x1C)), Ok(109));
-    assert_eq!(check(&p10(0x1C, 0x1B)), refused(7, 76));
-    assert_eq!(check(&p10(0x20, 0x1C)), refused(6, 76));
+    assert_eq!(check(&p10(0x1C, 0x1B)), refused(7, 100));
+    assert_eq!(check(&p10(0x20, 0x1C)), refused(6, 80));
     assert_eq!(target(&p10(0x1C, 0x1C), &mut []), refused(13, 0));
 }
 
@@ -127,6 +148,32 @@ fn windows() {
     assert_eq!([0, 1, 2, 3, 6, 7, 8, u32::MAX].map(window), [1, 1, 1, 3, 1, 7, 1, 1]);
 }
 
+/// The section at fault, by its number in the listing, and its start.
+fn at_fault(shortcut: &[u8]) -> (u8, usize) {
+    let refusal = independent::check(shortcut).unwrap_err();
+    let value = refusal.position + 65_537 * (refusal.start + 65_537 * usize::from(refusal.section));
+    assert_eq!(boundary_fault(shortcut), u64::from(refusal.number) + 256 * value as u64);
+    (refusal.section, refusal.start)
+}
+
+#[test]
+fn sections_at_fault() {
+    assert_eq!(boundary_fault(&z()), 0);
+    assert_eq!(at_fault(&[0; 65_537]), (0, 0));
+    assert_eq!(at_fault(&z()[..75]), (0, 0));
+    assert_eq!(at_fault(&with_u32(z(), 64, 0x0600)), (0, 0));
+    assert_eq!(at_fault(&z()[..76]), (9, 76));
+    assert_eq!(at_fault(&z()[..79]), (9, 76));
+    assert_eq!(at_fault(&[z(), vec![0]].concat()), (9, 76));
+    assert_eq!(at_fault(&with_u32(z(), 76, 4)), (8, 76));
+    assert_eq!(at_fault(&z_with(1, &[3, 0, 1, 0, 0])), (1, 76));
+    assert_eq!(at_fault(&p10(0x1C, 0x1B)), (2, 76));
+    assert_eq!(at_fault(&z_with(0x20, &[3, 0, 0x2D, 0, 0x67, 0, 0x31, 0])), (8, 81));
+    // Two blocks, the second of which is wrong, and two strings, the second of which is cut.
+    assert_eq!(at_fault(&z_with(0, &[8, 0, 0, 0, 1, 0, 0, 0, 8, 0, 0, 0, 4, 0, 0, 0xA0])), (8, 84));
+    assert_eq!(at_fault(&z_with(0x24, &[1, 0, 0x41, 9, 0])), (6, 79));
+}
+
 fn from_hex(text: &str) -> Vec<u8> {
     text.split_whitespace().map(|byte| u8::from_str_radix(byte, 16).unwrap()).collect()
 }
@@ -157,7 +204,7 @@ fn example_to_a_file() {
 #[test]
 fn example_of_the_disassembly() {
     let printed = from_hex(include_str!("examples/disassembly.hex"));
-    assert_eq!(check(&printed), refused(3, 0));
+    assert_eq!(check(&printed), refused(3, 4));
     let mut mended = printed;
     mended[5] = 0x14;
     assert_eq!(check(&mended), refused(2, 300));

@@ -11,11 +11,8 @@ use std::path::{Path, PathBuf};
 
 type Text = fn(&[u8]) -> Vec<u8>;
 
-const PROGRAMS: [(&str, Text); 3] = [
-    ("listing", independent::listing_text),
-    ("key", independent::key_text),
-    ("rewrite", independent::rewrite_text),
-];
+const PROGRAMS: [(&str, Text); 3] =
+    [("listing", independent::listing_text), ("key", independent::key_text), ("rewrite", independent::rewrite_text)];
 
 fn built(name: &str) -> PathBuf {
     let beside = || Path::new(env!("CARGO_MANIFEST_DIR")).join("../target/bin");

@@ -7,6 +7,7 @@ use lib.ListN.{length, drop, length-drop}
 use lib.Seq.{drop-drop}
 use Rattle.format.specs.declared.Fault.{Fault}
 use Rattle.format.specs.declared.Place.{Place}
+use Rattle.format.specs.declared.Spot.{Spot}
 use Rattle.format.specs.Tests.{got, refused, place, noPlace}
 use Rattle.format.specs.Blocks.{blockSize, aTerminal, blockStep, blocks}
 use Rattle.format.proofs.Bools.{by-order}
@@ -58,8 +59,8 @@ module _ (s : List ℕ) (p k : ℕ) where
     is = λ ls n e. got-elim (λ ls n. noPlace ≡ nthPlace p ls k) (sym (walk-ended (drop p s) p (h p)) ∙ e) refl;
   }
 
-  nth-refused : {f : Fault} → ((q : ℕ) → blockStep q (drop p s) ≡ refused f q) → NthOf s p k noPlace
-  nth-refused h = record { inside = omega arith; is = λ ls n e. no-value (sym (walk-refused (drop p s) p (h p)) ∙ e) }
+  nth-refused : {f : Fault} {q : Spot} → blockStep p (drop p s) ≡ refused f q → NthOf s p k noPlace
+  nth-refused h = record { inside = omega arith; is = λ ls n e. no-value (sym (walk-refused (drop p s) p h) ∙ e) }
 
 module _ (s : List ℕ) (p : ℕ) {n j : ℕ} (inside : p ≤ length s) (z : Sized (drop p s) n j) where
   pub nth-fits : p + n ≤ length s
@@ -85,7 +86,7 @@ nth-step k s p next = go (bySize (drop p s)) (step-read (drop p s) refl)
   where
     go : (t : BlockStep) → StepAnswer (drop p s) t → NthOf s p k (nthBlock s p k)
     go Terminal e = rw (← (none-ended s p e k refl)) (nth-ended s p k (by-end (drop p s) e refl))
-    go (NotOne f) e = rw (← (none-refused s p e k refl)) (nth-refused s p k (by-fault (drop p s) e refl))
+    go (NotOne f) e = rw (← (none-refused s p e k refl)) (nth-refused s p k (by-fault (drop p s) e refl p))
     go (Block n j) e =
         let z = by-block (drop p s) e refl in
         let fits : p ≤ length s = omega (arith, z .least, z .inside, length-drop p s) in

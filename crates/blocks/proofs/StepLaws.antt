@@ -6,21 +6,25 @@ use Prim.Native.Nat.{ℕ, zero, suc, _+_, _-_, _≤_, _<_}
 use native.Mathlib.Omega.{arith}
 use lib.ListN.{length, take, drop, length-append, length-drop}
 use lib.Seq.{length-take-le, take-all, take-take, take-append-le}
-use lib.Dec.{leb, ltb}
-use borrow.Author.Tests.{le-leb, lt-leb, lt-ltb, le-ltb}
+use lib.Dec.{leb, ltb, eqb}
+use borrow.Author.Tests.{le-leb, lt-leb, lt-ltb, le-ltb, eqb-true, eqb-false, eq-eqb, ne-eqb}
 use Rattle.octets.specs.Numbers.{u32At}
 use Rattle.octets.proofs.NumberLaws.{number-same}
 use Rattle.format.specs.declared.Fault.{Fault}
 use Rattle.format.specs.declared.Fault.the-variants.{Cut as CUT, Block as BLOCK}
-use Rattle.format.specs.Tests.{Outcome, got, refused, _else_, tests}
+use Rattle.format.specs.declared.Spot.{Spot}
+use Rattle.format.specs.Tests.{Outcome, got, refused, _else_at_, spotAt, tests}
 use Rattle.format.specs.Numbers.{outcomeNumber}
 use Rattle.format.specs.Steps.Answers.{outcomeEnd}
-use Rattle.format.specs.Blocks.{SizeRule, signatures, sizeIn, slotOf, sizeFits, insideFits, slotAt, blockRules, blockSize, Standing, aBlock, aTerminal, blockStep}
+use Rattle.format.specs.Blocks.{SizeRule, signatures, sizeIn, slotOf, sizeFits, insideTests, slotAt, blockRules, blockSize, Standing, aBlock, aTerminal, block, terminal, blockStep}
+use Rattle.format.specs.Steps.Wrong.{wrong}
 use Rattle.format.proofs.Bools.{by-order}
 use Rattle.format.proofs.Chains.{no-value}
-use Rattle.blocks.specs.Steps.Walk.{Sized, stepOf, bySize, stepNumber, stepValue, StepAnswer, Told, Stands}
+use Rattle.format.proofs.WrongLaws.{one-fault}
+use Rattle.blocks.specs.Steps.Walk.{Sized, stepOf, bySize, stepNumber, stepValue, StepAnswer, stepSite, Told, Stands}
 use Rattle.blocks.specs.declared.BlockStep.{BlockStep}
 use Rattle.blocks.specs.declared.BlockStep.the-variants.{Block, Terminal, Refused as NotOne}
+use Rattle.format.proofs.BlockLaws.{inside-faults}
 
 -- the part from k to the end
 pub tail-part : (k : ℕ) (l : List ℕ) → take (length l - k) (drop k l) ≡ drop k l
@@ -65,7 +69,7 @@ module _ (s : List ℕ) where
       n = blockSize s
 
       by : Bool → Bool → Bool → Bool → Bool → Outcome Standing
-      by a b c d e = tests 0 (a else CUT ∷ []) (cond b (got aTerminal 4) (tests 0 (c else BLOCK ∷ d else CUT ∷ e else BLOCK ∷ []) (got aBlock n)))
+      by a b c d e = tests (terminal 0) (a else CUT at 0 ∷ []) (cond b (got aTerminal 4) (tests (block 0) (c else BLOCK at 0 ∷ d else CUT at 0 ∷ e else BLOCK at 0 ∷ []) (got aBlock n)))
 
       numbered : (a b c d e : Bool) → (stepNumber (stepOf (slotAt s) (by a b c d e)) ≡ outcomeNumber (by a b c d e)) × (stepValue (stepOf (slotAt s) (by a b c d e)) ≡ outcomeEnd 0 (by a b c d e))
       numbered false b c d e = (refl, refl)
@@ -84,33 +88,37 @@ module _ (s : List ℕ) where
     unfolding bySize
     step-end t = let l = le-leb 4 (length s) room in let z = lt-ltb n 4 t in (step-read (rw (l, ← e, z)), λ p. rw (l, ← e, z))
 
-    here : 4 ≤ n → (p : ℕ) → blockStep p s ≡ tests p (leb 8 n else BLOCK ∷ leb n (length s) else CUT ∷ blockRules (take n s)) (got aBlock n)
+    here : 4 ≤ n → (p : ℕ) → blockStep p s ≡ tests (block p) (leb 8 n else BLOCK at 0 ∷ leb n (length s) else CUT at 0 ∷ blockRules (take n s)) (got aBlock n)
     here t p = rw (le-leb 4 (length s) room, ← e, le-ltb n 4 t)
 
-    sized : 4 ≤ n → stepOf (slotAt s) (tests 0 (leb 8 n else BLOCK ∷ leb n (length s) else CUT ∷ sizeFits (slotAt s) n else BLOCK ∷ []) (got aBlock n)) ≡ bySize s
+    sized : 4 ≤ n → stepOf (slotAt s) (tests (block 0) (leb 8 n else BLOCK at 0 ∷ leb n (length s) else CUT at 0 ∷ sizeFits (slotAt s) n else BLOCK at 0 ∷ []) (got aBlock n)) ≡ bySize s
     unfolding bySize
     sized t = rw (le-leb 4 (length s) room, ← e, le-ltb n 4 t)
 
+    -- a size is there, so it is a block's
+    size-field : (p : ℕ) → spotAt (block p) 0 ≡ spotAt (stepSite p (length s)) 0
+    size-field p = rw (le-leb 4 (length s) room)
+
     pub step-small : 4 ≤ n → n < 8 → Way s (NotOne BLOCK)
-    step-small t u = let z = lt-leb 8 n u in (step-read (rw z at (sized t)), λ p. here t p ∙ rw z)
+    step-small t u = let z = lt-leb 8 n u in (step-read (rw z at (sized t)), λ p. here t p ∙ rw z (ap (refused BLOCK) (size-field p)))
 
     module _ (big : 8 ≤ n) where
       pub step-past : length s < n → Way s (NotOne CUT)
-      step-past t = let b = le-leb 8 n big in let z = lt-leb n (length s) t in (step-read (rw (b, z) at (sized (omega arith))), λ p. here (omega arith) p ∙ rw (b, z))
+      step-past t = let b = le-leb 8 n big in let z = lt-leb n (length s) t in (step-read (rw (b, z) at (sized (omega arith))), λ p. here (omega arith) p ∙ rw (b, z) (ap (refused CUT) (size-field p)))
 
       module _ (inside : n ≤ length s) {k : ℕ} (slot : k ≡ slotOf (u32At s 4)) where
         -- a block's size and signature are those of the rest
-        judged : (p : ℕ) → blockStep p s ≡ tests p (sizeFits k n else BLOCK ∷ insideFits k (take n s) else BLOCK ∷ []) (got aBlock n)
+        judged : (p : ℕ) → blockStep p s ≡ tests (block p) (sizeFits k n else BLOCK at 0 ∷ insideTests k (take n s)) (got aBlock n)
         judged p =
             let l : length (take n s) ≡ n = length-take-le n s inside in
             let x : u32At (take n s) 4 ≡ u32At s 4 = number-same 4 n (take n s) s 4 (take-take n n s (omega arith)) (omega arith) in
             here (omega arith) p ∙ rw (le-leb 8 n big, le-leb n (length s) inside, l, x, ← slot)
 
-        by-slot : stepOf k (tests 0 (sizeFits k n else BLOCK ∷ []) (got aBlock n)) ≡ bySize s
+        by-slot : stepOf k (tests (block 0) (sizeFits k n else BLOCK at 0 ∷ []) (got aBlock n)) ≡ bySize s
         by-slot = rw (le-leb 8 n big, le-leb n (length s) inside, ← slot) at (sized (omega arith))
 
         pub step-wrong : sizeFits k n ≡ false → Way s (NotOne BLOCK)
-        step-wrong f = (step-read (rw f at by-slot), λ p. judged p ∙ rw f)
+        step-wrong f = (step-read (rw f at by-slot), λ p. judged p ∙ rw f (ap (refused BLOCK) (size-field p)))
 
         pub step-sized : sizeFits k n ≡ true → Way s (Block n k)
         step-sized f = (step-read (rw f at by-slot), record { size = e; least = big; inside = inside; slot = slot; fits = f })
@@ -140,16 +148,17 @@ module _ (s : List ℕ) where
 
 -- a block by its sizes: what it holds decides
 module _ (s : List ℕ) {n k : ℕ} (z : Sized s n k) where
-  left : (p : ℕ) → blockStep p s ≡ tests p (insideFits k (take n s) else BLOCK ∷ []) (got aBlock n)
-  left p =
+  left : {b : ℕ} → b ≡ wrong (insideTests k (take n s)) → (p : ℕ) → blockStep p s ≡ cond (eqb b 0) (got aBlock n) (refused BLOCK (spotAt (block p) b))
+  left e p =
       let room : 4 ≤ length s = omega (arith, z .least, z .inside) in
-      judged s room (z .size) (z .least) (z .inside) (z .slot) p ∙ rw (z .fits)
+      let ts = insideTests k (take n s) in
+      judged s room (z .size) (z .least) (z .inside) (z .slot) p ∙ rw (z .fits, e) (one-fault BLOCK (block p) ts (got aBlock n) (inside-faults k (take n s)))
 
-  pub holds-right : {b : Bool} → b ≡ insideFits k (take n s) → b ≡ true → (p : ℕ) → blockStep p s ≡ got aBlock n
-  holds-right e t p = left p ∙ rw (← e, t)
+  pub holds-right : {b : ℕ} → b ≡ wrong (insideTests k (take n s)) → b ≡ 0 → (p : ℕ) → blockStep p s ≡ got aBlock n
+  holds-right {b} e t p = left e p ∙ rw (eq-eqb b 0 t)
 
-  pub holds-wrong : {b : Bool} → b ≡ insideFits k (take n s) → b ≡ false → (p : ℕ) → blockStep p s ≡ refused BLOCK p
-  holds-wrong e t p = left p ∙ rw (← e, t)
+  pub holds-wrong : {b : ℕ} → b ≡ wrong (insideTests k (take n s)) → (b ≡ 0 → ⊥) → (p : ℕ) → blockStep p s ≡ refused BLOCK (spotAt (block p) b)
+  holds-wrong {b} e t p = left e p ∙ rw (ne-eqb b 0 t)
 
 -- a block stays what it is, whatever follows
 module _ (s y : List ℕ) {n k : ℕ} (z : Sized s n k) where
@@ -166,11 +175,14 @@ module _ (s y : List ℕ) {n k : ℕ} (z : Sized s n k) where
   }
 
   pub step-longer : ((q : ℕ) → blockStep q s ≡ got aBlock n) → (q : ℕ) → blockStep q (s ++ y) ≡ got aBlock n
-  step-longer h q = go (insideFits k (take n s)) refl
+  step-longer h q = go (eqb w 0) refl
     where
-      go : (b : Bool) → b ≡ insideFits k (take n s) → blockStep q (s ++ y) ≡ got aBlock n
-      go true e = holds-right (s ++ y) longer (e ∙ ap (insideFits k) (sym front)) refl q
-      go false e = no-value (sym (holds-wrong s z e refl q) ∙ h q)
+      w : ℕ
+      w = wrong (insideTests k (take n s))
+
+      go : (b : Bool) → eqb w 0 ≡ b → blockStep q (s ++ y) ≡ got aBlock n
+      go true e = holds-right (s ++ y) longer (ap (λ (l : List ℕ). wrong (insideTests k l)) (sym front)) (eqb-true w 0 e) q
+      go false e = no-value (sym (holds-wrong s z refl (eqb-false w 0 e) q) ∙ h q)
 
 -- from what the code answers to its facts
 module _ (s : List ℕ) {t : BlockStep} where
@@ -184,7 +196,7 @@ module _ (s : List ℕ) {t : BlockStep} where
     pub by-end : t ≡ Terminal → (p : ℕ) → blockStep p s ≡ got aTerminal 4
     by-end e = told-as e
 
-    pub by-fault : {f : Fault} → t ≡ NotOne f → (p : ℕ) → blockStep p s ≡ refused f p
+    pub by-fault : {f : Fault} → t ≡ NotOne f → (p : ℕ) → blockStep p s ≡ refused f (spotAt (stepSite p (length s)) 0)
     by-fault e = told-as e
 
   module _ (h : Stands s t) where
@@ -195,4 +207,4 @@ module _ (s : List ℕ) {t : BlockStep} where
     stands-end e p n g = let i : (p : ℕ) → blockStep p s ≡ got aTerminal 4 = rw e at h in let z : _≡_ {A = Outcome Standing} (got aTerminal 4) (got aBlock n) = sym (i p) ∙ g in let o : _≡_ {A = ℕ} 0 1 = cc in omega arith
 
     pub stands-fault : {f : Fault} → t ≡ NotOne f → (p n : ℕ) → blockStep p s ≡ got aBlock n → ⊥
-    stands-fault {f} e p n g = let i : (p : ℕ) → blockStep p s ≡ refused f p = rw e at h in no-value (sym (i p) ∙ g)
+    stands-fault {f} e p n g = let i : (p : ℕ) → (q : Spot) × (blockStep p s ≡ refused f q) = rw e at h in no-value (sym (i p .1) ∙ g)

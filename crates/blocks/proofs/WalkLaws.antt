@@ -6,21 +6,24 @@ use Prim.Native.Nat.{ℕ, _+_, _-_, _≤_, _<_}
 use native.Mathlib.Omega.{arith}
 use native.Mathlib.Nat.{zero-add}
 use lib.ListN.{length, take, drop, length-drop}
-use lib.Seq.{drop-drop, drop-append-le}
+use lib.Seq.{length-take-le, drop-drop, drop-append-le}
 use borrow.Author.Tests.{lt-ltb}
 use Rattle.octets.specs.Numbers.{u32At}
 use Rattle.octets.proofs.NumberLaws.{number-drop}
 use Rattle.format.specs.declared.Fault.{Fault}
 use Rattle.format.specs.declared.Fault.the-variants.{Cut as CUT, Block as BLOCK}
-use Rattle.format.specs.Tests.{Outcome, got, refused, andThen}
-use Rattle.format.specs.Blocks.{slotOf, insideFits, slotAt, blockSize, aBlock, aTerminal, blockStep, blocks}
+use Rattle.format.specs.declared.Spot.{Spot}
+use Rattle.format.specs.Tests.{spotAt, Outcome, got, refused, andThen}
+use Rattle.format.specs.Blocks.{slotOf, insideTests, slotAt, blockSize, aBlock, aTerminal, block, terminal, blockStep, blocks}
 use Rattle.format.specs.Numbers.{outcomeNumber}
 use Rattle.format.specs.Steps.Firsts.{firsts}
 use Rattle.format.specs.Steps.Answers.{outcomeEnd, takenNumber, takenValue}
+use Rattle.format.specs.Steps.Wrong.{wrong}
 use Rattle.format.specs.Shortcut.{most, sum}
 use Rattle.format.proofs.BlockLaws.{none-left, blocks-step}
-use Rattle.blocks.specs.Steps.Walk.{Sized, NoBlock, noFirsts, fieldOf, noted, notedAll, BlocksTo, after, Passed, blocksTaken, blocksRead, BlocksAnswer, readTo, stoppedAt}
+use Rattle.blocks.specs.Steps.Walk.{hasRule, Sized, NoBlock, noFirsts, fieldOf, noted, notedAll, BlocksTo, after, Passed, blocksTaken, blocksRead, BlocksAnswer, readTo, stoppedAt}
 use Rattle.blocks.specs.declared.BlocksRead.{BlocksRead}
+use Rattle.blocks.proofs.InsideLaws.{inside-near, no-rule}
 use Rattle.blocks.proofs.StepLaws.{tail-part, holds-right, holds-wrong, longer, step-longer}
 use Rattle.blocks.proofs.FirstLaws.{firsts-more}
 
@@ -34,7 +37,7 @@ module _ (s : List ℕ) (p : ℕ) where
   pub walk-ended : blockStep p s ≡ got aTerminal 4 → blocks p s ≡ got [] 4
   walk-ended e = blocks-step p s ∙ rw e
 
-  pub walk-refused : {f : Fault} {q : ℕ} → blockStep p s ≡ refused f q → blocks p s ≡ refused f q
+  pub walk-refused : {f : Fault} {q : Spot} → blockStep p s ≡ refused f q → blocks p s ≡ refused f q
   walk-refused e = blocks-step p s ∙ rw e
 
   pub walk-goes-on : {n : ℕ} → n ≡ blockSize s → blockStep p s ≡ got aBlock n → blocks p s ≡ andThen (blocks (p + n) (drop n s)) (λ lengths m. got (n ∷ lengths) (n + m))
@@ -138,7 +141,7 @@ module _ (s : List ℕ) (a : ℕ) where
       value (got ls n) = refl
       value (refused f q) = refl
 
-  pub read-nowhere : length s < a → BlocksAnswer s a (stoppedAt CUT a)
+  pub read-nowhere : length s < a → BlocksAnswer s a (stoppedAt CUT (spotAt (terminal a) 0))
   unfolding blocksRead
   read-nowhere h = all-read (rw (none-left a (drop a s) (omega (arith, length-drop a s))))
 
@@ -155,16 +158,27 @@ module _ (s : List ℕ) (a : ℕ) where
         let n : p + 4 ≡ a + (sum (P .lengths) + 4) = omega (arith, P .adds) in
         all-read (rw (o, l, n, P .first small))
 
-    pub read-stopped : {f : Fault} → ((q : ℕ) → blockStep q (drop p s) ≡ refused f q) → BlocksAnswer s a (stoppedAt f p)
+    pub read-stopped : {f : Fault} {q : Spot} → blockStep p (drop p s) ≡ refused f q → BlocksAnswer s a (stoppedAt f q)
     unfolding blocksRead
     read-stopped h =
-        let o = all ∙ ap (after (P .lengths)) (walk-refused (drop p s) p (h p)) in
+        let o = all ∙ ap (after (P .lengths)) (walk-refused (drop p s) p h) in
         all-read (rw o)
 
-    -- a block by its sizes that is none: what it holds is wrong
-    pub read-wrong : NoBlock s p → {n k : ℕ} → Sized (drop p s) n k → BlocksAnswer s a (stoppedAt BLOCK p)
-    read-wrong none {n} {k} z = go (insideFits k (take n (drop p s))) refl
-      where
-        go : (b : Bool) → b ≡ insideFits k (take n (drop p s)) → BlocksAnswer s a (stoppedAt BLOCK p)
-        go true e = absurd (none n (holds-right (drop p s) z e refl p))
-        go false e = read-stopped (holds-wrong (drop p s) z e refl)
+    module _ {n k : ℕ} (z : Sized (drop p s) n k) where
+      -- a block by its sizes that is none: what it holds is wrong
+      wrong-inside : NoBlock s p → wrong (insideTests k (take n (drop p s))) ≡ 0 → ⊥
+      wrong-inside none e = none n (holds-right (drop p s) z refl e p)
+
+      pub rule-there : NoBlock s p → hasRule k ≡ true
+      rule-there none = go (hasRule k) refl
+        where
+          go : (x : Bool) → hasRule k ≡ x → x ≡ true
+          go true h = refl
+          go false h = absurd (wrong-inside none (sym (no-rule k (take n (drop p s)) h)))
+
+      module _ {b : ℕ} (e : b ≡ wrong (insideTests k (take n (drop p s)))) where
+        pub wrong-near : p + b ≤ length s + 268
+        wrong-near = omega (arith, P .inside, z .inside, length-drop p s, inside-near k (take n (drop p s)), length-take-le n (drop p s) (z .inside))
+
+        pub read-wrong : NoBlock s p → BlocksAnswer s a (stoppedAt BLOCK (spotAt (block p) b))
+        read-wrong none = read-stopped (holds-wrong (drop p s) z e (λ q. wrong-inside none (sym e ∙ q)) p)

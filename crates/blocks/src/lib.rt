@@ -1,15 +1,20 @@
 // Blocks (FORMAT: Blocks): what stands where one is due, and the walks over them up to the terminal block.
 use format::Fault;
 use format::Place;
+use format::Spot;
 use format::Taken;
+use format::spot_at;
+use format::unless;
 use octets::Cursor;
 ghost use mathlib.Core.Path.{_≡_};
 ghost use mathlib.Core.Bool.{true};
 ghost use Prim.Native.Nat.{_≤_};
 ghost use lib.ListN.{length};
-ghost use Rattle.format.specs.Blocks.{slotOf, sizeFits, pathTexts, insideFits};
+ghost use Rattle.format.specs.Tests.{spotAt};
+ghost use Rattle.format.specs.Blocks.{slotOf, sizeFits, pathTests, insideTests};
 ghost use Rattle.format.specs.Shortcut.{most};
-ghost use Rattle.blocks.specs.Steps.Walk.{StepAnswer, Stands, noFirsts, fieldOf, noted, Passed, NoBlock, BlocksAnswer, readTo, stoppedAt, blockFrom, nthBlock};
+ghost use Rattle.format.specs.Steps.Wrong.{wrong};
+ghost use Rattle.blocks.specs.Steps.Walk.{hasRule, StepAnswer, Stands, noFirsts, fieldOf, noted, Passed, NoBlock, BlocksAnswer, readTo, stepSite, stoppedAt, blockFrom, nthBlock};
 
 // A block of so many bytes, with the slot of its signature; or the terminal block; or neither.
 pub enum BlockStep {
@@ -18,7 +23,7 @@ pub enum BlockStep {
     Refused(Fault),
 }
 
-// The blocks up to the terminal as a single body, with the cursor after it; or the fault and where its block starts.
+// The blocks up to the terminal as a single body, with the cursor after it; or the fault and where it stands.
 // Beside it, for each slot where its signature first stands; 0 where it does not, and after a refusal.
 pub struct BlocksRead {
     pub taken: Taken,
@@ -67,25 +72,38 @@ fn size_ok(slot: usize, n: usize) -> bool
     }
 }
 
-// Both texts end in their room: 260 bytes from 8 on, and as many units from 268 on.
-fn path_texts(b: &[u8]) -> bool
+// The first text that does not end in its room, or 0: 260 bytes from 8 on, and as many units from 268 on.
+fn path_wrong(b: &[u8]) -> usize
     requires { ⌜ 0x314 ≤ length (now b) ⌝ }
-    ensures { λ r. ⌜ r ≡ pathTexts (now (b .entry)) ⌝ }
+    ensures { λ r. ⌜ r ≡ wrong (pathTests (now (b .entry))) ⌝ }
 {
-    octets::has_zero(false, &b[8..268]) & octets::has_zero(true, &b[268..788])
+    let bytes = octets::has_zero(false, &b[8..268]);
+    let units = octets::has_zero(true, &b[268..788]);
+    unless(bytes, 8, unless(units, 268, 0))
 }
 
-// What the block holds. Few have a rule for it.
-fn inside_ok(slot: usize, b: &[u8]) -> bool
+// The first field found wrong of what a block with a rule holds, or 0: items from byte 8 on, or two texts.
+fn held_wrong(slot: usize, b: &[u8]) -> usize
+    requires { ⌜ (hasRule slot ≡ true) × (sizeFits slot (length (now b)) ≡ true) ⌝ }
+    ensures { λ r. ⌜ r ≡ wrong (insideTests slot (now (b .entry))) ⌝ }
+{
+    if slot == 10 {
+        return items::items_wrong(&b[8..], 8);
+    }
+    path_wrong(b)
+}
+
+// The first field found wrong of what the block holds, or 0. Most have no rule for it, and cost no call.
+fn inside_wrong(slot: usize, b: &[u8]) -> usize
     requires { ⌜ sizeFits slot (length (now b)) ≡ true ⌝ }
-    ensures { λ r. ⌜ r ≡ insideFits slot (now (b .entry)) ⌝ }
+    ensures { λ r. ⌜ r ≡ wrong (insideTests slot (now (b .entry))) ⌝ }
 {
     match slot {
-        0 => path_texts(b),
-        5 => path_texts(b),
-        6 => path_texts(b),
-        10 => items::item_list(&b[8..]),
-        _ => true,
+        0 => held_wrong(0, b),
+        5 => held_wrong(5, b),
+        6 => held_wrong(6, b),
+        10 => held_wrong(10, b),
+        _ => 0,
     }
 }
 
@@ -122,7 +140,7 @@ fn judged(rest: &[u8]) -> BlockStep
 {
     match step(rest) {
         BlockStep::Block(n, slot) => {
-            if inside_ok(slot, &rest[..n]) {
+            if inside_wrong(slot, &rest[..n]) == 0 {
                 return BlockStep::Block(n, slot);
             }
             BlockStep::Refused(Fault::Block)
@@ -194,13 +212,23 @@ fn read_to(start: usize, p: usize, firsts: [u32; 11]) -> BlocksRead
     }
 }
 
-fn stopped(f: Fault, p: usize) -> BlocksRead
-    ensures { λ r. ⌜ r ≡ stoppedAt f p ⌝ }
+fn stopped(f: Fault, q: Spot) -> BlocksRead
+    ensures { λ r. ⌜ r ≡ stoppedAt f q ⌝ }
 {
     BlocksRead {
-        taken: Taken::Refused(f, p),
+        taken: Taken::Refused(f, q),
         firsts: no_firsts(),
     }
+}
+
+// The size of what is due at p, with so many bytes left: a block's, or the terminal's where no size is left.
+fn size_spot(p: usize, left: usize) -> Spot
+    ensures { λ r. ⌜ r ≡ spotAt (stepSite p left) 0 ⌝ }
+{
+    if left < 4 {
+        return spot_at(9, p, 0);
+    }
+    spot_at(8, p, 0)
 }
 
 pub fn blocks(s: &[u8], c: Cursor) -> BlocksRead
@@ -209,14 +237,18 @@ pub fn blocks(s: &[u8], c: Cursor) -> BlocksRead
 {
     let start = c.at;
     if s.len() < start {
-        return stopped(Fault::Cut, start);
+        return stopped(Fault::Cut, size_spot(start, 0));
     }
     let mut firsts = no_firsts();
     let p = run(s, start, &mut firsts);
-    match step(&s[p..]) {
+    let rest = &s[p..];
+    match step(rest) {
         BlockStep::Terminal => read_to(start, p, firsts),
-        BlockStep::Refused(f) => stopped(f, p),
-        BlockStep::Block(_, _) => stopped(Fault::Block, p),
+        BlockStep::Refused(f) => stopped(f, size_spot(p, rest.len())),
+        BlockStep::Block(n, slot) => stopped(
+            Fault::Block,
+            spot_at(8, p, held_wrong(slot, &rest[..n])),
+        ),
     }
 }
 

@@ -2,7 +2,7 @@
 use mathlib.Core.Path.{_≡_, refl, sym, ap, _∙_}
 use mathlib.Core.List.{List, [], _∷_}
 use mathlib.Core.Bool.{true}
-use Prim.Native.Nat.{ℕ, _+_, _≤_}
+use Prim.Native.Nat.{ℕ, _+_, _-_, _≤_}
 use native.Mathlib.Omega.{arith}
 use lib.ListN.{length}
 use lib.Dec.{leb, eqb}
@@ -14,7 +14,8 @@ use Rattle.format.specs.declared.Fault.{Fault}
 use Rattle.format.specs.declared.Fault.the-variants.{Long as LONG, Trail as TRAIL}
 use Rattle.format.specs.declared.Verdict.{Verdict}
 use Rattle.format.specs.declared.Verdict.the-variants.{Accepted, Refused}
-use Rattle.format.specs.Tests.{Outcome, got, refused, _else_, tests, andThen}
+use Rattle.format.specs.declared.Spot.{Spot}
+use Rattle.format.specs.Tests.{Outcome, got, refused, _else_at_, tests, andThen, section, noSection, spotAt, nowhere}
 use Rattle.format.specs.Shortcut.{Sections, most, sections, shortcut, recordOf, noRecord, verdictOf, heldBy, reading}
 use Rattle.format.specs.Bodies.{placed, bodies, allInside}
 use Rattle.format.specs.Contents.{Contents, present, bodiesOf, contents}
@@ -34,12 +35,12 @@ pub record Whole (s : List ℕ) (c : Sections) (n : ℕ) : Type 0 where
 pub shortcut-whole : (s : List ℕ) (c : Sections) (n : ℕ) → shortcut s ≡ got c n → Whole s c n
 unfolding shortcut
 shortcut-whole s c n e =
-    let i = passed most (leb (length s) most else LONG ∷ []) _ e in
+    let i = passed noSection (leb (length s) most else LONG at most ∷ []) _ e in
     go (leb-true _ _ (i .0 .0)) (sections 0 s) refl (i .1)
   where
-    go : length s ≤ most → (r : Outcome Sections) → sections 0 s ≡ r → andThen r (λ c n. tests n (eqb n (length s) else TRAIL ∷ []) (got c n)) ≡ got c n → Whole s c n
+    go : length s ≤ most → (r : Outcome Sections) → sections 0 s ≡ r → andThen r (λ c n. tests (section 9 (n - 4)) (eqb n (length s) else TRAIL at 4 ∷ []) (got c n)) ≡ got c n → Whole s c n
     go l (got a k) i h =
-        let j = passed k (eqb k (length s) else TRAIL ∷ []) (got a k) h in
+        let j = passed (section 9 (k - 4)) (eqb k (length s) else TRAIL at 4 ∷ []) (got a k) h in
         got-elim (λ c n. Whole s c n) (j .1) (record { limit = l; read = i; all = eqb-true k (length s) (j .0 .0) })
     go l (refused x y) i h = no-value h
 
@@ -64,16 +65,20 @@ pub accepted-held : (s : List ℕ) {g : Reading} {n : ℕ} → g ≡ reading s �
 accepted-held s {g} e q = sym e ∙ ap (λ (v : Verdict). record { verdict = v; held = g .held }) q
 
 -- a refused one
-pub refused-read : (s : List ℕ) {f : Fault} {p : ℕ} → reading s .verdict ≡ Refused f p → shortcut s ≡ refused f p
+pub record RefusedWith (s : List ℕ) (f : Fault) (p : ℕ) : Type 0 where
+  pub spot : Spot
+  pub is : shortcut s ≡ refused f spot
+  pub told : spot .position ≡ p
+
+pub refused-read : (s : List ℕ) {f : Fault} {p : ℕ} → reading s .verdict ≡ Refused f p → RefusedWith s f p
 unfolding reading
 refused-read s {f} {p} e = go (shortcut s) refl e
   where
-    go : (o : Outcome Sections) → shortcut s ≡ o → verdictOf o ≡ Refused f p → shortcut s ≡ refused f p
+    go : (o : Outcome Sections) → shortcut s ≡ o → verdictOf o ≡ Refused f p → RefusedWith s f p
     go (got c n) i h = absurd (let z : _≡_ {A = ℕ} 0 1 = cc in omega arith)
     go (refused x y) i h =
         let a : x ≡ f = cc in
-        let b : y ≡ p = cc in
-        i ∙ rw (a, b)
+        record { spot = y; is = i ∙ ap (λ (g : Fault). refused g y) a; told = cc }
 
 -- ---- what holds of an accepted one
 
@@ -152,11 +157,11 @@ decode-accepted s c n e = go (shortcut s) refl (sym (decode-is s) ∙ e)
     go (refused f p) i h = no-value h
 
 -- a refusal: the same for places and for contents
-pub decode-refused : (s : List ℕ) (f : Fault) (p : ℕ) → decode s ≡ refused f p → Refuses s f p
+pub decode-refused : (s : List ℕ) (f : Fault) (p : Spot) → decode s ≡ refused f p → Refuses s f (p .position)
 unfolding Refuses reading
 decode-refused s f p e = go (shortcut s) refl (sym (decode-is s) ∙ e)
   where
-    go : (o : Outcome Sections) → shortcut s ≡ o → mapped (λ c. bodiesOf s (recordOf c)) o ≡ refused f p → reading s ≡ record { verdict = Refused f p; held = noRecord }
+    go : (o : Outcome Sections) → shortcut s ≡ o → mapped (λ c. bodiesOf s (recordOf c)) o ≡ refused f p → reading s ≡ record { verdict = Refused f (p .position); held = noRecord }
     go (got a m) i h = absurd (let z : _≡_ {A = ℕ} 0 1 = cc in omega arith)
     go (refused x y) i h =
         let a : x ≡ f = cc in

@@ -1,23 +1,38 @@
 -- The laws of the blocks.
 use mathlib.Core.Path.{_≡_, refl, sym, ap, _∙_}
 use mathlib.Core.List.{List, [], _∷_, _++_, append-assoc, append-nil}
-use mathlib.Core.Bool.{Bool, true, false, cond}
+use mathlib.Core.Bool.{Bool, true, false, cond, _||_}
 use Prim.Native.Nat.{ℕ, zero, suc, _+_, _-_, _≤_, _<_}
 use native.Mathlib.Omega.{arith}
 use native.Mathlib.Nat.{add-sub-of-le}
 use lib.ListN.{length, take, drop, length-append, length-take, length-drop}
 use lib.Seq.{length-take-le, take-take, take-at, drop-at, drop-drop}
+use lib.Dec.{eqb}
 use borrow.Author.Tests.{leb-true, le-leb, lt-leb, lt-ltb, le-ltb, eqb-true, eq-eqb}
 use Rattle.octets.specs.Numbers.{Bytes, little}
 use Rattle.octets.proofs.NumberLaws.{bytes-take, bytes-append, bytes-little, length-little, number-back, number-same}
 use Rattle.format.specs.declared.Fault.{Fault}
-use Rattle.format.specs.declared.Fault.the-variants.{Cut as CUT}
-use Rattle.format.specs.Tests.{Outcome, got, refused, Test, tests, Reader, andThen}
-use Rattle.format.specs.Blocks.{Standing, aBlock, blockSize, blockTests, blockStep, follow, blocksFrom, blocks}
+use Rattle.format.specs.declared.Fault.the-variants.{Cut as CUT, Block as BLOCK}
+use Rattle.format.specs.declared.Spot.{Spot}
+use Rattle.format.specs.Tests.{Outcome, got, refused, Test, tests, Reader, andThen, Site, spotAt}
+use Rattle.format.specs.Items.{itemTests}
+use Rattle.format.specs.Blocks.{Standing, aBlock, blockSize, blockTests, blockStep, follow, blocksFrom, blocks, block, terminal, slotOf, pathTests, insideTests}
 use Rattle.format.specs.Shortcut.{sum}
 use Rattle.format.specs.Writing.{blocksBytes, takes, writableBlocks}
 use Rattle.format.proofs.Bools.{by-order}
+use Rattle.format.proofs.WrongLaws.{Faults}
+use Rattle.format.proofs.ItemsLaws.{item-faults}
 use Rattle.format.proofs.Chains.{Pass, pass, passed, got-elim, no-value, no-true, drop-take, Ok, Fits, CutBy, Law}
+
+-- all tests of what a block holds give BLOCK, at fields after its size
+pub inside-faults : (slot : ℕ) (b : List ℕ) → Faults BLOCK (insideTests slot b)
+unfolding insideTests
+inside-faults slot b = go (eqb slot (slotOf 0xA0000001) || eqb slot (slotOf 0xA0000006) || eqb slot (slotOf 0xA0000007)) (eqb slot (slotOf 0xA000000C))
+  where
+    go : (x y : Bool) → Faults BLOCK (cond x (pathTests b) (cond y (itemTests BLOCK 8 0 (drop 8 b)) []))
+    go true y = (refl, (omega arith, (refl, (omega arith, tt))))
+    go false true = item-faults BLOCK 8 0 (drop 8 b) (omega arith)
+    go false false = tt
 
 -- ---- one step of the walk
 
@@ -27,18 +42,18 @@ skip p zero s = refl
 skip p (suc k) [] = refl
 skip p (suc k) (a ∷ s) = skip p k s
 
-pub none-left : (p : ℕ) (s : List ℕ) → length s < 4 → blocks p s ≡ refused CUT p
+pub none-left : (p : ℕ) (s : List ℕ) → length s < 4 → blocks p s ≡ refused CUT (spotAt (terminal p) 0)
 unfolding blocksFrom
 none-left p [] h = refl
 none-left p (a ∷ s) h = rw (lt-leb 4 (length (a ∷ s)) h)
 
 -- what follows a step follows its tests
-follow-tests : (p : ℕ) (ts : List Test) (o : Outcome Standing) (rest : Outcome (List ℕ)) → follow (tests p ts o) rest ≡ tests p ts (follow o rest)
-follow-tests p [] o rest = refl
-follow-tests p (t ∷ ts) o rest = go (t .holds) (follow-tests p ts o rest)
+follow-tests : (w : Site) (ts : List Test) (o : Outcome Standing) (rest : Outcome (List ℕ)) → follow (tests w ts o) rest ≡ tests w ts (follow o rest)
+follow-tests w [] o rest = refl
+follow-tests w (t ∷ ts) o rest = go (t .holds) (follow-tests w ts o rest)
   where
-    go : (b : Bool) → follow (tests p ts o) rest ≡ tests p ts (follow o rest)
-        → follow (cond b (tests p ts o) (refused (t .fault) p)) rest ≡ cond b (tests p ts (follow o rest)) (refused (t .fault) p)
+    go : (b : Bool) → follow (tests w ts o) rest ≡ tests w ts (follow o rest)
+        → follow (cond b (tests w ts o) (refused (t .fault) (spotAt w (t .field)))) rest ≡ cond b (tests w ts (follow o rest)) (refused (t .fault) (spotAt w (t .field)))
     go true e = e
     go false e = refl
 
@@ -51,16 +66,16 @@ the-end p (a ∷ s) h t = rw (le-leb 4 (length (a ∷ s)) h, lt-ltb (blockSize (
 abbrev more : ℕ → ℕ → List ℕ → Outcome (List ℕ)
 more p n s = andThen (blocks (p + n) (drop n s)) (λ lengths m. got (n ∷ lengths) (n + m))
 
-more-refused : (p n : ℕ) (s : List ℕ) {x : Fault} {y : ℕ} → blocks (p + n) (drop n s) ≡ refused x y → more p n s ≡ refused x y
+more-refused : (p n : ℕ) (s : List ℕ) {x : Fault} {y : Spot} → blocks (p + n) (drop n s) ≡ refused x y → more p n s ≡ refused x y
 more-refused p n s e = rw e
 
-pub one-more : (p : ℕ) (s : List ℕ) → 4 ≤ length s → 4 ≤ blockSize s → blocks p s ≡ tests p (blockTests s) (more p (blockSize s) s)
+pub one-more : (p : ℕ) (s : List ℕ) → 4 ≤ length s → 4 ≤ blockSize s → blocks p s ≡ tests (block p) (blockTests s) (more p (blockSize s) s)
 unfolding blocksFrom
 one-more p [] h t = absurd (omega arith)
 one-more p (a ∷ s) h t =
     let n : ℕ = blockSize (a ∷ s) in
     let d : drop n (a ∷ s) ≡ drop (n - 1) s = rest n (omega arith) in
-    rw (le-leb 4 (length (a ∷ s)) h, le-ltb n 4 t, skip (p + n) (n - 1) s, d) (follow-tests p (blockTests (a ∷ s)) (got aBlock n) (blocks (p + n) (drop (n - 1) s)))
+    rw (le-leb 4 (length (a ∷ s)) h, le-ltb n 4 t, skip (p + n) (n - 1) s, d) (follow-tests (block p) (blockTests (a ∷ s)) (got aBlock n) (blocks (p + n) (drop (n - 1) s)))
   where
     rest : (n : ℕ) → 0 < n → drop n (a ∷ s) ≡ drop (n - 1) s
     rest zero h = absurd (omega arith)
@@ -73,7 +88,7 @@ blocks-step p s =
     by-order 4 (length s)
     (λ h.
     by-order 4 (blockSize s)
-    (λ t. one-more p s h t ∙ rw (le-leb 4 (length s) h, le-ltb (blockSize s) 4 t) (sym (follow-tests p (blockTests s) (got aBlock (blockSize s)) rest)))
+    (λ t. one-more p s h t ∙ rw (le-leb 4 (length s) h, le-ltb (blockSize s) 4 t) (sym (follow-tests (block p) (blockTests s) (got aBlock (blockSize s)) rest)))
     (λ t. the-end p s h t ∙ rw (le-leb 4 (length s) h, lt-ltb (blockSize s) 4 t)))
     (λ h. none-left p s h ∙ rw (lt-leb 4 (length s) h))
 
@@ -86,7 +101,7 @@ step-elim p s X f g lengths n e =
     by-order 4 (length s)
     (λ h.
     by-order 4 (blockSize s)
-    (λ t. let i = passed p (blockTests s) (more p (blockSize s) s) (sym (one-more p s h t) ∙ e) in go (i .0) (blocks (p + blockSize s) (drop (blockSize s) s)) refl (i .1))
+    (λ t. let i = passed (block p) (blockTests s) (more p (blockSize s) s) (sym (one-more p s h t) ∙ e) in go (i .0) (blocks (p + blockSize s) (drop (blockSize s) s)) refl (i .1))
     (λ t. got-elim X (sym (the-end p s h t) ∙ e) (f h t)))
     (λ h. no-value (sym (none-left p s h) ∙ e))
   where
@@ -140,7 +155,7 @@ same-blocks (suc k) p s lengths n l e q t =
     let v : blockSize (drop (m - 4) (drop n t)) < 4 = rw (drop-drop (m - 4) n t, ← a) o in
     let d : Pass (blockTests t) = rw (f, y) (c .0, (le-leb n (length t) (omega arith), c .1 .1)) in
     let h = same-blocks k (p + n) (drop n s) ls m (omega (arith, length-drop n s)) i (q + n) (drop n t) z (omega (arith, length-drop n t)) v in
-    one-more q t (omega arith) (omega arith) ∙ pass q (blockTests t) (more q (blockSize t) t) d ∙ rw (f, h))
+    one-more q t (omega arith) (omega arith) ∙ pass (block q) (blockTests t) (more q (blockSize t) t) d ∙ rw (f, h))
     lengths n e
 
 pub blocks-same : (p : ℕ) (s lengths : List ℕ) (n : ℕ) → blocks p s ≡ got lengths n
@@ -148,9 +163,9 @@ pub blocks-same : (p : ℕ) (s lengths : List ℕ) (n : ℕ) → blocks p s ≡ 
 blocks-same p s lengths n e = same-blocks (length s) p s lengths n (omega arith) e
 
 -- what was read ends in a terminal block
-pub terminal : (k p : ℕ) (s lengths : List ℕ) (n : ℕ) → length s ≤ k → blocks p s ≡ got lengths n → blockSize (drop (n - 4) s) < 4
-terminal zero p s lengths n l e = no-value (sym (none-left p s (omega arith)) ∙ e)
-terminal (suc k) p s lengths n l e =
+pub ends-terminal : (k p : ℕ) (s lengths : List ℕ) (n : ℕ) → length s ≤ k → blocks p s ≡ got lengths n → blockSize (drop (n - 4) s) < 4
+ends-terminal zero p s lengths n l e = no-value (sym (none-left p s (omega arith)) ∙ e)
+ends-terminal (suc k) p s lengths n l e =
     step-elim p s (λ lengths n. blockSize (drop (n - 4) s) < 4)
     (λ h z. z)
     (λ c ls m i.
@@ -159,7 +174,7 @@ terminal (suc k) p s lengths n l e =
     let w : n ≤ length s = leb-true n (length s) (c .1 .0) in
     let r = blocks-walked (p + n) (drop n s) ls m i in
     let a : n + m - 4 ≡ n + (m - 4) = omega (arith, r .adds) in
-    let h = terminal k (p + n) (drop n s) ls m (omega (arith, length-drop n s)) i in
+    let h = ends-terminal k (p + n) (drop n s) ls m (omega (arith, length-drop n s)) i in
     rw (a, ← (drop-drop (m - 4) n s)) h)
     lengths n e
 
@@ -168,7 +183,7 @@ cut-blocks : (k p : ℕ) (s lengths : List ℕ) (n : ℕ) → length s ≤ k →
 cut-blocks zero p s lengths n h e l = no-value (sym (none-left p s (omega arith)) ∙ e)
 cut-blocks (suc k) p s lengths n h e l =
     step-elim p s (λ lengths n. l < n → CutBy (p + l) (blocks p (take l s)))
-    (λ i z u. record { position = p; early = omega arith; is = none-left p (take l s) (omega (arith, length-take l s)) })
+    (λ i z u. record { spot = spotAt (terminal p) 0; early = omega arith; is = none-left p (take l s) (omega (arith, length-take l s)) })
     (λ c ls m i u.
     let n : ℕ = blockSize s in
     let t : List ℕ = take l s in
@@ -187,12 +202,12 @@ cut-blocks (suc k) p s lengths n h e l =
     let a : Pass (blockTests t) = rw (f, y) (c .0, (le-leb n (length t) (omega arith), c .1 .1)) in
     let q = cut-blocks k (p + n) (drop n s) ls m (omega (arith, length-drop n s)) i (l - n) (omega arith) in
     record {
-      position = q .position;
+      spot = q .spot;
       early = omega (arith, q .early);
-      is = o ∙ pass p (blockTests t) (more p (blockSize t) t) a ∙ ap (λ (j : ℕ). more p j t) f ∙ more-refused p n t (ap (blocks (p + n)) d ∙ q .is);
+      is = o ∙ pass (block p) (blockTests t) (more p (blockSize t) t) a ∙ ap (λ (j : ℕ). more p j t) f ∙ more-refused p n t (ap (blocks (p + n)) d ∙ q .is);
     })
-    (λ v. record { position = p; early = omega arith; is = o ∙ rw (f, c .0, lt-leb n (length t) (omega arith)) }))
-    (λ g. record { position = p; early = omega arith; is = none-left p t (omega (arith, length-take l s)) }))
+    (λ v. record { spot = spotAt (block p) 0; early = omega arith; is = o ∙ rw (f, c .0, lt-leb n (length t) (omega arith)) }))
+    (λ g. record { spot = spotAt (terminal p) 0; early = omega arith; is = none-left p t (omega (arith, length-take l s)) }))
     lengths n e
 
 -- ---- the section: what it says is the blocks' bytes
@@ -273,7 +288,7 @@ blocks-law = record {
       let a : n - 4 + 4 ≡ n = omega (arith, w .adds) in
       let z : take 4 (drop (n - 4) t) ≡ take 4 (drop (n - 4) s)
       = sym (drop-take (n - 4) 4 t) ∙ rw a (ap (drop (n - 4)) u) ∙ drop-take (n - 4) 4 s in
-      let v : blockSize (drop (n - 4) t) < 4 = rw (number-same 4 4 (drop (n - 4) t) (drop (n - 4) s) 0 z (omega arith)) (terminal (length s) p s ls n (omega arith) i) in
+      let v : blockSize (drop (n - 4) t) < 4 = rw (number-same 4 4 (drop (n - 4) t) (drop (n - 4) s) 0 z (omega arith)) (ends-terminal (length s) p s ls n (omega arith) i) in
       let b : sum ls ≡ n - 4 = omega (arith, w .adds) in
       rw (blocks-same p s ls n i q t y h v, b, y))
       x n e;
@@ -281,6 +296,6 @@ blocks-law = record {
       body-elim p s (λ x n. l < n → CutBy (p + l) (blocksR p (take l s)))
       (λ ls n i h.
       let z = cut-blocks (length s) p s ls n (omega arith) i l h in
-      record { position = z .position; early = z .early; is = rw (z .is) })
+      record { spot = z .spot; early = z .early; is = rw (z .is) })
       x n e;
 }

@@ -12,8 +12,8 @@ use Rattle.octets.specs.Numbers.{Bytes}
 use Rattle.octets.proofs.NumberLaws.{bytes-drop, bytes-append, bytes-nil}
 use Rattle.format.specs.declared.Fault.{Fault}
 use Rattle.format.specs.declared.Fault.the-variants.{Cut as CUT}
-use Rattle.format.specs.Tests.{Outcome, got, refused, Test, tests, Reader, andThen, chain, optional}
-use Rattle.format.specs.Steps.AllTests.{all}
+use Rattle.format.specs.declared.Spot.{Spot}
+use Rattle.format.specs.Tests.{Site, spotAt, Outcome, got, refused, Test, tests, all, inside, Reader, andThen, chain, optional}
 use Rattle.format.specs.Shortcut.{most}
 use Rattle.format.specs.Writing.{ifThere, writableIf}
 use Rattle.format.proofs.Bools.{and-true, and-both, and-assoc, by-order}
@@ -25,26 +25,26 @@ abbrev pub Pass : List Test → Type 0
 Pass [] = Unit {0}
 Pass (t ∷ ts) = (t .holds ≡ true) × Pass ts
 
-choose-got : {A : Type 0} (b : Bool) (r : Outcome A) (f : Fault) (p : ℕ) {a : A} {n : ℕ} → cond b r (refused f p) ≡ got a n → (b ≡ true) × (r ≡ got a n)
+choose-got : {A : Type 0} (b : Bool) (r : Outcome A) (f : Fault) (p : Spot) {a : A} {n : ℕ} → cond b r (refused f p) ≡ got a n → (b ≡ true) × (r ≡ got a n)
 choose-got true r f p e = (refl, e)
 choose-got false r f p e = (cc, cc)
 
 -- in: all tests hold, so the chain is what it leads to
-pub pass : {A : Type 0} (p : ℕ) (ts : List Test) (r : Outcome A) → Pass ts → tests p ts r ≡ r
-pass p [] r h = refl
-pass p (t ∷ ts) r h = rw (h .0) (pass p ts r (h .1))
+pub pass : {A : Type 0} (w : Site) (ts : List Test) (r : Outcome A) → Pass ts → tests w ts r ≡ r
+pass w [] r h = refl
+pass w (t ∷ ts) r h = rw (h .0) (pass w ts r (h .1))
 
 -- out: the chain gave a value, so all tests held
-pub passed : {A : Type 0} (p : ℕ) (ts : List Test) (r : Outcome A) {a : A} {n : ℕ} → tests p ts r ≡ got a n → Pass ts × (r ≡ got a n)
-passed p [] r e = (tt, e)
-passed p (t ∷ ts) r e =
-    let i = choose-got (t .holds) (tests p ts r) (t .fault) p e in
-    let j = passed p ts r (i .1) in
+pub passed : {A : Type 0} (w : Site) (ts : List Test) (r : Outcome A) {a : A} {n : ℕ} → tests w ts r ≡ got a n → Pass ts × (r ≡ got a n)
+passed w [] r e = (tt, e)
+passed w (t ∷ ts) r e =
+    let i = choose-got (t .holds) (tests w ts r) (t .fault) (spotAt w (t .field)) e in
+    let j = passed w ts r (i .1) in
     ((i .0, j .0), j .1)
 
-pub tests-append : {A : Type 0} (p : ℕ) (ts us : List Test) (r : Outcome A) → tests p (ts ++ us) r ≡ tests p ts (tests p us r)
-tests-append p [] us r = refl
-tests-append p (t ∷ ts) us r = ap (λ (x : Outcome _). cond (t .holds) x (refused (t .fault) p)) (tests-append p ts us r)
+pub tests-append : {A : Type 0} (w : Site) (ts us : List Test) (r : Outcome A) → tests w (ts ++ us) r ≡ tests w ts (tests w us r)
+tests-append w [] us r = refl
+tests-append w (t ∷ ts) us r = ap (λ (x : Outcome _). cond (t .holds) x (refused (t .fault) (spotAt w (t .field)))) (tests-append w ts us r)
 
 pub pass-split : (ts us : List Test) → Pass (ts ++ us) → Pass ts × Pass us
 pass-split [] us h = (tt, h)
@@ -67,19 +67,18 @@ pub all-append : (ts us : List Test) → all (ts ++ us) ≡ (all ts && all us)
 all-append [] us = refl
 all-append (t ∷ ts) us = ap (λ (b : Bool). t .holds && b) (all-append ts us) ∙ sym (and-assoc (t .holds) (all ts) (all us))
 
--- all of these tests give the fault f
-abbrev pub Faults : Fault → List Test → Type 0
-Faults f [] = Unit {0}
-Faults f (t ∷ ts) = (t .fault ≡ f) × Faults f ts
+-- a structure's tests hold wherever it starts
+pub pass-inside : (o : ℕ) (ts : List Test) → Pass ts → Pass (inside o ts)
+pass-inside o [] h = tt
+pass-inside o (t ∷ ts) h = (h .0, pass-inside o ts (h .1))
 
--- tests of one fault are one test
-pub one-fault : {A : Type 0} (f : Fault) (p : ℕ) (ts : List Test) (r : Outcome A) → Faults f ts → tests p ts r ≡ cond (all ts) r (refused f p)
-one-fault f p [] r h = refl
-one-fault f p (t ∷ ts) r h = rw (h .0, one-fault f p ts r (h .1)) (go (t .holds))
-  where
-    go : (b : Bool) → cond b (cond (all ts) r (refused f p)) (refused f p) ≡ cond (b && all ts) r (refused f p)
-    go true = refl
-    go false = refl
+pub inside-pass : (o : ℕ) (ts : List Test) → Pass (inside o ts) → Pass ts
+inside-pass o [] h = tt
+inside-pass o (t ∷ ts) h = (h .0, inside-pass o ts (h .1))
+
+pub all-inside : (o : ℕ) (ts : List Test) → all (inside o ts) ≡ all ts
+all-inside o [] = refl
+all-inside o (t ∷ ts) = ap (λ (b : Bool). t .holds && b) (all-inside o ts)
 
 -- ---- values
 
@@ -91,7 +90,7 @@ got-elim X {a} {b} {n} {m} e x =
     subst₂ X p q x
 
 -- a refusal is no value
-pub no-value {ℓ} : {A : Type 0} {X : Type ℓ} {f : Fault} {p : ℕ} {a : A} {n : ℕ} → refused f p ≡ got a n → X
+pub no-value {ℓ} : {A : Type 0} {X : Type ℓ} {f : Fault} {p : Spot} {a : A} {n : ℕ} → refused f p ≡ got a n → X
 no-value e = absurd (let z : _≡_ {A = ℕ} 0 1 = cc in omega arith)
 
 -- false is not true
@@ -99,10 +98,10 @@ pub no-true {ℓ} : {X : Type ℓ} → false ≡ true → X
 no-true e = absurd (let z : _≡_ {A = ℕ} 0 1 = cc in omega arith)
 
 -- a chain of tests that ends in a value: all held, and the value is that one
-pub tests-elim {ℓ} : {A : Type 0} (X : A → ℕ → Type ℓ) (p : ℕ) (ts : List Test) (a : A) (n : ℕ) → (Pass ts → X a n)
-    → (b : A) (m : ℕ) → tests p ts (got a n) ≡ got b m → X b m
-tests-elim X p ts a n f b m e =
-    let i = passed p ts (got a n) e in
+pub tests-elim {ℓ} : {A : Type 0} (X : A → ℕ → Type ℓ) (w : Site) (ts : List Test) (a : A) (n : ℕ) → (Pass ts → X a n)
+    → (b : A) (m : ℕ) → tests w ts (got a n) ≡ got b m → X b m
+tests-elim X w ts a n f b m e =
+    let i = passed w ts (got a n) e in
     got-elim X (i .1) (f (i .0))
 
 -- one reader after another gave a value: so did each
@@ -133,9 +132,9 @@ pub record Fits {A : Type 0} (enc : A → List ℕ) (Valid : A → Type 0) (a : 
 
 -- refused with CUT, at a position not after the place l
 pub record CutBy {A : Type 0} (l : ℕ) (r : Outcome A) : Type 0 where
-  pub position : ℕ
-  pub early : position ≤ l
-  pub is : r ≡ refused CUT position
+  pub spot : Spot
+  pub early : spot .position ≤ l
+  pub is : r ≡ refused CUT spot
 
 pub record Law {A : Type 0} (P : Reader A) (enc : A → List ℕ) (Valid : A → Type 0) : Type 0 where
   pub bytes : (a : A) → Valid a → Bytes (enc a)
@@ -159,7 +158,7 @@ law-same {P = P} {enc = enc} e F = record {
   alike = λ p s a n i q t u h. e q t ∙ F .alike p s a n (sym (e p s) ∙ i) q t u h;
   cut = λ p s a n i k h.
       let z = F .cut p s a n (sym (e p s) ∙ i) k h in
-      record { position = z .position; early = z .early; is = e p (take k s) ∙ z .is };
+      record { spot = z .spot; early = z .early; is = e p (take k s) ∙ z .is };
 }
 
 -- ---- what can be written: what its types give, and a test
@@ -254,8 +253,8 @@ module _ {A B : Type 0} {P : Reader A} {Q : A → Reader B} {f : A → List ℕ}
       let y = F .alike p s a n i p (take l s) (take-take n l s o) (omega (arith, length-take l s)) in
       let d : drop n (take l s) ≡ take (l - n) (drop n s) = rw add-sub-of-le at (drop-take n (l - n) s) in
       let z = (G a) .cut (p + n) (drop n s) b m j (l - n) (omega arith) in
-      record { position = z .position; early = omega (arith, z .early); is = rw (y, d, z .is) })
-      (λ o. let z = F .cut p s a n i l o in record { position = z .position; early = z .early; is = rw (z .is) }))
+      record { spot = z .spot; early = omega (arith, z .early); is = rw (y, d, z .is) })
+      (λ o. let z = F .cut p s a n i l o in record { spot = z .spot; early = z .early; is = rw (z .is) }))
       c k e
 
   pub chain-law : Law (chain P Q) (chainE f g) (ChainV U W)

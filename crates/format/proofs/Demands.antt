@@ -16,7 +16,7 @@ use Rattle.format.specs.declared.Fault.{Fault}
 use Rattle.format.specs.declared.Fault.the-variants.{Cut as CUT, Place as PLACE, Unwritable as UNWRITABLE, Room as ROOM}
 use Rattle.format.specs.declared.Verdict.{Verdict}
 use Rattle.format.specs.declared.Verdict.the-variants.{Accepted, Refused}
-use Rattle.format.specs.Tests.{Outcome, got, refused}
+use Rattle.format.specs.Tests.{Outcome, got, refused, nowhere}
 use Rattle.format.specs.Shortcut.{Sections, shortcut, recordOf, verdictOf, reading}
 use Rattle.format.specs.Bodies.{placed}
 use Rattle.format.specs.Contents.{Contents, present, contents, Same}
@@ -45,7 +45,7 @@ every-input-answered s = go (shortcut s) refl
     go (got c n) i =
         let q = (shortcut-whole s c n i) .all in
         accepted (recordOf c) (rw (i, q))
-    go (refused f p) i = refused-with f p (rw i)
+    go (refused f p) i = refused-with f (p .position) (rw i)
 
 -- reading determines number, position and record
 pub one-answer : (s : List ℕ) (a b : Reading) → a ≡ reading s → b ≡ reading s → a ≡ b
@@ -157,7 +157,7 @@ module _ (r : Record) (d : List ℕ) where
         w = canonical c
 
         answered : Bool → Bool → Bool → Outcome (List ℕ)
-        answered a b e = cond a (cond b (cond e (got w (length w)) (refused ROOM 0)) (refused UNWRITABLE 0)) (refused PLACE 0)
+        answered a b e = cond a (cond b (cond e (got w (length w)) (refused ROOM nowhere)) (refused UNWRITABLE nowhere)) (refused PLACE nowhere)
 
         go : (a : Bool) → placed (length d) r ≡ a → (b : Bool) → writable c ≡ b → (e : Bool) → leb (length w) (length out) ≡ e
             → Ends r d out (verdictOf (answered a b e)) (outputOf (answered a b e) out)
@@ -190,4 +190,4 @@ pub beginning-cut : (s : List ℕ) (r : Record) → Accepts s r → (k : ℕ) �
 unfolding Accepts
 beginning-cut s r e k h =
     let z = beginning s (contents s r) (length s) (accepted-decode s r (length s) e) k h in
-    record { position = z .position; early = z .early; refusal = decode-refused (take k s) CUT (z .position) (z .is) }
+    record { position = z .spot .position; early = z .early; refusal = decode-refused (take k s) CUT (z .spot) (z .is) }

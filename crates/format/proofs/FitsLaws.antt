@@ -16,7 +16,7 @@ use Rattle.format.specs.declared.Info.{Info}
 use Rattle.format.specs.declared.Header.{Header}
 use Rattle.format.specs.declared.Record.{Record}
 use Rattle.format.specs.declared.Fault.the-variants.{Info as INFO}
-use Rattle.format.specs.Tests.{got, _else_, Reader, _then_, noPlace}
+use Rattle.format.specs.Tests.{got, _else_at_, Reader, _then_, noPlace, section}
 use Rattle.format.specs.Presence.{itemsThere, infoThere, nameBit, relativeBit, workdirBit, argumentsBit, iconBit, providerThere}
 use Rattle.format.specs.Header.{header}
 use Rattle.format.specs.Items.{items}
@@ -105,7 +105,7 @@ module _ (s : List ℕ) (bs : Bytes s) where
   info-read p =
       let t : List ℕ = drop p s in
       let l : List ℕ = take (infoSize t) t in
-      tests-elim (λ i n. FitsInfo i) p (sizedTests 4 infoSize (λ n. leb 0x1C n else INFO ∷ []) infoRules infoValue t) (infoFields p l) (infoSize t)
+      tests-elim (λ i n. FitsInfo i) (section 2 p) (sizedTests 2 4 infoSize (λ n. leb 0x1C n else INFO at 0 ∷ []) infoRules infoValue t) (infoFields p l) (infoSize t)
       (λ c. info-below l (bytes-take (infoSize t) t (bytes-drop p s bs)) p)
 
   info-section : (b : Bool) → Always s (sectionIf b noInfo info) (λ c. FitsInfo (c .read))

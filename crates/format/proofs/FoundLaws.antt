@@ -16,7 +16,7 @@ use Rattle.format.specs.declared.Info.{Info}
 use Rattle.format.specs.declared.Header.{Header}
 use Rattle.format.specs.declared.Network.{Network}
 use Rattle.format.specs.declared.Fault.the-variants.{Info as INFO}
-use Rattle.format.specs.Tests.{got, place, noPlace, _else_, chain}
+use Rattle.format.specs.Tests.{got, place, noPlace, _else_at_, chain, section}
 use Rattle.format.specs.Header.{header}
 use Rattle.format.specs.Items.{itemsLength, itemsRules, items}
 use Rattle.format.specs.Pieces.{textEnds, textLength, textPiece, textPlace, testsOf}
@@ -66,7 +66,7 @@ info-present p l =
 
 module _ (f : List ℕ) where
   abbrev string-always : (flags k : ℕ) → Always f (stringSection flags k) (λ c. cond (stringThere k flags) (c .read) noPlace ≡ c .read)
-  string-always flags k = section-always f (string (stringsUnicode flags)) (stringThere k flags) noPlace (λ b. b) (λ p a n e. refl)
+  string-always flags k = section-always f (string (k + 1) (stringsUnicode flags)) (stringThere k flags) noPlace (λ b. b) (λ p a n e. refl)
 
   -- the blocks are what a walk from their start on gives
   abbrev Walk : Section (List ℕ) → Type 0
@@ -91,7 +91,7 @@ module _ (f : List ℕ) where
       then-always f (section-always f items (itemsThere flags) noPlace (λ b. b) (λ p a n e. refl))
       (then-always f (section-always f info (infoThere flags) noInfo presentInfo (λ p a n e.
       let s : List ℕ = drop p f in
-      tests-elim (λ a n. presentInfo a ≡ a) p (sizedTests 4 infoSize (λ n. leb 0x1C n else INFO ∷ []) infoRules infoValue s)
+      tests-elim (λ a n. presentInfo a ≡ a) (section 2 p) (sizedTests 2 4 infoSize (λ n. leb 0x1C n else INFO at 0 ∷ []) infoRules infoValue s)
       (infoFields p (take (infoSize s) s)) (infoSize s) (λ c. info-present p (take (infoSize s) s)) a n e))
       (then-always f (string-always flags nameBit)
       (then-always f (string-always flags relativeBit)
@@ -140,25 +140,25 @@ text-within u l o e =
 abbrev Inside : ℕ → Place → Type 0
 Inside n b = leb (b .at + b .len) n ≡ true
 
-text-inside : (h p : ℕ) (l : List ℕ) (b u : Bool) (o n : ℕ) → p + length l ≤ n → Pass (testsOf h (textPiece b u l o)) → Inside n (textPlace b u p l o)
-text-inside h p l true u o n k e =
+text-inside : (h p : ℕ) (l : List ℕ) (b u : Bool) (i o n : ℕ) → p + length l ≤ n → Pass (testsOf h (textPiece b u l i o)) → Inside n (textPlace b u p l o)
+text-inside h p l true u i o n k e =
     le-leb (p + o + textLength u (drop o l)) n (omega (arith, text-within u l o (e .1 .0)))
-text-inside h p l false u o n k e = le-leb (0 + 0) n (omega arith)
+text-inside h p l false u i o n k e = le-leb (0 + 0) n (omega arith)
 
 place-of : (u : Bool) (b : Place) → labelPlace (labelOf u b) ≡ b
 place-of true b = refl
 place-of false b = refl
 
-volume-inside : (h p : ℕ) (l : List ℕ) (b : Bool) (o n : ℕ) → p + length l ≤ n → Pass (testsOf h (volumePiece b l o)) → Inside n (labelPlace (volumeAt b p l o .label))
-volume-inside h p l true o n k e =
-    let c = struct-holds 0x11 volumeRules (drop o l) (e .1) in
+volume-inside : (h p : ℕ) (l : List ℕ) (b : Bool) (i o n : ℕ) → p + length l ≤ n → Pass (testsOf h (volumePiece b l i o)) → Inside n (labelPlace (volumeAt b p l o .label))
+volume-inside h p l true i o n k e =
+    let c = struct-holds i o 0x11 volumeRules (drop o l) (e .1) in
     let m : ℕ = u32At (drop o l) 0 in
     let v : List ℕ = take m (drop o l) in
     let r : length v ≡ m = length-take-le m (drop o l) (c .inside) in
     let t = text-within (labelUnicode v) v (labelOffset v) (volume-holds v (c .own) .ends) in
     rw (place-of (labelUnicode v))
     (le-leb (p + o + labelOffset v + textLength (labelUnicode v) (drop (labelOffset v) v)) n (omega (arith, length-drop o l)))
-volume-inside h p l false o n k e = le-leb (0 + 0) n (omega arith)
+volume-inside h p l false i o n k e = le-leb (0 + 0) n (omega arith)
 
 abbrev networkBodies : Network → List Place
 networkBodies n = n .net ∷ n .device ∷ n .«net_unicode» ∷ n .«device_unicode» ∷ []
@@ -174,9 +174,9 @@ record NetworkInside (n : ℕ) (k : Network) : Type 0 where
   netUnicode : Inside n (k .«net_unicode»)
   deviceUnicode : Inside n (k .«device_unicode»)
 
-network-inside : (h p : ℕ) (l : List ℕ) (b : Bool) (o n : ℕ) → p + length l ≤ n → Pass (testsOf h (networkPiece b l o)) → NetworkInside n (networkAt b p l o)
-network-inside h p l true o n k e =
-    let c = struct-holds 0x14 networkRules (drop o l) (e .1) in
+network-inside : (h p : ℕ) (l : List ℕ) (b : Bool) (i o n : ℕ) → p + length l ≤ n → Pass (testsOf h (networkPiece b l i o)) → NetworkInside n (networkAt b p l o)
+network-inside h p l true i o n k e =
+    let c = struct-holds i o 0x14 networkRules (drop o l) (e .1) in
     let m : ℕ = u32At (drop o l) 0 in
     let v : List ℕ = take m (drop o l) in
     let r : length v ≡ m = length-take-le m (drop o l) (c .inside) in
@@ -184,12 +184,12 @@ network-inside h p l true o n k e =
     let g : ℕ = networkHead (networkUnicode v) in
     let d = network-pieces-hold v (pass-split (networkHeadTests v) (networkPieceTests v) (c .own) .1) in
     record {
-      net = text-inside g (p + o) v true false (u32At v 8) n j (d .net);
-      device = text-inside g (p + o) v (hasDevice v) false (u32At v 12) n j (d .device);
-      netUnicode = text-inside g (p + o) v (networkUnicode v) true (u32At v 20) n j (d .netUnicode);
-      deviceUnicode = text-inside g (p + o) v (hasDeviceUnicode v) true (u32At v 24) n j (d .deviceUnicode);
+      net = text-inside g (p + o) v true false 8 (u32At v 8) n j (d .net);
+      device = text-inside g (p + o) v (hasDevice v) false 12 (u32At v 12) n j (d .device);
+      netUnicode = text-inside g (p + o) v (networkUnicode v) true 20 (u32At v 20) n j (d .netUnicode);
+      deviceUnicode = text-inside g (p + o) v (hasDeviceUnicode v) true 24 (u32At v 24) n j (d .deviceUnicode);
     }
-network-inside h p l false o n k e =
+network-inside h p l false i o n k e =
     let z : Inside n noPlace = le-leb (0 + 0) n (omega arith) in
     record { net = z; device = z; netUnicode = z; deviceUnicode = z }
 
@@ -203,19 +203,19 @@ info-inside f p i n =
     let s : List ℕ = drop p f in
     let m : ℕ = infoSize s in
     let l : List ℕ = take m s in
-    tests-elim (λ i n. allInside (p + n) (infoBodies i) ≡ true) p (sizedTests 4 infoSize (λ n. leb 0x1C n else INFO ∷ []) infoRules infoValue s) (infoFields p l) m
+    tests-elim (λ i n. allInside (p + n) (infoBodies i) ≡ true) (section 2 p) (sizedTests 2 4 infoSize (λ n. leb 0x1C n else INFO at 0 ∷ []) infoRules infoValue s) (infoFields p l) m
     (λ c.
     let k : p + length l ≤ p + m = omega (arith, length-take m s) in
-    let g = sized-holds 4 infoSize (λ n. leb 0x1C n else INFO ∷ []) infoRules infoValue s c in
+    let g = sized-holds 2 4 infoSize (λ n. leb 0x1C n else INFO at 0 ∷ []) infoRules infoValue s c in
     let d = info-pieces-hold l (pass-split (infoHeadTests l) (infoPieceTests l) (g .judged) .1) in
     let h : ℕ = infoHead l in
     nine (p + m) (infoFields p l)
-    (volume-inside h p l (hasLocal l) (u32At l 12) (p + m) k (d .volume))
-    (text-inside h p l (hasLocal l) false (u32At l 16) (p + m) k (d .local))
-    (network-inside h p l (hasNetwork l) (u32At l 20) (p + m) k (d .network))
-    (text-inside h p l true false (u32At l 24) (p + m) k (d .suffix))
-    (text-inside h p l (hasLocalUnicode l) true (u32At l 28) (p + m) k (d .localUnicode))
-    (text-inside h p l (longHead l) true (u32At l 32) (p + m) k (d .suffixUnicode)))
+    (volume-inside h p l (hasLocal l) 12 (u32At l 12) (p + m) k (d .volume))
+    (text-inside h p l (hasLocal l) false 16 (u32At l 16) (p + m) k (d .local))
+    (network-inside h p l (hasNetwork l) 20 (u32At l 20) (p + m) k (d .network))
+    (text-inside h p l true false 24 (u32At l 24) (p + m) k (d .suffix))
+    (text-inside h p l (hasLocalUnicode l) true 28 (u32At l 28) (p + m) k (d .localUnicode))
+    (text-inside h p l (longHead l) true 32 (u32At l 32) (p + m) k (d .suffixUnicode)))
     i n
 
 one : (n : ℕ) (b : Place) → Inside n b → allInside n (b ∷ []) ≡ true
@@ -225,15 +225,15 @@ items-inside : (f : List ℕ) (p : ℕ) (b : Place) (n : ℕ) → items p (drop 
 items-inside f p b n =
     let s : List ℕ = drop p f in
     let m : ℕ = itemsLength s in
-    tests-elim (λ b n. allInside (p + n) (b ∷ []) ≡ true) p (sizedTests 2 itemsLength (λ n. []) itemsRules itemsValue s) (place (p + 2) (m - 4)) m
+    tests-elim (λ b n. allInside (p + n) (b ∷ []) ≡ true) (section 1 p) (sizedTests 1 2 itemsLength (λ n. []) itemsRules itemsValue s) (place (p + 2) (m - 4)) m
     (λ c. one (p + m) (place (p + 2) (m - 4)) (le-leb (p + 2 + (m - 4)) (p + m) (omega arith)))
     b n
 
-string-inside : (f : List ℕ) (u : Bool) (p : ℕ) (b : Place) (n : ℕ) → string u p (drop p f) ≡ got b n → allInside (p + n) (b ∷ []) ≡ true
-string-inside f u p b n =
+string-inside : (f : List ℕ) (k : ℕ) (u : Bool) (p : ℕ) (b : Place) (n : ℕ) → string k u p (drop p f) ≡ got b n → allInside (p + n) (b ∷ []) ≡ true
+string-inside f k u p b n =
     let s : List ℕ = drop p f in
     let m : ℕ = bytesOf u (u16At s 0) in
-    tests-elim (λ b n. allInside (p + n) (b ∷ []) ≡ true) p (sizedTests 2 (stringLength u) (λ n. []) (λ l. []) (λ l. drop 2 l) s) (place (p + 2) m) (2 + m)
+    tests-elim (λ b n. allInside (p + n) (b ∷ []) ≡ true) (section k p) (sizedTests k 2 (stringLength u) (λ n. []) (λ l. []) (λ l. drop 2 l) s) (place (p + 2) m) (2 + m)
     (λ c. one (p + (2 + m)) (place (p + 2) m) (le-leb (p + 2 + m) (p + (2 + m)) (omega arith)))
     b n
 
@@ -265,7 +265,7 @@ module _ (f : List ℕ) where
       nine n noInfo z z (record { net = z; device = z; netUnicode = z; deviceUnicode = z }) z z z
 
   string-lies : (flags k j : ℕ) → Lies f (stringSection flags k) (row j) (λ c. c .read ∷ [])
-  string-lies flags k j = section-lies f (string (stringsUnicode flags)) j (λ b. b ∷ []) (stringThere k flags) noPlace none-inside (string-inside f (stringsUnicode flags))
+  string-lies flags k j = section-lies f (string (k + 1) (stringsUnicode flags)) j (λ b. b ∷ []) (stringThere k flags) noPlace none-inside (string-inside f (k + 1) (stringsUnicode flags))
 
   abbrev tailRows : Tail → List Row
   tailRows c =

@@ -12,7 +12,7 @@ use Rattle.octets.specs.Numbers.{Bytes, number, numberAt, u16At, u32At, u64At, 
 use Rattle.octets.proofs.NumberLaws.{bytes-append, bytes-nil, bytes-little, number-little, number-below}
 use Rattle.format.specs.declared.Header.{Header}
 use Rattle.format.specs.declared.Fault.the-variants.{Cut as CUT}
-use Rattle.format.specs.Tests.{got, refused, tests, Outcome}
+use Rattle.format.specs.Tests.{got, refused, tests, Outcome, section, spotAt}
 use Rattle.format.specs.Header.{classIdentifier, headerSizeOk, identifierOk, flagsOk, attributesOk, zerosFrom66, headerRules, signed, headerFields, header}
 use Rattle.format.specs.Hotkey.{hotkeyOk}
 use Rattle.format.specs.Writing.{bits, headerBytes, writableHeader}
@@ -133,7 +133,7 @@ header-back h v =
           rw (at20 h t, at24 h t, at28 h t, at36 h t, at44 h t, at52 h t, at56 h t, at60 h t, at64 h t, signed-bits (h .«icon_index») (t .«icon_index»));
     }
 
-header-sized : Sized 76 (λ s. 76) (λ n. []) headerRules headerFields headerBytes HeaderV
+header-sized : Sized 0 76 (λ s. 76) (λ n. []) headerRules headerFields headerBytes HeaderV
 header-sized = record {
   first = λ s t e. refl;
   low = λ s e. omega arith;
@@ -161,12 +161,12 @@ header-sized = record {
 }
 
 -- a test asked twice is one test
-header-is : (p : ℕ) (s : List ℕ) → header p s ≡ sizedR 76 (λ s. 76) (λ n. []) headerRules headerFields p s
-header-is p s = go (leb 76 (length s)) (tests p (headerRules (take 76 s)) (got (headerFields (take 76 s)) 76))
+header-is : (p : ℕ) (s : List ℕ) → header p s ≡ sizedR 0 76 (λ s. 76) (λ n. []) headerRules headerFields p s
+header-is p s = go (leb 76 (length s)) (tests (section 0 p) (headerRules (take 76 s)) (got (headerFields (take 76 s)) 76))
   where
-    go : (b : Bool) (r : Outcome Header) → cond b r (refused CUT p) ≡ cond b (cond b r (refused CUT p)) (refused CUT p)
+    go : (b : Bool) (r : Outcome Header) → cond b r (refused CUT (spotAt (section 0 p) 0)) ≡ cond b (cond b r (refused CUT (spotAt (section 0 p) 0))) (refused CUT (spotAt (section 0 p) 0))
     go true r = refl
     go false r = refl
 
 pub header-law : Law header headerBytes HeaderV
-header-law = law-same header-is (sized-law 76 (λ s. 76) (λ n. []) headerRules headerFields header-sized)
+header-law = law-same header-is (sized-law 0 76 (λ s. 76) (λ n. []) headerRules headerFields header-sized)

@@ -1,5 +1,5 @@
 -- The tests of each list, and the conditions of what can be written, by name, and both ways between the names and the list: whoever uses one picks it by its name.
-use mathlib.Core.Path.{_≡_}
+use mathlib.Core.Path.{_≡_, refl, ap}
 use mathlib.Core.List.{List, [], _∷_, map}
 use mathlib.Core.Bool.{true, false, not, _||_}
 use Prim.Native.Nat.{ℕ, _≤_}
@@ -8,10 +8,11 @@ use lib.Dec.{leb}
 use borrow.Author.Tests.{leb-true, le-leb}
 use Rattle.octets.specs.Numbers.{u16At, u32At}
 use Rattle.format.specs.declared.Header.{Header}
+use Rattle.format.specs.declared.Place.{Place}
 use Rattle.format.specs.Tests.{Test}
 use Rattle.format.specs.Header.{headerSizeOk, identifierOk, flagsOk, attributesOk, zerosFrom66, headerRules}
 use Rattle.format.specs.Hotkey.{hotkeyOk}
-use Rattle.format.specs.Pieces.{Piece, textEnds, textPiece, structTests, absentZero, uncut, testsOf, eachOk, span, apartTests, pieceTests}
+use Rattle.format.specs.Pieces.{Piece, textEnds, textPiece, structTests, absentZero, uncut, testsOf, eachOk, span, led, apartTests, pieceTests}
 use Rattle.format.specs.Volume.{labelUnicode, labelOffset, labelLeast, volumeRules, volumePiece}
 use Rattle.format.specs.Network.{networkFlags, hasDevice, networkUnicode, networkHead, networkPieces, networkHeadTests, networkPiece, hasDeviceUnicode}
 use Rattle.format.specs.Info.{infoHead, longHead, headOk, infoFlags, hasLocal, hasNetwork, infoPieces, infoHeadTests, hasLocalUnicode}
@@ -20,8 +21,8 @@ use Rattle.format.specs.Shortcut.{most}
 use Rattle.format.specs.Contents.{NetworkContents, InfoContents, Contents}
 use Rattle.format.specs.Writing.{canonical, writable, writableIf, writableHeader, writableItems, writableText, writableVolume, writableNetwork, writableInfo, writableStringOf, writableBlocks}
 use Rattle.format.proofs.Bools.{every-out, every-in}
-use Rattle.format.proofs.Chains.{Pass, pass-split, pass-join}
-use Rattle.format.proofs.Intervals.{allApart, tests-apart, apart-tests}
+use Rattle.format.proofs.Chains.{Pass, pass-split, pass-join, pass-inside, inside-pass}
+use Rattle.format.proofs.Intervals.{allApart, placesOf, tests-apart, apart-tests}
 
 -- ---- the header
 
@@ -47,13 +48,18 @@ pub record StructHolds (least : ℕ) (rules : List ℕ → List Test) (s : List 
   pub enough : least ≤ u32At s 0
   pub own : Pass (rules (take (u32At s 0) s))
 
-pub struct-holds : (least : ℕ) (rules : List ℕ → List Test) (s : List ℕ) → Pass (structTests least rules s) → StructHolds least rules s
-struct-holds least rules s (a, (b, (c, d))) =
-    record { field = leb-true 4 (length s) a; inside = leb-true (u32At s 0) (length s) b; enough = leb-true least (u32At s 0) c; own = d }
+pub struct-holds : (i o least : ℕ) (rules : List ℕ → List Test) (s : List ℕ) → Pass (structTests i o least rules s) → StructHolds least rules s
+struct-holds i o least rules s (a, (b, (c, d))) =
+    record {
+      field = leb-true 4 (length s) a;
+      inside = leb-true (u32At s 0) (length s) b;
+      enough = leb-true least (u32At s 0) c;
+      own = inside-pass o (rules (take (u32At s 0) s)) d;
+    }
 
-pub struct-passes : (least : ℕ) (rules : List ℕ → List Test) (s : List ℕ) → StructHolds least rules s → Pass (structTests least rules s)
-struct-passes least rules s h =
-    (le-leb 4 (length s) (h .field), (le-leb (u32At s 0) (length s) (h .inside), (le-leb least (u32At s 0) (h .enough), h .own)))
+pub struct-passes : (i o least : ℕ) (rules : List ℕ → List Test) (s : List ℕ) → StructHolds least rules s → Pass (structTests i o least rules s)
+struct-passes i o least rules s h =
+    (le-leb 4 (length s) (h .field), (le-leb (u32At s 0) (length s) (h .inside), (le-leb least (u32At s 0) (h .enough), pass-inside o (rules (take (u32At s 0) s)) (h .own))))
 
 -- ---- pieces
 
@@ -70,13 +76,17 @@ each-in : (head : ℕ) (xs : List Piece) → EachPass head xs → Pass (eachOk h
 each-in head [] h = tt
 each-in head (x ∷ xs) h = pass-join (testsOf head x) (eachOk head xs) (h .0) (each-in head xs (h .1))
 
+spans : (xs : List Piece) → placesOf (map led xs) ≡ map span xs
+spans [] = refl
+spans (x ∷ xs) = ap (λ (l : List Place). span x ∷ l) (spans xs)
+
 pieces-out : (head : ℕ) (xs : List Piece) → Pass (pieceTests head xs) → EachPass head xs × (allApart (map span xs) ≡ true)
 pieces-out head xs c =
-    let i = pass-split (eachOk head xs) (apartTests [] (map span xs)) c in
-    (each-out head xs (i .0), tests-apart [] (map span xs) (i .1) .1)
+    let i = pass-split (eachOk head xs) (apartTests [] (map led xs)) c in
+    (each-out head xs (i .0), rw spans at (tests-apart [] (map led xs) (i .1) .1))
 
 pieces-in : (head : ℕ) (xs : List Piece) → EachPass head xs → allApart (map span xs) ≡ true → Pass (pieceTests head xs)
-pieces-in head xs h e = pass-join (eachOk head xs) (apartTests [] (map span xs)) (each-in head xs h) (apart-tests [] (map span xs) tt e)
+pieces-in head xs h e = pass-join (eachOk head xs) (apartTests [] (map led xs)) (each-in head xs h) (apart-tests [] (map led xs) tt (rw spans e))
 
 -- ---- VolumeID
 
@@ -111,10 +121,10 @@ network-head-passes v h =
     (h .flags, (h .netOffset, (h .netUnicodeField, (h .deviceUnicodeField, (h .deviceOffset, (h .deviceUnicodeOffset, tt))))))
 
 pub record NetworkPiecesHold (v : List ℕ) : Type 0 where
-  pub net : Pass (testsOf (networkHead (networkUnicode v)) (textPiece true false v (u32At v 8)))
-  pub device : Pass (testsOf (networkHead (networkUnicode v)) (textPiece (hasDevice v) false v (u32At v 12)))
-  pub netUnicode : Pass (testsOf (networkHead (networkUnicode v)) (textPiece (networkUnicode v) true v (u32At v 20)))
-  pub deviceUnicode : Pass (testsOf (networkHead (networkUnicode v)) (textPiece (hasDeviceUnicode v) true v (u32At v 24)))
+  pub net : Pass (testsOf (networkHead (networkUnicode v)) (textPiece true false v 8 (u32At v 8)))
+  pub device : Pass (testsOf (networkHead (networkUnicode v)) (textPiece (hasDevice v) false v 12 (u32At v 12)))
+  pub netUnicode : Pass (testsOf (networkHead (networkUnicode v)) (textPiece (networkUnicode v) true v 20 (u32At v 20)))
+  pub deviceUnicode : Pass (testsOf (networkHead (networkUnicode v)) (textPiece (hasDeviceUnicode v) true v 24 (u32At v 24)))
   pub apart : allApart (map span (networkPieces v)) ≡ true
 
 abbrev pub networkPieceTests : List ℕ → List Test
@@ -147,12 +157,12 @@ pub info-head-passes : (l : List ℕ) → InfoHeadHolds l → Pass (infoHeadTest
 info-head-passes l h = (h .head, (h .flags, (h .volumeOffset, (h .localOffset, (h .networkOffset, (h .localUnicodeOffset, tt))))))
 
 pub record InfoPiecesHold (l : List ℕ) : Type 0 where
-  pub volume : Pass (testsOf (infoHead l) (volumePiece (hasLocal l) l (u32At l 12)))
-  pub local : Pass (testsOf (infoHead l) (textPiece (hasLocal l) false l (u32At l 16)))
-  pub network : Pass (testsOf (infoHead l) (networkPiece (hasNetwork l) l (u32At l 20)))
-  pub suffix : Pass (testsOf (infoHead l) (textPiece true false l (u32At l 24)))
-  pub localUnicode : Pass (testsOf (infoHead l) (textPiece (hasLocalUnicode l) true l (u32At l 28)))
-  pub suffixUnicode : Pass (testsOf (infoHead l) (textPiece (longHead l) true l (u32At l 32)))
+  pub volume : Pass (testsOf (infoHead l) (volumePiece (hasLocal l) l 12 (u32At l 12)))
+  pub local : Pass (testsOf (infoHead l) (textPiece (hasLocal l) false l 16 (u32At l 16)))
+  pub network : Pass (testsOf (infoHead l) (networkPiece (hasNetwork l) l 20 (u32At l 20)))
+  pub suffix : Pass (testsOf (infoHead l) (textPiece true false l 24 (u32At l 24)))
+  pub localUnicode : Pass (testsOf (infoHead l) (textPiece (hasLocalUnicode l) true l 28 (u32At l 28)))
+  pub suffixUnicode : Pass (testsOf (infoHead l) (textPiece (longHead l) true l 32 (u32At l 32)))
   pub apart : allApart (map span (infoPieces l)) ≡ true
 
 abbrev pub infoPieceTests : List ℕ → List Test

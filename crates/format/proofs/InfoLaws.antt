@@ -10,7 +10,7 @@ use borrow.Author.Tests.{leb-true, le-leb, lt-leb, eqb-true}
 use Rattle.octets.specs.Numbers.{Bytes, number, numberAt, u32At, little}
 use Rattle.octets.proofs.NumberLaws.{bytes-append, bytes-nil, bytes-little, length-little, number-back, number-little, number-same}
 use Rattle.format.specs.declared.Fault.the-variants.{Info as INFO}
-use Rattle.format.specs.Tests.{_else_}
+use Rattle.format.specs.Tests.{_else_at_}
 use Rattle.format.specs.Pieces.{textSize, textTests, textPiece, span}
 use Rattle.format.specs.Volume.{volumePiece, volumeTests}
 use Rattle.format.specs.Network.{networkPiece, networkTests}
@@ -38,7 +38,7 @@ abbrev pub noNetworkC : NetworkContents
 noNetworkC = record { flags = 0; provider = 0; unicode = false; net = []; device = []; netUnicode = []; deviceUnicode = [] }
 
 abbrev text : Bool → Bool → List ℕ → ℕ → List ℕ
-text u b l o = slot (textTests u) (textSize u) (textValue u) b [] l o
+text u b l o = slot (textValue u) b [] l o
 
 abbrev structSize : List ℕ → ℕ
 structSize s = u32At s 0
@@ -54,9 +54,9 @@ abbrev pub infoValue : List ℕ → InfoContents
 infoValue l = record {
   flags = infoFlags l;
   long = longHead l;
-  volume = slot volumeTests structSize volumeHere (hasLocal l) noVolumeC l (u32At l 12);
+  volume = slot volumeHere (hasLocal l) noVolumeC l (u32At l 12);
   local = text false (hasLocal l) l (u32At l 16);
-  network = slot networkTests structSize networkHere (hasNetwork l) noNetworkC l (u32At l 20);
+  network = slot networkHere (hasNetwork l) noNetworkC l (u32At l 20);
   suffix = text false true l (u32At l 24);
   localUnicode = text true (hasLocalUnicode l) l (u32At l 28);
   suffixUnicode = text true (longHead l) l (u32At l 32);
@@ -90,8 +90,8 @@ head-fits h n k e =
     (λ t. let q : h ≡ 0x1C = eqb-true _ _ t in rw (lt-leb 0x24 h (omega arith)) (omega arith))
     (λ t. let q = and-true (leb 0x24 h) (leb h n) t in rw (q .0) (leb-true _ _ (q .0), leb-true _ _ (q .1)))
 
-abbrev TextFits : Bool → Bool → List ℕ → ℕ → Type 0
-TextFits u b l o = SlotFits (textTests u) (textSize u) (textValue u) b [] (textBytes u) (TextV u) (infoHead l) l o
+abbrev TextFits : ℕ → Bool → Bool → List ℕ → ℕ → Type 0
+TextFits i u b l o = SlotFits i (λ o. textTests i u) (textSize u) (textValue u) b [] (textBytes u) (TextV u) (infoHead l) l o
 
 info-fits : (l : List ℕ) → Bytes l → 0x1C ≤ length l → Pass (infoRules l) → Fits infoBytes InfoV (infoValue l) (length l)
 info-fits l bs k c =
@@ -100,15 +100,15 @@ info-fits l bs k c =
     let x = info-head-holds l c₁ in
     let d = info-pieces-hold l c₂ in
     let q = head-fits h (length l) k (x .head) in
-    let s₁ : SlotFits volumeTests structSize volumeHere (hasLocal l) noVolumeC volumeBytes VolumeV h l (u32At l 12)
-    = slot-fits _ _ _ volume-law (hasLocal l) noVolumeC h l (u32At l 12) bs (d .volume) in
-    let s₂ : TextFits false (hasLocal l) l (u32At l 16) = slot-fits _ _ _ (text-law false) (hasLocal l) [] h l (u32At l 16) bs (d .local) in
-    let s₃ : SlotFits networkTests structSize networkHere (hasNetwork l) noNetworkC networkBytes NetworkV h l (u32At l 20)
-    = slot-fits _ _ _ network-law (hasNetwork l) noNetworkC h l (u32At l 20) bs (d .network) in
-    let s₄ : TextFits false true l (u32At l 24) = slot-fits _ _ _ (text-law false) true [] h l (u32At l 24) bs (d .suffix) in
-    let s₅ : TextFits true (hasLocalUnicode l) l (u32At l 28)
-    = slot-fits _ _ _ (text-law true) (hasLocalUnicode l) [] h l (u32At l 28) bs (d .localUnicode) in
-    let s₆ : TextFits true (longHead l) l (u32At l 32) = slot-fits _ _ _ (text-law true) (longHead l) [] h l (u32At l 32) bs (d .suffixUnicode) in
+    let s₁ : SlotFits 12 (volumeTests 12) structSize volumeHere (hasLocal l) noVolumeC volumeBytes VolumeV h l (u32At l 12)
+    = slot-fits 12 _ _ _ (volume-law 12) (hasLocal l) noVolumeC h l (u32At l 12) bs (d .volume) in
+    let s₂ : TextFits 16 false (hasLocal l) l (u32At l 16) = slot-fits 16 _ _ _ (λ o. text-law 16 false) (hasLocal l) [] h l (u32At l 16) bs (d .local) in
+    let s₃ : SlotFits 20 (networkTests 20) structSize networkHere (hasNetwork l) noNetworkC networkBytes NetworkV h l (u32At l 20)
+    = slot-fits 20 _ _ _ (network-law 20) (hasNetwork l) noNetworkC h l (u32At l 20) bs (d .network) in
+    let s₄ : TextFits 24 false true l (u32At l 24) = slot-fits 24 _ _ _ (λ o. text-law 24 false) true [] h l (u32At l 24) bs (d .suffix) in
+    let s₅ : TextFits 28 true (hasLocalUnicode l) l (u32At l 28)
+    = slot-fits 28 _ _ _ (λ o. text-law 28 true) (hasLocalUnicode l) [] h l (u32At l 28) bs (d .localUnicode) in
+    let s₆ : TextFits 32 true (longHead l) l (u32At l 32) = slot-fits 32 _ _ _ (λ o. text-law 32 true) (longHead l) [] h l (u32At l 32) bs (d .suffixUnicode) in
     let p : h + total (map span (infoPieces l)) ≤ length l
     = pack h (length l) (map span (infoPieces l)) (q .1) (s₁ .within, (s₂ .within, (s₃ .within, (s₄ .within, (s₅ .within, (s₆ .within, tt))))))
     (d .apart) in
@@ -229,53 +229,53 @@ module _ (i : InfoContents) (v : InfoV i) (m : length (infoBytes i) ≤ most) wh
   d₆ : drop (suffixUnicodeStart i) (infoBytes i) ≡ suffixUnicodeBytes i ++ []
   d₆ = next (infoBytes i) (localUnicodeBytes i) _ (localUnicodeStart i) d₅
 
-  abbrev TextBack : Bool → Bool → ℕ → ℕ → List ℕ → Type 0
-  TextBack u b o a x = SlotBack (textTests u) (textSize u) (textValue u) b [] (textBytes u) (volumeStart i) (infoBytes i) o a x
+  abbrev TextBack : ℕ → Bool → Bool → ℕ → ℕ → List ℕ → Type 0
+  TextBack k u b o a x = SlotBack k (λ o. textTests k u) (textSize u) (textValue u) b [] (textBytes u) (volumeStart i) (infoBytes i) o a x
 
-  b₁ : SlotBack volumeTests structSize volumeHere (localThere (i .flags)) noVolumeC volumeBytes (volumeStart i) (infoBytes i)
+  b₁ : SlotBack 12 (volumeTests 12) structSize volumeHere (localThere (i .flags)) noVolumeC volumeBytes (volumeStart i) (infoBytes i)
       (cond (localThere (i .flags)) (volumeStart i) 0) (volumeStart i) (i .volume)
   b₁ =
-      slot-back _ _ _ volume-law _ noVolumeC _ (infoBytes i) _ _ (volumeStart i) (i .volume)
+      slot-back 12 _ _ _ (volume-law 12) _ noVolumeC _ (infoBytes i) _ _ (volumeStart i) (i .volume)
       (ok-there VolumeT writableVolume (localThere (i .flags)) noVolumeC (i .volume) (v .typed .volume) (can .volume))
       (omega (arith, limit)) (omega arith) (choose-twice (localThere (i .flags)) (volumeStart i) 0) d₁
 
-  b₂ : TextBack false (localThere (i .flags)) (cond (localThere (i .flags)) (localStart i) 0) (localStart i) (i .local)
+  b₂ : TextBack 16 false (localThere (i .flags)) (cond (localThere (i .flags)) (localStart i) 0) (localStart i) (i .local)
   b₂ =
-      slot-back _ _ _ (text-law false) _ [] _ (infoBytes i) _ _ (localStart i) (i .local)
+      slot-back 16 _ _ _ (λ o. text-law 16 false) _ [] _ (infoBytes i) _ _ (localStart i) (i .local)
       (ok-there Bytes (writableText false) (localThere (i .flags)) [] (i .local) (v .typed .local) (can .local))
       (omega (arith, limit)) (omega arith) (choose-twice (localThere (i .flags)) (localStart i) 0) d₂
 
-  b₃ : SlotBack networkTests structSize networkHere (networkThere (i .flags)) noNetworkC networkBytes (volumeStart i) (infoBytes i)
+  b₃ : SlotBack 20 (networkTests 20) structSize networkHere (networkThere (i .flags)) noNetworkC networkBytes (volumeStart i) (infoBytes i)
       (cond (networkThere (i .flags)) (networkStart i) 0) (networkStart i) (i .network)
   b₃ =
-      slot-back _ _ _ network-law _ noNetworkC _ (infoBytes i) _ _ (networkStart i) (i .network)
+      slot-back 20 _ _ _ (network-law 20) _ noNetworkC _ (infoBytes i) _ _ (networkStart i) (i .network)
       (ok-there NetworkT writableNetwork (networkThere (i .flags)) noNetworkC (i .network) (v .typed .network) (can .network))
       (omega (arith, limit)) (omega arith) (choose-twice (networkThere (i .flags)) (networkStart i) 0) d₃
 
-  b₄ : TextBack false true (suffixStart i) (suffixStart i) (i .suffix)
+  b₄ : TextBack 24 false true (suffixStart i) (suffixStart i) (i .suffix)
   b₄ =
-      slot-back _ _ _ (text-law false) true [] _ (infoBytes i) _ (suffixStart i) (suffixStart i) (i .suffix)
+      slot-back 24 _ _ _ (λ o. text-law 24 false) true [] _ (infoBytes i) _ (suffixStart i) (suffixStart i) (i .suffix)
       (record { typed = v .typed .suffix; can = can .suffix }) (omega (arith, limit)) (omega arith) refl d₄
 
-  b₅ : TextBack true (localUnicodeThere (i .long) (i .flags)) (u32At (infoBytes i) 28) (localUnicodeStart i) (i .localUnicode)
+  b₅ : TextBack 28 true (localUnicodeThere (i .long) (i .flags)) (u32At (infoBytes i) 28) (localUnicodeStart i) (i .localUnicode)
   b₅ =
-      slot-back _ _ _ (text-law true) _ [] _ (infoBytes i) _ _ (localUnicodeStart i) (i .localUnicode)
+      slot-back 28 _ _ _ (λ o. text-law 28 true) _ [] _ (infoBytes i) _ _ (localUnicodeStart i) (i .localUnicode)
       (ok-there Bytes (writableText true) (localUnicodeThere (i .long) (i .flags)) [] (i .localUnicode) (v .typed .localUnicode) (can .localUnicode))
       (omega (arith, limit)) (omega arith) (both-there (i .long) (localThere (i .flags)) (u32At (infoBytes i) 28) (localUnicodeStart i) at28) d₅
 
-  b₆ : TextBack true (i .long) (u32At (infoBytes i) 32) (suffixUnicodeStart i) (i .suffixUnicode)
+  b₆ : TextBack 32 true (i .long) (u32At (infoBytes i) 32) (suffixUnicodeStart i) (i .suffixUnicode)
   b₆ =
-      slot-back _ _ _ (text-law true) _ [] _ (infoBytes i) _ _ (suffixUnicodeStart i) (i .suffixUnicode)
+      slot-back 32 _ _ _ (λ o. text-law 32 true) _ [] _ (infoBytes i) _ _ (suffixUnicodeStart i) (i .suffixUnicode)
       (ok-there Bytes (writableText true) (i .long) [] (i .suffixUnicode) (v .typed .suffixUnicode) (can .suffixUnicode))
       (omega (arith, limit)) (omega arith) at32 d₆
 
   in-order : Ordered (volumeStart i)
-      (span (volumePiece (localThere (i .flags)) (infoBytes i) (cond (localThere (i .flags)) (volumeStart i) 0))
-      ∷ span (textPiece (localThere (i .flags)) false (infoBytes i) (cond (localThere (i .flags)) (localStart i) 0))
-      ∷ span (networkPiece (networkThere (i .flags)) (infoBytes i) (cond (networkThere (i .flags)) (networkStart i) 0))
-      ∷ span (textPiece true false (infoBytes i) (suffixStart i))
-      ∷ span (textPiece (localUnicodeThere (i .long) (i .flags)) true (infoBytes i) (u32At (infoBytes i) 28))
-      ∷ span (textPiece (i .long) true (infoBytes i) (u32At (infoBytes i) 32))
+      (span (volumePiece (localThere (i .flags)) (infoBytes i) 12 (cond (localThere (i .flags)) (volumeStart i) 0))
+      ∷ span (textPiece (localThere (i .flags)) false (infoBytes i) 16 (cond (localThere (i .flags)) (localStart i) 0))
+      ∷ span (networkPiece (networkThere (i .flags)) (infoBytes i) 20 (cond (networkThere (i .flags)) (networkStart i) 0))
+      ∷ span (textPiece true false (infoBytes i) 24 (suffixStart i))
+      ∷ span (textPiece (localUnicodeThere (i .long) (i .flags)) true (infoBytes i) 28 (u32At (infoBytes i) 28))
+      ∷ span (textPiece (i .long) true (infoBytes i) 32 (u32At (infoBytes i) 32))
       ∷ [])
   in-order =
       spans-ordered (localThere (i .flags)) _ _ _ _ (b₁ .spans) (absent-empty (localThere (i .flags)) volumeBytes (i .volume))
@@ -307,7 +307,7 @@ module _ (i : InfoContents) (v : InfoV i) (m : length (infoBytes i) ≤ most) wh
         apart = rw (is-long, at8, at12, at16, at20, at24) (ordered-apart in-order);
       }))
 
-  info-back : SizedBack infoSize (λ n. leb 0x1C n else INFO ∷ []) infoRules infoValue (infoBytes i) i
+  info-back : SizedBack infoSize (λ n. leb 0x1C n else INFO at 0 ∷ []) infoRules infoValue (infoBytes i) i
   info-back = record {
     sized = λ r. at0 r ∙ sym (length-info i);
     sizable = (le-leb 0x1C (length (infoBytes i)) (omega (arith, length-info i, head-is (i .long))), tt);
@@ -320,18 +320,18 @@ unfolding infoBytes
 info-bytes i v =
     let can = info-writable i (v .can) in
     let t = v .typed in
-    let s₁ = slot-bytes _ _ _ volume-law (localThere (i .flags)) noVolumeC (i .volume) (ok-there VolumeT writableVolume (localThere (i .flags)) noVolumeC (i .volume) (t .volume) (can .volume)) in
-    let s₂ = slot-bytes _ _ _ (text-law false) (localThere (i .flags)) [] (i .local) (ok-there Bytes (writableText false) (localThere (i .flags)) [] (i .local) (t .local) (can .local)) in
-    let s₃ = slot-bytes _ _ _ network-law (networkThere (i .flags)) noNetworkC (i .network)
+    let s₁ = slot-bytes 0 _ _ _ (volume-law 0) (localThere (i .flags)) noVolumeC (i .volume) (ok-there VolumeT writableVolume (localThere (i .flags)) noVolumeC (i .volume) (t .volume) (can .volume)) in
+    let s₂ = slot-bytes 0 _ _ _ (λ o. text-law 0 false) (localThere (i .flags)) [] (i .local) (ok-there Bytes (writableText false) (localThere (i .flags)) [] (i .local) (t .local) (can .local)) in
+    let s₃ = slot-bytes 0 _ _ _ (network-law 0) (networkThere (i .flags)) noNetworkC (i .network)
     (ok-there NetworkT writableNetwork (networkThere (i .flags)) noNetworkC (i .network) (t .network) (can .network)) in
-    let s₄ = text-law false .bytes (i .suffix) (record { typed = t .suffix; can = can .suffix }) in
-    let s₅ = slot-bytes _ _ _ (text-law true) (localUnicodeThere (i .long) (i .flags)) [] (i .localUnicode)
+    let s₄ = text-law 0 false .bytes (i .suffix) (record { typed = t .suffix; can = can .suffix }) in
+    let s₅ = slot-bytes 0 _ _ _ (λ o. text-law 0 true) (localUnicodeThere (i .long) (i .flags)) [] (i .localUnicode)
     (ok-there Bytes (writableText true) (localUnicodeThere (i .long) (i .flags)) [] (i .localUnicode) (t .localUnicode) (can .localUnicode)) in
-    let s₆ = slot-bytes _ _ _ (text-law true) (i .long) [] (i .suffixUnicode)
+    let s₆ = slot-bytes 0 _ _ _ (λ o. text-law 0 true) (i .long) [] (i .suffixUnicode)
     (ok-there Bytes (writableText true) (i .long) [] (i .suffixUnicode) (t .suffixUnicode) (can .suffixUnicode)) in
     search (bytes-append, bytes-little, bytes-nil, bytes-two) depth 20
 
-info-sized : Sized 4 infoSize (λ n. leb 0x1C n else INFO ∷ []) infoRules infoValue infoBytes InfoV
+info-sized : Sized 2 4 infoSize (λ n. leb 0x1C n else INFO at 0 ∷ []) infoRules infoValue infoBytes InfoV
 info-sized = record {
   first = λ s t e. number-same 4 4 s t 0 e (omega arith);
   low = λ s e. omega (arith, leb-true 0x1C (infoSize s) (e .0));
@@ -340,5 +340,5 @@ info-sized = record {
   fits = λ l bs k g c. info-fits l bs (leb-true _ _ (g .0)) c;
 }
 
-pub info-law : Law (sizedR 4 infoSize (λ n. leb 0x1C n else INFO ∷ []) infoRules infoValue) infoBytes InfoV
-info-law = sized-law 4 infoSize (λ n. leb 0x1C n else INFO ∷ []) infoRules infoValue info-sized
+pub info-law : Law (sizedR 2 4 infoSize (λ n. leb 0x1C n else INFO at 0 ∷ []) infoRules infoValue) infoBytes InfoV
+info-law = sized-law 2 4 infoSize (λ n. leb 0x1C n else INFO at 0 ∷ []) infoRules infoValue info-sized

@@ -59,18 +59,23 @@ each-less x (b ∷ bs) xs h =
     let j = each-less x bs xs (h .1) in
     (and-both (apart x b) (apartFrom x bs) (apart-back b x (i .0)) (j .0), (i .1, j .1))
 
-pub tests-apart : (bs xs : List Place) → Pass (apartTests bs xs) → EachFrom bs xs × (allApart xs ≡ true)
+-- the places without the fields that lead there
+abbrev pub placesOf : List (ℕ × Place) → List Place
+placesOf [] = []
+placesOf ((i, x) ∷ xs) = x ∷ placesOf xs
+
+pub tests-apart : (bs : List Place) (xs : List (ℕ × Place)) → Pass (apartTests bs xs) → EachFrom bs (placesOf xs) × (allApart (placesOf xs) ≡ true)
 tests-apart [] [] c = (tt, refl)
 tests-apart (b ∷ bs) [] c = ((refl, tests-apart bs [] tt .0), refl)
-tests-apart bs (x ∷ xs) c =
+tests-apart bs ((k, x) ∷ xs) c =
     let i = tests-apart (x ∷ bs) xs (c .1) in
-    (each-more x bs xs (c .0) (i .0 .1), and-both (apartFrom x xs) (allApart xs) (i .0 .0) (i .1))
+    (each-more x bs (placesOf xs) (c .0) (i .0 .1), and-both (apartFrom x (placesOf xs)) (allApart (placesOf xs)) (i .0 .0) (i .1))
 
-pub apart-tests : (bs xs : List Place) → EachFrom bs xs → allApart xs ≡ true → Pass (apartTests bs xs)
+pub apart-tests : (bs : List Place) (xs : List (ℕ × Place)) → EachFrom bs (placesOf xs) → allApart (placesOf xs) ≡ true → Pass (apartTests bs xs)
 apart-tests bs [] h e = tt
-apart-tests bs (x ∷ xs) h e =
-    let i = and-true (apartFrom x xs) (allApart xs) e in
-    let j = each-less x bs xs h in
+apart-tests bs ((k, x) ∷ xs) h e =
+    let i = and-true (apartFrom x (placesOf xs)) (allApart (placesOf xs)) e in
+    let j = each-less x bs (placesOf xs) h in
     (j .0, apart-tests (x ∷ bs) xs (i .0, j .1) (i .1))
 
 -- ---- with x taken out: what stands behind x moves down by x's length

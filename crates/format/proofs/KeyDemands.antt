@@ -15,7 +15,8 @@ use Rattle.format.specs.declared.Reading.{Reading}
 use Rattle.format.specs.declared.Fault.{Fault}
 use Rattle.format.specs.declared.Fault.the-variants.{Cut as CUT, Room as ROOM}
 use Rattle.format.specs.declared.Verdict.the-variants.{Accepted, Refused}
-use Rattle.format.specs.Tests.{Outcome, got, refused, bit}
+use Rattle.format.specs.declared.Spot.{Spot}
+use Rattle.format.specs.Tests.{Outcome, got, refused, bit, section, noSection, spotAt, nowhere}
 use Rattle.format.specs.Presence.{workdirBit, argumentsBit, stringThere, stringsUnicode}
 use Rattle.format.specs.Shortcut.{Sections, shortcut, verdictOf}
 use Rattle.format.specs.Contents.{bytesAt}
@@ -37,11 +38,11 @@ pub record Keyed (s out : List ℕ) (n : ℕ) : Type 0 where
   pub written : take n (keyOutput s out) ≡ keyBytes (keyOf s sections)
 
 key-of : (s : List ℕ) (c : Sections) (k room : ℕ) → shortcut s ≡ got c k → (b : Bool) → leb (length (keyBytes (keyOf s c))) room ≡ b
-    → key s room ≡ cond b (got (keyBytes (keyOf s c)) (length (keyBytes (keyOf s c)))) (refused ROOM 0)
+    → key s room ≡ cond b (got (keyBytes (keyOf s c)) (length (keyBytes (keyOf s c)))) (refused ROOM nowhere)
 unfolding key
 key-of s c k room e b h = rw (e, h)
 
-key-refused : (s : List ℕ) (room : ℕ) {f : Fault} {p : ℕ} → shortcut s ≡ refused f p → verdictOf (key s room) ≡ Refused f p
+key-refused : (s : List ℕ) (room : ℕ) {f : Fault} {p : Spot} → shortcut s ≡ refused f p → verdictOf (key s room) ≡ Refused f (p .position)
 unfolding key
 key-refused s room e = rw e
 
@@ -137,4 +138,4 @@ unfolding keyAnswer keyOutput key outputOf Refuses
 cut-no-key s out r k e h =
     let z = beginning-cut s r e k h in
     let i = refused-read (take k s) (ap (λ (x : Reading). x .verdict) (z .refusal)) in
-    (z .position, (rw i, rw i))
+    (z .position, (rw (i .is, i .told), rw (i .is)))

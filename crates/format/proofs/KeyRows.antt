@@ -6,10 +6,11 @@ use lib.ListN.{length}
 use Rattle.octets.specs.Numbers.{number, numberAt, little}
 use Rattle.octets.specs.Characters.{units, beforeZero}
 use Rattle.format.specs.declared.Fault.the-variants.{Cut as CUT, Room as ROOM}
-use Rattle.format.specs.Tests.{got, refused}
+use Rattle.format.specs.declared.Spot.{Spot}
+use Rattle.format.specs.Tests.{got, refused, section, noSection, spotAt, nowhere}
 use Rattle.format.specs.Header.{identifierOk, signed}
-use Rattle.format.specs.Items.{walk}
-use Rattle.format.specs.Blocks.{slotOf, sizeFits, insideFits, blocksFrom}
+use Rattle.format.specs.Items.{itemTests}
+use Rattle.format.specs.Blocks.{slotOf, sizeFits, insideTests, blocksFrom}
 use Rattle.format.specs.Shortcut.{sections, shortcut}
 use Rattle.format.specs.Key.{keyOf, keyBytes, key}
 use Rattle.format.specs.Probes.{zeros, withSection, Z, dashG1}
@@ -28,10 +29,10 @@ pub key-rows : key Z 21
     ∷ []
     ≡ got (zeros 21) 21
     ∷ got (1 ∷ zeros 5 ++ 1 ∷ 6 ∷ zeros 3 ++ 0x2D ∷ 0x00 ∷ 0x67 ∷ 0x00 ∷ 0x31 ∷ 0x00 ∷ zeros 10) 27
-    ∷ refused ROOM 0
+    ∷ refused ROOM nowhere
     ∷ got (zeros 6 ++ 1 ∷ zeros 14) 21
     ∷ got (zeros 16 ++ 1 ∷ 1 ∷ zeros 3 ++ 0x61 ∷ []) 22
-    ∷ refused CUT 76
+    ∷ refused CUT (spotAt (section 6 76) 0)
     ∷ []
-unfolding number numberAt little units beforeZero identifierOk signed walk slotOf sizeFits insideFits blocksFrom sections shortcut keyOf keyBytes key
+unfolding number numberAt little units beforeZero identifierOk signed itemTests slotOf sizeFits insideTests blocksFrom sections shortcut keyOf keyBytes key
 key-rows = refl

@@ -20,7 +20,7 @@ use Rattle.format.specs.Contents.{Contents, contents, Same}
 use Rattle.format.specs.Demands.{Accepts}
 use Rattle.format.specs.Key.{partIf, environment, keyIn}
 use Rattle.format.proofs.Chains.{no-value, drop-take}
-use Rattle.format.proofs.BlockLaws.{none-left, step-elim, blocks-walked, blocks-same, terminal}
+use Rattle.format.proofs.BlockLaws.{none-left, step-elim, blocks-walked, blocks-same, ends-terminal}
 use Rattle.format.proofs.KeyRoom.{keyFrom, environmentOf, made, body-long}
 
 -- the blocks' bytes tell the blocks' lengths
@@ -31,7 +31,7 @@ lengths-told p q s t ls ms n m e f l u =
     let v = blocks-walked q t ms m f in
     let a : n - 4 ≡ sum ls = omega (arith, w .adds) in
     let b : m - 4 ≡ n - 4 = omega (arith, w .adds, v .adds) in
-    let z : blockSize (drop (n - 4) t) < 4 = rw b at (terminal (length t) q t ms m (omega arith) f) in
+    let z : blockSize (drop (n - 4) t) < 4 = rw b at (ends-terminal (length t) q t ms m (omega arith) f) in
     let i : blocks q t ≡ got ls n = blocks-same p s ls n e q t (rw a (sym u)) (omega (arith, w .adds, v .adds, v .inside)) z in
     cc
 

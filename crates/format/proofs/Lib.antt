@@ -1,6 +1,7 @@
 pub mod Bools
 pub mod Ranges
 pub mod Chains
+pub mod WrongLaws
 pub mod Intervals
 pub mod Holds
 pub mod Sized
@@ -8,6 +9,7 @@ pub mod HotkeyLaws
 pub mod HeaderLaws
 pub mod SignedLaws
 pub mod ItemsLaws
+pub mod EarlierLaws
 pub mod StringLaws
 pub mod PieceLaws
 pub mod FieldLaws
@@ -15,6 +17,8 @@ pub mod VolumeLaws
 pub mod NetworkLaws
 pub mod InfoLaws
 pub mod BlockLaws
+pub mod EachLaws
+pub mod PositionLaws
 pub mod WholeLaws
 pub mod PlaceLaws
 pub mod ReadingLaws
@@ -28,6 +32,8 @@ pub mod TargetLaws
 pub mod KeyLaws
 pub mod KeyRows
 pub mod Demands
+pub mod PositionDemands
+pub mod PositionRows
 pub mod KeyDemands
 pub mod KeyRoom
 pub mod KeySame

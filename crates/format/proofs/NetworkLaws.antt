@@ -24,7 +24,7 @@ use Rattle.format.proofs.FieldLaws.{choose-below, field-is, length-two,
 
 -- a text of the link that is there or not
 abbrev text : Bool → Bool → List ℕ → ℕ → List ℕ
-text u b l o = slot (textTests u) (textSize u) (textValue u) b [] l o
+text u b l o = slot (textValue u) b [] l o
 
 -- what the link's own bytes say
 abbrev pub networkValue : List ℕ → NetworkContents
@@ -76,8 +76,8 @@ kept-twice : (b : Bool) (x : ℕ) → cond b (cond b x 0) 0 ≡ cond b x 0
 kept-twice true x = refl
 kept-twice false x = refl
 
-abbrev TextFits : Bool → Bool → List ℕ → ℕ → Type 0
-TextFits u b l o = SlotFits (textTests u) (textSize u) (textValue u) b [] (textBytes u) (TextV u) (networkHead (networkUnicode l)) l o
+abbrev TextFits : ℕ → Bool → Bool → List ℕ → ℕ → Type 0
+TextFits i u b l o = SlotFits i (λ o. textTests i u) (textSize u) (textValue u) b [] (textBytes u) (TextV u) (networkHead (networkUnicode l)) l o
 
 network-fits : (l : List ℕ) → Bytes l → 0x14 ≤ length l → Pass (networkRules l) → Fits networkBytes NetworkV (networkValue l) (length l)
 network-fits l bs e c =
@@ -86,11 +86,11 @@ network-fits l bs e c =
     let x = network-head-holds l c₁ in
     let d = network-pieces-hold l c₂ in
     let k : h ≤ length l = head-inside (networkUnicode l) (length l) e (x .deviceUnicodeField) in
-    let s₁ : TextFits false true l (u32At l 8) = slot-fits _ _ _ (text-law false) true [] h l (u32At l 8) bs (d .net) in
-    let s₂ : TextFits false (hasDevice l) l (u32At l 12) = slot-fits _ _ _ (text-law false) (hasDevice l) [] h l (u32At l 12) bs (d .device) in
-    let s₃ : TextFits true (networkUnicode l) l (u32At l 20) = slot-fits _ _ _ (text-law true) (networkUnicode l) [] h l (u32At l 20) bs (d .netUnicode) in
-    let s₄ : TextFits true (hasDeviceUnicode l) l (u32At l 24)
-    = slot-fits _ _ _ (text-law true) (hasDeviceUnicode l) [] h l (u32At l 24) bs (d .deviceUnicode) in
+    let s₁ : TextFits 8 false true l (u32At l 8) = slot-fits 8 _ _ _ (λ o. text-law 8 false) true [] h l (u32At l 8) bs (d .net) in
+    let s₂ : TextFits 12 false (hasDevice l) l (u32At l 12) = slot-fits 12 _ _ _ (λ o. text-law 12 false) (hasDevice l) [] h l (u32At l 12) bs (d .device) in
+    let s₃ : TextFits 20 true (networkUnicode l) l (u32At l 20) = slot-fits 20 _ _ _ (λ o. text-law 20 true) (networkUnicode l) [] h l (u32At l 20) bs (d .netUnicode) in
+    let s₄ : TextFits 24 true (hasDeviceUnicode l) l (u32At l 24)
+    = slot-fits 24 _ _ _ (λ o. text-law 24 true) (hasDeviceUnicode l) [] h l (u32At l 24) bs (d .deviceUnicode) in
     let p : h + total (map span (networkPieces l)) ≤ length l
     = pack h (length l) (map span (networkPieces l)) k (s₁ .within, (s₂ .within, (s₃ .within, (s₄ .within, tt)))) (d .apart) in
     let v₂ = there-ok Bytes (writableText false) (hasDevice l) [] (text false (hasDevice l) l (u32At l 12)) (s₂ .valid) in
@@ -182,37 +182,37 @@ module _ (n : NetworkContents) (v : NetworkV n) (m : length (networkBytes n) ≤
   d₄ : drop (deviceUnicodeStart n) (networkBytes n) ≡ deviceUnicodeBytes n ++ []
   d₄ = next (networkBytes n) (netUnicodeBytes n) _ (netUnicodeStart n) d₃
 
-  abbrev TextBack : Bool → Bool → ℕ → ℕ → List ℕ → Type 0
-  TextBack u b o a x = SlotBack (textTests u) (textSize u) (textValue u) b [] (textBytes u) (networkHead (n .unicode)) (networkBytes n) o a x
+  abbrev TextBack : ℕ → Bool → Bool → ℕ → ℕ → List ℕ → Type 0
+  TextBack k u b o a x = SlotBack k (λ o. textTests k u) (textSize u) (textValue u) b [] (textBytes u) (networkHead (n .unicode)) (networkBytes n) o a x
 
-  b₁ : TextBack false true (netStart n) (netStart n) (n .net)
+  b₁ : TextBack 8 false true (netStart n) (netStart n) (n .net)
   b₁ =
-      slot-back _ _ _ (text-law false) true [] _ (networkBytes n) _ (netStart n) (netStart n) (n .net)
+      slot-back 8 _ _ _ (λ o. text-law 8 false) true [] _ (networkBytes n) _ (netStart n) (netStart n) (n .net)
       (record { typed = v .typed .net; can = can .net }) (omega (arith, limit)) (omega arith) refl d₁
 
-  b₂ : TextBack false (deviceThere (n .flags)) (cond (deviceThere (n .flags)) (deviceStart n) 0) (deviceStart n) (n .device)
+  b₂ : TextBack 12 false (deviceThere (n .flags)) (cond (deviceThere (n .flags)) (deviceStart n) 0) (deviceStart n) (n .device)
   b₂ =
-      slot-back _ _ _ (text-law false) _ [] _ (networkBytes n) _ _ (deviceStart n) (n .device)
+      slot-back 12 _ _ _ (λ o. text-law 12 false) _ [] _ (networkBytes n) _ _ (deviceStart n) (n .device)
       (ok-there Bytes (writableText false) (deviceThere (n .flags)) [] (n .device) (v .typed .device) (can .device))
       (omega (arith, limit)) (omega arith) (choose-twice (deviceThere (n .flags)) (deviceStart n) 0) d₂
 
-  b₃ : TextBack true (n .unicode) (u32At (networkBytes n) 20) (netUnicodeStart n) (n .netUnicode)
+  b₃ : TextBack 20 true (n .unicode) (u32At (networkBytes n) 20) (netUnicodeStart n) (n .netUnicode)
   b₃ =
-      slot-back _ _ _ (text-law true) _ [] _ (networkBytes n) _ _ (netUnicodeStart n) (n .netUnicode)
+      slot-back 20 _ _ _ (λ o. text-law 20 true) _ [] _ (networkBytes n) _ _ (netUnicodeStart n) (n .netUnicode)
       (ok-there Bytes (writableText true) (n .unicode) [] (n .netUnicode) (v .typed .netUnicode) (can .netUnicode))
       (omega (arith, limit)) (omega arith) at20 d₃
 
-  b₄ : TextBack true (deviceUnicodeThere (n .unicode) (n .flags)) (u32At (networkBytes n) 24) (deviceUnicodeStart n) (n .deviceUnicode)
+  b₄ : TextBack 24 true (deviceUnicodeThere (n .unicode) (n .flags)) (u32At (networkBytes n) 24) (deviceUnicodeStart n) (n .deviceUnicode)
   b₄ =
-      slot-back _ _ _ (text-law true) _ [] _ (networkBytes n) _ _ (deviceUnicodeStart n) (n .deviceUnicode)
+      slot-back 24 _ _ _ (λ o. text-law 24 true) _ [] _ (networkBytes n) _ _ (deviceUnicodeStart n) (n .deviceUnicode)
       (ok-there Bytes (writableText true) (deviceUnicodeThere (n .unicode) (n .flags)) [] (n .deviceUnicode) (v .typed .deviceUnicode) (can .deviceUnicode))
       (omega (arith, limit)) (omega arith) (both-there (n .unicode) (deviceThere (n .flags)) (u32At (networkBytes n) 24) (deviceUnicodeStart n) at24) d₄
 
   in-order : Ordered (netStart n)
-      (span (textPiece true false (networkBytes n) (netStart n))
-      ∷ span (textPiece (deviceThere (n .flags)) false (networkBytes n) (cond (deviceThere (n .flags)) (deviceStart n) 0))
-      ∷ span (textPiece (n .unicode) true (networkBytes n) (u32At (networkBytes n) 20))
-      ∷ span (textPiece (deviceUnicodeThere (n .unicode) (n .flags)) true (networkBytes n) (u32At (networkBytes n) 24))
+      (span (textPiece true false (networkBytes n) 8 (netStart n))
+      ∷ span (textPiece (deviceThere (n .flags)) false (networkBytes n) 12 (cond (deviceThere (n .flags)) (deviceStart n) 0))
+      ∷ span (textPiece (n .unicode) true (networkBytes n) 20 (u32At (networkBytes n) 20))
+      ∷ span (textPiece (deviceUnicodeThere (n .unicode) (n .flags)) true (networkBytes n) 24 (u32At (networkBytes n) 24))
       ∷ [])
   in-order =
       spans-ordered true _ _ _ _ (b₁ .spans) (absent-empty true (textBytes false) (n .net))
@@ -249,10 +249,10 @@ unfolding networkBytes
 network-bytes n v =
     let can = network-writable n (v .can) in
     let t = v .typed in
-    let s₁ = text-law false .bytes (n .net) (record { typed = t .net; can = can .net }) in
-    let s₂ = slot-bytes _ _ _ (text-law false) (deviceThere (n .flags)) [] (n .device) (ok-there Bytes (writableText false) (deviceThere (n .flags)) [] (n .device) (t .device) (can .device)) in
-    let s₃ = slot-bytes _ _ _ (text-law true) (n .unicode) [] (n .netUnicode) (ok-there Bytes (writableText true) (n .unicode) [] (n .netUnicode) (t .netUnicode) (can .netUnicode)) in
-    let s₄ = slot-bytes _ _ _ (text-law true) (deviceUnicodeThere (n .unicode) (n .flags)) [] (n .deviceUnicode)
+    let s₁ = text-law 0 false .bytes (n .net) (record { typed = t .net; can = can .net }) in
+    let s₂ = slot-bytes 0 _ _ _ (λ o. text-law 0 false) (deviceThere (n .flags)) [] (n .device) (ok-there Bytes (writableText false) (deviceThere (n .flags)) [] (n .device) (t .device) (can .device)) in
+    let s₃ = slot-bytes 0 _ _ _ (λ o. text-law 0 true) (n .unicode) [] (n .netUnicode) (ok-there Bytes (writableText true) (n .unicode) [] (n .netUnicode) (t .netUnicode) (can .netUnicode)) in
+    let s₄ = slot-bytes 0 _ _ _ (λ o. text-law 0 true) (deviceUnicodeThere (n .unicode) (n .flags)) [] (n .deviceUnicode)
     (ok-there Bytes (writableText true) (deviceUnicodeThere (n .unicode) (n .flags)) [] (n .deviceUnicode) (t .deviceUnicode) (can .deviceUnicode)) in
     search (bytes-append, bytes-little, bytes-nil, bytes-two) depth 16
 
@@ -267,5 +267,5 @@ network-struct = record {
   fits = network-fits;
 }
 
-pub network-law : PieceLaw networkTests (λ s. u32At s 0) (λ s. networkValue (take (u32At s 0) s)) networkBytes NetworkV
+pub network-law : (i o : ℕ) → PieceLaw (networkTests i o) (λ s. u32At s 0) (λ s. networkValue (take (u32At s 0) s)) networkBytes NetworkV
 network-law = struct-law 0x14 networkRules networkValue network-struct

@@ -25,6 +25,9 @@ use Rattle.format.proofs.bits_of as bits-of
 use Rattle.format.proofs.label_of as label-of
 use Rattle.format.proofs.label_unicode as label-unicode
 use Rattle.format.proofs.label_place as label-place
+use Rattle.format.proofs.spot_at as spot-at
+use Rattle.format.proofs.unless as unless
+use Rattle.format.proofs.first as first
 
 pub number-of-one-outcome : OneAnswer number-of.ended number-of.Reads.Post
 number-of-one-outcome κs a r q s t p o = p ∙ sym o
@@ -97,3 +100,12 @@ label-unicode-one-outcome κs a r q s t p o = p ∙ sym o
 
 pub label-place-one-outcome : OneAnswer label-place.ended label-place.Reads.Post
 label-place-one-outcome κs a r q s t p o = p ∙ sym o
+
+pub spot-at-one-outcome : OneAnswer spot-at.ended spot-at.Reads.Post
+spot-at-one-outcome κs a r q s t p o = p ∙ sym o
+
+pub unless-one-outcome : OneAnswer unless.ended unless.Reads.Post
+unless-one-outcome κs a r q s t p o = p ∙ sym o
+
+pub first-one-outcome : OneAnswer first.ended first.Reads.Post
+first-one-outcome κs a r q s t p o = p ∙ sym o

@@ -73,8 +73,8 @@ plain u x e =
     let w : bytesOf u (length c) ≡ length x = omega arith in
     record { whole = w; no-zero = bytes-of-same u (a ∙ sym w) }
 
-text-back : (u : Bool) (x : List ℕ) → TextV u x → (r : List ℕ) → PieceBack (textTests u) (textSize u) (textValue u) (textBytes u x ++ r) x (length (textBytes u x))
-text-back u x v r =
+text-back : (i : ℕ) (u : Bool) (x : List ℕ) → TextV u x → (r : List ℕ) → PieceBack (textTests i u) (textSize u) (textValue u) (textBytes u x ++ r) x (length (textBytes u x))
+text-back i u x v r =
     let p = plain u x (v .can) in
     let s : List ℕ = textBytes u x ++ r in
     let z : List ℕ = replicate (bytesOf u 1) 0 in
@@ -89,8 +89,8 @@ text-back u x v r =
       same = ap (λ (l : ℕ). take l s) n ∙ ap (take (length x)) (append-assoc x z r) ∙ take-at x (z ++ r) (length x) refl;
     }
 
-text-fits : (u : Bool) (s : List ℕ) → Bytes s → Pass (textTests u s) → PieceFits (textSize u) (textValue u) (textBytes u) (TextV u) s
-text-fits u s bs e =
+text-fits : (i : ℕ) (u : Bool) (s : List ℕ) → Bytes s → Pass (textTests i u s) → PieceFits (textSize u) (textValue u) (textBytes u) (TextV u) s
+text-fits i u s bs e =
     let c : List ℕ = characters u s in
     let k : ℕ = beforeZero c in
     let h : k < length c = ltb-true _ _ (e .0) in
@@ -108,42 +108,42 @@ text-fits u s bs e =
       inside = omega arith;
     }
 
-pub text-law : (u : Bool) → PieceLaw (textTests u) (textSize u) (textValue u) (textBytes u) (TextV u)
-text-law u = record {
+pub text-law : (i : ℕ) (u : Bool) → PieceLaw (textTests i u) (textSize u) (textValue u) (textBytes u) (TextV u)
+text-law i u = record {
   bytes = λ x v. bytes-append x (replicate (bytesOf u 1) 0) (v .typed) (zeros-bytes u);
-  back = λ x v h r. text-back u x v r;
-  fits = text-fits u;
+  back = λ x v h r. text-back i u x v r;
+  fits = text-fits i u;
 }
   where
     zeros-bytes : (u : Bool) → Bytes (replicate (bytesOf u 1) 0)
     zeros-bytes true = bytes-cons (omega arith) (bytes-cons (omega arith) bytes-nil)
     zeros-bytes false = bytes-cons (omega arith) bytes-nil
 
--- ---- a piece that is there or not, at an offset of l
+-- ---- a piece that is there or not, at an offset of l, to which the field at i leads
 
-module _ {A : Type 0} (own : List ℕ → List Test) (size : List ℕ → ℕ) (value : List ℕ → A) where
+abbrev pub slot : {A : Type 0} → (List ℕ → A) → Bool → A → List ℕ → ℕ → A
+slot value b d l o = cond b (value (drop o l)) d
+
+module _ {A : Type 0} (i : ℕ) (own : ℕ → List ℕ → List Test) (size : List ℕ → ℕ) (value : List ℕ → A) where
   abbrev pub pieceAt : Bool → List ℕ → ℕ → Piece
-  pieceAt b l o = record { present = b; offset = o; own = own (drop o l); size = size (drop o l) }
-
-  abbrev pub slot : Bool → A → List ℕ → ℕ → A
-  slot b d l o = cond b (value (drop o l)) d
+  pieceAt b l o = record { present = b; field = i; offset = o; own = own o (drop o l); size = size (drop o l) }
 
   -- what a piece that was read says
   pub record SlotFits (b : Bool) (d : A) (enc : A → List ℕ) (Valid : A → Type 0) (h : ℕ) (l : List ℕ) (o : ℕ) : Type 0 where
-    pub valid : IfThere b d Valid (slot b d l o)
-    pub short : length (ifThere b enc (slot b d l o)) ≤ span (pieceAt b l o) .len
+    pub valid : IfThere b d Valid (slot value b d l o)
+    pub short : length (ifThere b enc (slot value b d l o)) ≤ span (pieceAt b l o) .len
     pub within : 0 < span (pieceAt b l o) .len → (h ≤ span (pieceAt b l o) .at) × (span (pieceAt b l o) .at + span (pieceAt b l o) .len ≤ length l)
 
   -- a piece of the canonical layout, from the place a on, to which its offset field o leads
   pub record SlotBack (b : Bool) (d : A) (enc : A → List ℕ) (h : ℕ) (l : List ℕ) (o a : ℕ) (x : A) : Type 0 where
     pub good : Pass (testsOf h (pieceAt b l o))
     pub spans : span (pieceAt b l o) ≡ cond b (place a (length (ifThere b enc x))) noPlace
-    pub same : slot b d l o ≡ x
+    pub same : slot value b d l o ≡ x
 
-  module _ {enc : A → List ℕ} {Valid : A → Type 0} (F : PieceLaw own size value enc Valid) where
+  module _ {enc : A → List ℕ} {Valid : A → Type 0} (F : (o : ℕ) → PieceLaw (own o) size value enc Valid) where
     pub slot-fits : (b : Bool) (d : A) (h : ℕ) (l : List ℕ) (o : ℕ) → Bytes l → Pass (testsOf h (pieceAt b l o)) → SlotFits b d enc Valid h l o
     slot-fits true d h l o bs e =
-        let f = F .fits (drop o l) (bytes-drop o l bs) (e .1) in
+        let f = F o .fits (drop o l) (bytes-drop o l bs) (e .1) in
         let n = f .inside in
         let p = f .some in
         record { valid = f .valid; short = f .short; within = λ z. (leb-true h o (e .0), omega (arith, length-drop o l)) }
@@ -152,17 +152,17 @@ module _ {A : Type 0} (own : List ℕ → List Test) (size : List ℕ → ℕ) (
     pub slot-back : (b : Bool) (d : A) (h : ℕ) (l r : List ℕ) (o a : ℕ) (x : A) → IfThere b d Valid x → length (ifThere b enc x) ≤ most → h ≤ a
         → cond b o 0 ≡ cond b a 0 → drop a l ≡ ifThere b enc x ++ r → SlotBack b d enc h l o a x
     slot-back true d h l r o a x v k g q e =
-        let f = F .back x v k r in
-        let i : drop o l ≡ enc x ++ r = ap (λ (m : ℕ). drop m l) q ∙ e in
+        let f = F o .back x v k r in
+        let j : drop o l ≡ enc x ++ r = ap (λ (m : ℕ). drop m l) q ∙ e in
         record {
-          good = (le-leb h o (omega arith), rw i (f .passes));
-          spans = rw (i, f .sized, q);
-          same = rw i (f .same);
+          good = (le-leb h o (omega arith), rw j (f .passes));
+          spans = rw (j, f .sized, q);
+          same = rw j (f .same);
         }
     slot-back false d h l r o a x v k g q e = record { good = tt; spans = refl; same = sym v }
 
     pub slot-bytes : (b : Bool) (d x : A) → IfThere b d Valid x → Bytes (ifThere b enc x)
-    slot-bytes true d x v = F .bytes x v
+    slot-bytes true d x v = F 0 .bytes x v
     slot-bytes false d x v = bytes-nil
 
 -- the next piece of the layout takes its place in the order
@@ -193,34 +193,34 @@ module _ {A : Type 0} (low : ℕ) (rules : List ℕ → List Test) (value : List
     pub same : (a : A) → Valid a → length (enc a) ≤ most → value (enc a) ≡ a
     pub fits : (l : List ℕ) → Bytes l → low ≤ length l → Pass (rules l) → Fits enc Valid (value l) (length l)
 
-  module _ {enc : A → List ℕ} {Valid : A → Type 0} (F : Struct enc Valid) where
+  module _ {enc : A → List ℕ} {Valid : A → Type 0} (F : Struct enc Valid) (i o : ℕ) where
     struct-back : (a : A) → Valid a → length (enc a) ≤ most → (r : List ℕ)
-        → PieceBack (structTests low rules) (λ s. u32At s 0) (λ s. value (take (u32At s 0) s)) (enc a ++ r) a (length (enc a))
+        → PieceBack (structTests i o low rules) (λ s. u32At s 0) (λ s. value (take (u32At s 0) s)) (enc a ++ r) a (length (enc a))
     struct-back a v m r =
         let s : List ℕ = enc a ++ r in
         let n : u32At s 0 ≡ length (enc a) = F .sized a v m r in
         let k = length-append (enc a) r in
         let j = F .long a v in
         let f = F .low-four in
-        let t : take (u32At s 0) s ≡ enc a = ap (λ (i : ℕ). take i s) n ∙ take-at (enc a) r (length (enc a)) refl in
+        let t : take (u32At s 0) s ≡ enc a = ap (λ (m : ℕ). take m s) n ∙ take-at (enc a) r (length (enc a)) refl in
         record {
           passes =
-              struct-passes low rules s (record { field = omega arith; inside = omega arith; enough = omega arith; own = rw t (F .judged a v m) });
+              struct-passes i o low rules s (record { field = omega arith; inside = omega arith; enough = omega arith; own = rw t (F .judged a v m) });
           sized = n;
           same = ap value t ∙ F .same a v m;
         }
 
-    struct-fits : (s : List ℕ) → Bytes s → Pass (structTests low rules s) → PieceFits (λ s. u32At s 0) (λ s. value (take (u32At s 0) s)) enc Valid s
+    struct-fits : (s : List ℕ) → Bytes s → Pass (structTests i o low rules s) → PieceFits (λ s. u32At s 0) (λ s. value (take (u32At s 0) s)) enc Valid s
     struct-fits s bs e =
-        let c = struct-holds low rules s e in
+        let c = struct-holds i o low rules s e in
         let n : ℕ = u32At s 0 in
-        let i : n ≤ length s = c .inside in
+        let fit : n ≤ length s = c .inside in
         let j : low ≤ n = c .enough in
-        let k : length (take n s) ≡ n = length-take-le n s i in
+        let k : length (take n s) ≡ n = length-take-le n s fit in
         let f = F .fits (take n s) (bytes-take n s bs) (rw k j) (c .own) in
         let z = f .short in
         let g = F .low-four in
-        record { valid = f .valid; short = omega arith; some = omega arith; inside = i }
+        record { valid = f .valid; short = omega arith; some = omega arith; inside = fit }
 
-    pub struct-law : PieceLaw (structTests low rules) (λ s. u32At s 0) (λ s. value (take (u32At s 0) s)) enc Valid
+    pub struct-law : PieceLaw (structTests i o low rules) (λ s. u32At s 0) (λ s. value (take (u32At s 0) s)) enc Valid
     struct-law = record { bytes = F .bytes; back = struct-back; fits = struct-fits }

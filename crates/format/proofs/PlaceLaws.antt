@@ -13,7 +13,7 @@ use Rattle.octets.specs.Characters.{characters}
 use Rattle.octets.proofs.NumberLaws.{part-inside}
 use Rattle.octets.proofs.CharacterLaws.{before-le, characters-fit, bytes-of-le}
 use Rattle.format.specs.declared.Place.{Place}
-use Rattle.format.specs.Tests.{Outcome, got, refused, place, Test, tests, Reader, andThen, chain, _then_, optional}
+use Rattle.format.specs.Tests.{Outcome, got, refused, place, Test, tests, Reader, andThen, chain, _then_, optional, Site, spotAt}
 use Rattle.format.specs.Pieces.{textLength, textPlace}
 use Rattle.format.specs.Shortcut.{Section, absent, found, sectionIf}
 use Rattle.format.specs.Bodies.{allInside}
@@ -121,13 +121,13 @@ module _ (f : List ℕ) where
     pub placed : (p : ℕ) → mapped view (P p (drop p f)) ≡ PC p (drop p f)
 
   -- the same tests, and under them the same value
-  pub tests-placed : {A B : Type 0} (view : A → B) (p : ℕ) (ts : List Test) (a : A) (b : B) (n : ℕ) → (Pass ts → view a ≡ b)
-      → mapped view (tests p ts (got a n)) ≡ tests p ts (got b n)
-  tests-placed view p [] a b n e = rw (e tt)
-  tests-placed view p (t ∷ ts) a b n e = go (t .holds) refl (λ q. tests-placed view p ts a b n (λ c. e (q, c)))
+  pub tests-placed : {A B : Type 0} (view : A → B) (w : Site) (ts : List Test) (a : A) (b : B) (n : ℕ) → (Pass ts → view a ≡ b)
+      → mapped view (tests w ts (got a n)) ≡ tests w ts (got b n)
+  tests-placed view w [] a b n e = rw (e tt)
+  tests-placed view w (t ∷ ts) a b n e = go (t .holds) refl (λ q. tests-placed view w ts a b n (λ c. e (q, c)))
     where
-      go : (h : Bool) → t .holds ≡ h → (t .holds ≡ true → mapped view (tests p ts (got a n)) ≡ tests p ts (got b n))
-          → mapped view (cond h (tests p ts (got a n)) (refused (t .fault) p)) ≡ cond h (tests p ts (got b n)) (refused (t .fault) p)
+      go : (h : Bool) → t .holds ≡ h → (t .holds ≡ true → mapped view (tests w ts (got a n)) ≡ tests w ts (got b n))
+          → mapped view (cond h (tests w ts (got a n)) (refused (t .fault) (spotAt w (t .field)))) ≡ cond h (tests w ts (got b n)) (refused (t .fault) (spotAt w (t .field)))
       go true q rest = rest q
       go false q rest = refl
 

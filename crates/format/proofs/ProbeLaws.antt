@@ -6,8 +6,8 @@ use Rattle.octets.specs.Characters.{units, beforeZero}
 use Rattle.octets.specs.Parts.{put}
 use Rattle.format.specs.Numbers.{numberOf, answerNumber, answerValue}
 use Rattle.format.specs.Header.{identifierOk, signed}
-use Rattle.format.specs.Items.{walk}
-use Rattle.format.specs.Blocks.{slotOf, sizeFits, insideFits, blocksFrom}
+use Rattle.format.specs.Items.{itemTests}
+use Rattle.format.specs.Blocks.{slotOf, sizeFits, insideTests, blocksFrom}
 use Rattle.format.specs.Shortcut.{sections, shortcut, reading}
 use Rattle.format.specs.Bodies.{placed}
 use Rattle.format.specs.Contents.{present, contents}
@@ -16,5 +16,5 @@ use Rattle.format.specs.Listing.{listing}
 use Rattle.format.specs.Probes.{holds, allHold, table}
 
 pub probes-hold : allHold table ≡ true
-unfolding allHold holds table number numberAt little units beforeZero put numberOf answerNumber answerValue identifierOk signed walk slotOf sizeFits insideFits blocksFrom sections shortcut reading present placed contents bits headerBytes itemsBytes volumeBytes networkBytes infoBytes stringBytes canonical writable writing outputOf writeAnswer writeOutput listing
+unfolding allHold holds table number numberAt little units beforeZero put numberOf answerNumber answerValue identifierOk signed itemTests slotOf sizeFits insideTests blocksFrom sections shortcut reading present placed contents bits headerBytes itemsBytes volumeBytes networkBytes infoBytes stringBytes canonical writable writing outputOf writeAnswer writeOutput listing
 probes-hold = refl

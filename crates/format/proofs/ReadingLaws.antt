@@ -13,7 +13,7 @@ use Rattle.octets.proofs.NumberLaws.{part-inside}
 use Rattle.format.specs.declared.Place.{Place}
 use Rattle.format.specs.declared.Header.{Header}
 use Rattle.format.specs.declared.Fault.the-variants.{Long as LONG, Trail as TRAIL, Info as INFO}
-use Rattle.format.specs.Tests.{Outcome, got, refused, place, noPlace, _else_, tests, andThen, optional}
+use Rattle.format.specs.Tests.{Outcome, got, refused, place, noPlace, tests, andThen, optional, section, noSection, spotAt, _else_at_}
 use Rattle.format.specs.Presence.{itemsThere, infoThere, nameBit, relativeBit, workdirBit, argumentsBit, iconBit, stringThere, stringsUnicode}
 use Rattle.format.specs.Header.{header}
 use Rattle.format.specs.Items.{itemsLength, itemsRules, items}
@@ -48,18 +48,18 @@ module _ (f : List ℕ) where
     placed = λ p.
         let s : List ℕ = drop p f in
         let n : ℕ = itemsLength s in
-        tests-placed f (bytesAt f) p (sizedTests 2 itemsLength (λ n. []) itemsRules itemsValue s) (place (p + 2) (n - 4)) (itemsValue (take n s)) n
+        tests-placed f (bytesAt f) (section 1 p) (sizedTests 1 2 itemsLength (λ n. []) itemsRules itemsValue s) (place (p + 2) (n - 4)) (itemsValue (take n s)) n
         (λ c.
-        let l : length (take n s) ≡ n = length-take-le n s (sized-holds 2 itemsLength (λ n. []) itemsRules itemsValue s c .within) in
+        let l : length (take n s) ≡ n = length-take-le n s (sized-holds 1 2 itemsLength (λ n. []) itemsRules itemsValue s c .within) in
         sym (ap (λ (k : ℕ). take (k - 4) (drop 2 (take n s))) l ∙ part-inside 2 (n - 4) n s (omega arith) ∙ ap (take (n - 4)) (drop-drop 2 p f)));
   }
 
-  string-placed : (u : Bool) → Placed f (string u) (bytesAt f) (stringR u)
-  string-placed u = record {
+  string-placed : (k : ℕ) (u : Bool) → Placed f (string k u) (bytesAt f) (stringR k u)
+  string-placed k u = record {
     placed = λ p.
         let s : List ℕ = drop p f in
         let n : ℕ = bytesOf u (u16At s 0) in
-        tests-placed f (bytesAt f) p (sizedTests 2 (stringLength u) (λ n. []) (λ l. []) (λ l. drop 2 l) s) (place (p + 2) n) (drop 2 (take (2 + n) s)) (2 + n)
+        tests-placed f (bytesAt f) (section k p) (sizedTests k 2 (stringLength u) (λ n. []) (λ l. []) (λ l. drop 2 l) s) (place (p + 2) n) (drop 2 (take (2 + n) s)) (2 + n)
         (λ c. sym (drop-take 2 n s ∙ ap (take n) (drop-drop 2 p f)));
   }
 
@@ -109,7 +109,7 @@ module _ (f : List ℕ) where
     placed = λ p.
         let s : List ℕ = drop p f in
         let n : ℕ = infoSize s in
-        tests-placed f (infoContents f) p (sizedTests 4 infoSize (λ n. leb 0x1C n else INFO ∷ []) infoRules infoValue s) (infoFields p (take n s)) (infoValue (take n s)) n
+        tests-placed f (infoContents f) (section 2 p) (sizedTests 2 4 infoSize (λ n. leb 0x1C n else INFO at 0 ∷ []) infoRules infoValue s) (infoFields p (take n s)) (infoValue (take n s)) n
         (λ c. info-value p (take n s) (part-of f p n));
   }
 
@@ -128,8 +128,8 @@ module _ (f : List ℕ) where
 
   -- ---- the whole
 
-  abbrev string-section-placed : (flags k : ℕ) → Placed f (stringSection flags k) (λ c. bytesAt f (c .read)) (optional (stringThere k flags) [] (stringR (stringsUnicode flags)))
-  string-section-placed flags k = section-placed f (stringThere k flags) noPlace [] refl (string-placed (stringsUnicode flags))
+  abbrev string-section-placed : (flags k : ℕ) → Placed f (stringSection flags k) (λ c. bytesAt f (c .read)) (optional (stringThere k flags) [] (stringR (k + 1) (stringsUnicode flags)))
+  string-section-placed flags k = section-placed f (stringThere k flags) noPlace [] refl (string-placed (k + 1) (stringsUnicode flags))
 
   abbrev viewTail : Tail → TailC
   viewTail =
@@ -156,14 +156,14 @@ unfolding decode shortcut
 decode-is f = go (leb (length f) most) (sections 0 f) refl
   where
     go₂ : (r : Outcome Sections) → sections 0 f ≡ r
-        → andThen (fileR 0 f) (λ c n. tests n (eqb n (length f) else TRAIL ∷ []) (got (toContents c) n))
-        ≡ mapped (λ c. bodiesOf f (recordOf c)) (andThen r (λ c n. tests n (eqb n (length f) else TRAIL ∷ []) (got c n)))
+        → andThen (fileR 0 f) (λ c n. tests (section 9 (n - 4)) (eqb n (length f) else TRAIL at 4 ∷ []) (got (toContents c) n))
+        ≡ mapped (λ c. bodiesOf f (recordOf c)) (andThen r (λ c n. tests (section 9 (n - 4)) (eqb n (length f) else TRAIL at 4 ∷ []) (got c n)))
     go₂ (got c n) i =
         let e : fileR 0 f ≡ got (both (λ c. c .read) (viewTail f) c) n = sym (sections-placed f .placed 0) ∙ ap (mapped (both (λ c. c .read) (viewTail f))) i in
         rw e (go₃ (eqb n (length f)))
       where
-        go₃ : (b : Bool) → cond b (got (toContents (both (λ c. c .read) (viewTail f) c)) n) (refused TRAIL n)
-            ≡ mapped (λ c. bodiesOf f (recordOf c)) (cond b (got c n) (refused TRAIL n))
+        go₃ : (b : Bool) → cond b (got (toContents (both (λ c. c .read) (viewTail f) c)) n) (refused TRAIL (spotAt (section 9 (n - 4)) 4))
+            ≡ mapped (λ c. bodiesOf f (recordOf c)) (cond b (got c n) (refused TRAIL (spotAt (section 9 (n - 4)) 4)))
         go₃ true = refl
         go₃ false = refl
     go₂ (refused x y) i =
@@ -171,7 +171,7 @@ decode-is f = go (leb (length f) most) (sections 0 f) refl
         rw e
 
     go : (b : Bool) (r : Outcome Sections) → sections 0 f ≡ r
-        → cond b (andThen (fileR 0 f) (λ c n. tests n (eqb n (length f) else TRAIL ∷ []) (got (toContents c) n))) (refused LONG most)
-        ≡ mapped (λ c. bodiesOf f (recordOf c)) (cond b (andThen r (λ c n. tests n (eqb n (length f) else TRAIL ∷ []) (got c n))) (refused LONG most))
+        → cond b (andThen (fileR 0 f) (λ c n. tests (section 9 (n - 4)) (eqb n (length f) else TRAIL at 4 ∷ []) (got (toContents c) n))) (refused LONG (spotAt noSection most))
+        ≡ mapped (λ c. bodiesOf f (recordOf c)) (cond b (andThen r (λ c n. tests (section 9 (n - 4)) (eqb n (length f) else TRAIL at 4 ∷ []) (got c n))) (refused LONG (spotAt noSection most)))
     go true r i = go₂ r i
     go false r i = refl

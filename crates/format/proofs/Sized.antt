@@ -10,7 +10,7 @@ use borrow.Author.Tests.{leb-true, le-leb, lt-leb}
 use Rattle.octets.specs.Numbers.{Bytes}
 use Rattle.octets.proofs.NumberLaws.{bytes-take}
 use Rattle.format.specs.declared.Fault.the-variants.{Cut as CUT}
-use Rattle.format.specs.Tests.{Outcome, got, refused, Test, _else_, tests, Reader}
+use Rattle.format.specs.Tests.{section, spotAt, Outcome, got, refused, Test, _else_at_, tests, Reader}
 use Rattle.format.specs.Shortcut.{most}
 use Rattle.format.proofs.Bools.{by-order}
 use Rattle.format.proofs.Chains.{Pass, pass, pass-split, pass-join, tests-append, tests-elim, Fits, Law}
@@ -22,13 +22,13 @@ pub record SizedBack {A : Type 0} (size : List ℕ → ℕ) (sizes : ℕ → Lis
   pub judged : Pass (rules l)
   pub same : value l ≡ a
 
--- the first h bytes say the size; `sizes` are the tests of the size, `rules` those of the section's own bytes
-module _ {A : Type 0} (h : ℕ) (size : List ℕ → ℕ) (sizes : ℕ → List Test) (rules : List ℕ → List Test) (value : List ℕ → A) where
+-- k₀ is the section's number; the first h bytes say the size; `sizes` are the tests of the size, `rules` those of the section's own bytes
+module _ {A : Type 0} (k₀ h : ℕ) (size : List ℕ → ℕ) (sizes : ℕ → List Test) (rules : List ℕ → List Test) (value : List ℕ → A) where
   abbrev pub sizedTests : List ℕ → List Test
-  sizedTests s = leb h (length s) else CUT ∷ (sizes (size s) ++ leb (size s) (length s) else CUT ∷ rules (take (size s) s))
+  sizedTests s = leb h (length s) else CUT at 0 ∷ (sizes (size s) ++ leb (size s) (length s) else CUT at 0 ∷ rules (take (size s) s))
 
   abbrev pub sizedR : Reader A
-  sizedR p s = tests p (sizedTests s) (got (value (take (size s) s)) (size s))
+  sizedR p s = tests (section k₀ p) (sizedTests s) (got (value (take (size s) s)) (size s))
 
   -- what is asked of a sized section: its size is said by the first h bytes, and is h or more; the rest is of one whole section
   pub record Sized (enc : A → List ℕ) (Valid : A → Type 0) : Type 0 where
@@ -47,7 +47,7 @@ module _ {A : Type 0} (h : ℕ) (size : List ℕ → ℕ) (sizes : ℕ → List 
 
   pub sized-holds : (s : List ℕ) → Pass (sizedTests s) → SizedHolds s
   sized-holds s (a, b) =
-      let (i, (j, k)) = pass-split (sizes (size s)) (leb (size s) (length s) else CUT ∷ rules (take (size s) s)) b in
+      let (i, (j, k)) = pass-split (sizes (size s)) (leb (size s) (length s) else CUT at 0 ∷ rules (take (size s) s)) b in
       record { field = leb-true h (length s) a; sizable = i; within = leb-true (size s) (length s) j; judged = k }
 
   sized-passes : (s : List ℕ) → SizedHolds s → Pass (sizedTests s)
@@ -62,15 +62,15 @@ module _ {A : Type 0} (h : ℕ) (size : List ℕ → ℕ) (sizes : ℕ → List 
         let o : h ≤ length l = rw e at (F .low s (rw e (b .sizable))) in
         let c : Pass (sizedTests s)
         = sized-passes s (record { field = omega arith; sizable = rw e (b .sizable); within = omega arith; judged = rw (e, take-append-seam l r) (b .judged) }) in
-        pass p (sizedTests s) (got (value (take (size s) s)) (size s)) c ∙ rw (e, take-append-seam l r, b .same)
+        pass (section k₀ p) (sizedTests s) (got (value (take (size s) s)) (size s)) c ∙ rw (e, take-append-seam l r, b .same)
 
     sized-inside : (p : ℕ) (s : List ℕ) (a : A) (n : ℕ) → sizedR p s ≡ got a n → n ≤ length s
     sized-inside p s a n =
-        tests-elim (λ a n. n ≤ length s) p (sizedTests s) (value (take (size s) s)) (size s) (λ c. sized-holds s c .within) a n
+        tests-elim (λ a n. n ≤ length s) (section k₀ p) (sizedTests s) (value (take (size s) s)) (size s) (λ c. sized-holds s c .within) a n
 
     sized-fits : (p : ℕ) (s : List ℕ) (a : A) (n : ℕ) → sizedR p s ≡ got a n → Bytes s → Fits enc Valid a n
     sized-fits p s a n e bs =
-        tests-elim (λ a n. Fits enc Valid a n) p (sizedTests s) (value (take (size s) s)) (size s)
+        tests-elim (λ a n. Fits enc Valid a n) (section k₀ p) (sizedTests s) (value (take (size s) s)) (size s)
         (λ c.
         let g = sized-holds s c in
         let l : List ℕ = take (size s) s in
@@ -82,19 +82,19 @@ module _ {A : Type 0} (h : ℕ) (size : List ℕ → ℕ) (sizes : ℕ → List 
 
     sized-alike : (p : ℕ) (s : List ℕ) (a : A) (n : ℕ) → sizedR p s ≡ got a n → (q : ℕ) (t : List ℕ) → take n t ≡ take n s → n ≤ length t → sizedR q t ≡ got a n
     sized-alike p s a n e q t =
-        tests-elim (λ a n. take n t ≡ take n s → n ≤ length t → sizedR q t ≡ got a n) p (sizedTests s) (value (take (size s) s)) (size s)
+        tests-elim (λ a n. take n t ≡ take n s → n ≤ length t → sizedR q t ≡ got a n) (section k₀ p) (sizedTests s) (value (take (size s) s)) (size s)
         (λ c u k.
         let g = sized-holds s c in
         let o : h ≤ size s = F .low s (g .sizable) in
         let z : size t ≡ size s = F .first t s (sym (take-take h (size s) t o) ∙ ap (take h) u ∙ take-take h (size s) s o) in
         let d : Pass (sizedTests t)
         = sized-passes t (record { field = omega arith; sizable = rw z (g .sizable); within = omega arith; judged = rw (z, u) (g .judged) }) in
-        pass q (sizedTests t) (got (value (take (size t) t)) (size t)) d ∙ rw (z, u))
+        pass (section k₀ q) (sizedTests t) (got (value (take (size t) t)) (size t)) d ∙ rw (z, u))
         a n e
 
-    sized-short : (p : ℕ) (s : List ℕ) (a : A) (n : ℕ) → sizedR p s ≡ got a n → (k : ℕ) → k < n → sizedR p (take k s) ≡ refused CUT p
+    sized-short : (p : ℕ) (s : List ℕ) (a : A) (n : ℕ) → sizedR p s ≡ got a n → (k : ℕ) → k < n → sizedR p (take k s) ≡ refused CUT (spotAt (section k₀ p) 0)
     sized-short p s a n e k =
-        tests-elim (λ a n. k < n → sizedR p (take k s) ≡ refused CUT p) p (sizedTests s) (value (take (size s) s)) (size s)
+        tests-elim (λ a n. k < n → sizedR p (take k s) ≡ refused CUT (spotAt (section k₀ p) 0)) (section k₀ p) (sizedTests s) (value (take (size s) s)) (size s)
         (λ c u.
         let g = sized-holds s c in
         let o : h ≤ size s = F .low s (g .sizable) in
@@ -104,10 +104,10 @@ module _ {A : Type 0} (h : ℕ) (size : List ℕ → ℕ) (sizes : ℕ → List 
         (λ j.
         let z : size (take k s) ≡ size s = F .first (take k s) s (take-take h k s j) in
         let t : List ℕ = take k s in
-        let rest : List Test = leb (size t) (length t) else CUT ∷ rules (take (size t) t) in
+        let rest : List Test = leb (size t) (length t) else CUT at 0 ∷ rules (take (size t) t) in
         let v : Outcome A = got (value (take (size t) t)) (size t) in
         rw (le-leb h (length t) (omega arith))
-        (tests-append p (sizes (size t)) rest v ∙ pass p (sizes (size t)) (tests p rest v) (rw z (g .sizable)) ∙ rw (m, z, lt-leb (size s) k u)))
+        (tests-append (section k₀ p) (sizes (size t)) rest v ∙ pass (section k₀ p) (sizes (size t)) (tests (section k₀ p) rest v) (rw z (g .sizable)) ∙ rw (m, z, lt-leb (size s) k u)))
         (λ j. rw (m, lt-leb h k j)))
         a n e
 
@@ -118,5 +118,5 @@ module _ {A : Type 0} (h : ℕ) (size : List ℕ → ℕ) (sizes : ℕ → List 
       inside = sized-inside;
       fits = sized-fits;
       alike = sized-alike;
-      cut = λ p s a n i k u. record { position = p; early = omega arith; is = sized-short p s a n i k u };
+      cut = λ p s a n i k u. record { spot = spotAt (section k₀ p) 0; early = omega arith; is = sized-short p s a n i k u };
     }

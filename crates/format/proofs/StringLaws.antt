@@ -60,14 +60,14 @@ string-bytes : (u : Bool) (x : List ℕ) → Bytes x → Bytes (stringBytes u x)
 unfolding stringBytes
 string-bytes u x b = bytes-append (little 2 (length (characters u x))) x (bytes-little 2 _) b
 
-string-sized : (u : Bool) → Sized 2 (stringLength u) (λ n. []) (λ l. []) (λ l. drop 2 l) (stringBytes u) (StringV u)
-string-sized u = record {
+string-sized : (k : ℕ) (u : Bool) → Sized k 2 (stringLength u) (λ n. []) (λ l. []) (λ l. drop 2 l) (stringBytes u) (StringV u)
+string-sized k u = record {
   first = λ s t e. ap (λ (c : ℕ). 2 + bytesOf u c) (number-same 2 2 s t 0 e (omega arith));
   low = λ s e. omega arith;
   bytes = λ x v. string-bytes u x (v .typed);
   back = λ x v m. string-back u x v;
-  fits = λ l bs k g c. string-fits u l bs k;
+  fits = λ l bs e g c. string-fits u l bs e;
 }
 
-pub string-law : (u : Bool) → Law (sizedR 2 (stringLength u) (λ n. []) (λ l. []) (λ l. drop 2 l)) (stringBytes u) (StringV u)
-string-law u = sized-law 2 (stringLength u) (λ n. []) (λ l. []) (λ l. drop 2 l) (string-sized u)
+pub string-law : (k : ℕ) (u : Bool) → Law (sizedR k 2 (stringLength u) (λ n. []) (λ l. []) (λ l. drop 2 l)) (stringBytes u) (StringV u)
+string-law k u = sized-law k 2 (stringLength u) (λ n. []) (λ l. []) (λ l. drop 2 l) (string-sized k u)

@@ -94,7 +94,7 @@ volume-fits l bs c =
     let o : ℕ = labelOffset l in
     let x = volume-holds l c in
     let m : labelLeast u ≤ o = leb-true _ _ (x .start) in
-    let f = text-law u .fits (drop o l) (bytes-drop o l bs) (x .ends, tt) in
+    let f = text-law 0 u .fits (drop o l) (bytes-drop o l bs) (x .ends, tt) in
     let s = f .short in
     let i = f .inside in
     let p = f .some in
@@ -108,13 +108,13 @@ module _ (v : VolumeContents) (q : VolumeV v) (m : length (volumeBytes v) ≤ mo
   read-label =
       let u : Bool = v .unicode in
       rw (offset-is (v .drive) (v .serial) u (v .label), kind-is (v .drive) (v .serial) u (v .label), label-drop (v .drive) (v .serial) u (v .label))
-      ((text-law u .back (v .label) (text-of v q) (omega (arith, length-volume v)) []) .same)
+      ((text-law 0 u .back (v .label) (text-of v q) (omega (arith, length-volume v)) []) .same)
 
   volume-judged : Pass (volumeRules (volumeBytes v))
   volume-judged =
       let u : Bool = v .unicode in
       let n = length-volume v in
-      let t = text-law u .back (v .label) (text-of v q) (omega arith) [] in
+      let t = text-law 0 u .back (v .label) (text-of v q) (omega arith) [] in
       volume-passes (volumeBytes v) (record {
         drive = rw (at4 v (drive-of v q)) (le-leb _ _ (drive-of v q));
         offsetField = rw (kind-is (v .drive) (v .serial) u (v .label)) (field-there u (length (volumeBytes v)) (omega arith));
@@ -131,7 +131,7 @@ module _ (v : VolumeContents) (q : VolumeV v) (m : length (volumeBytes v) ≤ mo
 volume-bytes : (v : VolumeContents) → VolumeV v → Bytes (volumeBytes v)
 unfolding volumeBytes
 volume-bytes v q =
-    let b = text-law (v .unicode) .bytes (v .label) (text-of v q) in
+    let b = text-law 0 (v .unicode) .bytes (v .label) (text-of v q) in
     let f = fields-bytes (v .unicode) in
     search (bytes-append, bytes-little, bytes-nil) depth 10
   where
@@ -150,5 +150,5 @@ volume-struct = record {
   fits = λ l bs k c. volume-fits l bs c;
 }
 
-pub volume-law : PieceLaw volumeTests (λ s. u32At s 0) (λ s. volumeValue (take (u32At s 0) s)) volumeBytes VolumeV
+pub volume-law : (i o : ℕ) → PieceLaw (volumeTests i o) (λ s. u32At s 0) (λ s. volumeValue (take (u32At s 0) s)) volumeBytes VolumeV
 volume-law = struct-law 0x11 volumeRules volumeValue volume-struct

@@ -2,7 +2,7 @@
 use mathlib.Core.Path.{_≡_, refl, sym, ap, _∙_}
 use mathlib.Core.List.{List, [], _∷_, append-nil}
 use mathlib.Core.Bool.{Bool, true, false}
-use Prim.Native.Nat.{ℕ, _≤_, _<_}
+use Prim.Native.Nat.{ℕ, _+_, _-_, _≤_, _<_}
 use native.Mathlib.Omega.{arith}
 use lib.ListN.{length, take, drop, length-take}
 use lib.Dec.{leb, eqb}
@@ -10,7 +10,7 @@ use borrow.Author.Tests.{leb-true, le-leb, eqb-true, eq-eqb}
 use Rattle.octets.specs.Numbers.{Bytes}
 use Rattle.format.specs.declared.Header.{Header}
 use Rattle.format.specs.declared.Fault.the-variants.{Long as LONG, Trail as TRAIL, Info as INFO}
-use Rattle.format.specs.Tests.{Outcome, got, refused, _else_, tests, Reader, andThen, chain, optional}
+use Rattle.format.specs.Tests.{Outcome, got, refused, _else_at_, tests, Reader, andThen, chain, optional, section, noSection}
 use Rattle.format.specs.Presence.{itemsThere, infoThere, nameBit, relativeBit, workdirBit, argumentsBit, iconBit, stringThere, stringsUnicode}
 use Rattle.format.specs.Header.{header}
 use Rattle.format.specs.Items.{itemsLength, itemsRules}
@@ -45,13 +45,13 @@ noInfoC = record {
 -- ---- readers of contents
 
 abbrev pub itemsR : Reader (List ℕ)
-itemsR = sizedR 2 itemsLength (λ n. []) itemsRules itemsValue
+itemsR = sizedR 1 2 itemsLength (λ n. []) itemsRules itemsValue
 
 abbrev pub infoR : Reader InfoContents
-infoR = sizedR 4 infoSize (λ n. leb 0x1C n else INFO ∷ []) infoRules infoValue
+infoR = sizedR 2 4 infoSize (λ n. leb 0x1C n else INFO at 0 ∷ []) infoRules infoValue
 
-abbrev pub stringR : Bool → Reader (List ℕ)
-stringR u = sizedR 2 (stringLength u) (λ n. []) (λ l. []) (λ l. drop 2 l)
+abbrev pub stringR : ℕ → Bool → Reader (List ℕ)
+stringR k u = sizedR k 2 (stringLength u) (λ n. []) (λ l. []) (λ l. drop 2 l)
 
 -- ---- a reader, its writer and its condition, as one; and how they compose
 
@@ -91,7 +91,7 @@ abbrev info-s : Sect InfoContents
 info-s = record { reader = infoR; writer = infoBytes; Valid = InfoV; law = info-law }
 
 abbrev string-s : ℕ → ℕ → Sect (List ℕ)
-string-s flags k = opt (stringThere k flags) [] (record { reader = stringR (stringsUnicode flags); writer = stringBytes (stringsUnicode flags); Valid = StringV (stringsUnicode flags); law = string-law (stringsUnicode flags) })
+string-s flags k = opt (stringThere k flags) [] (record { reader = stringR (k + 1) (stringsUnicode flags); writer = stringBytes (stringsUnicode flags); Valid = StringV (stringsUnicode flags); law = string-law (k + 1) (stringsUnicode flags) })
 
 abbrev blocks-s : Sect (List ℕ)
 blocks-s = record { reader = blocksR; writer = blocksBytes; Valid = BlocksV; law = blocks-law }
@@ -139,8 +139,8 @@ fileR = file-s .reader
 unfoldable pub decode : List ℕ → Outcome Contents
 unfolding fileR
 decode s =
-    tests most (leb (length s) most else LONG ∷ [])
-    (andThen (fileR 0 s) (λ c n. tests n (eqb n (length s) else TRAIL ∷ []) (got (toContents c) n)))
+    tests noSection (leb (length s) most else LONG at most ∷ [])
+    (andThen (fileR 0 s) (λ c n. tests (section 9 (n - 4)) (eqb n (length s) else TRAIL at 4 ∷ []) (got (toContents c) n)))
 
 unfoldable pub Valid : Contents → Type 0
 Valid c = file-s .Valid (fromContents c)
@@ -155,13 +155,13 @@ pub decode-elim {ℓ} : (s : List ℕ) (X : Contents → ℕ → Type ℓ)
     → (c : Contents) (n : ℕ) → decode s ≡ got c n → X c n
 unfolding decode
 decode-elim s X f c n e =
-    let i = passed most (leb (length s) most else LONG ∷ []) _ e in
+    let i = passed noSection (leb (length s) most else LONG at most ∷ []) _ e in
     go (leb-true _ _ (i .0 .0)) (fileR 0 s) refl (i .1)
   where
     go : length s ≤ most → (r : Outcome (Header × TailC)) → fileR 0 s ≡ r
-        → andThen r (λ c n. tests n (eqb n (length s) else TRAIL ∷ []) (got (toContents c) n)) ≡ got c n → X c n
+        → andThen r (λ c n. tests (section 9 (n - 4)) (eqb n (length s) else TRAIL at 4 ∷ []) (got (toContents c) n)) ≡ got c n → X c n
     go l (got a k) i h =
-        let j = passed k (eqb k (length s) else TRAIL ∷ []) (got (toContents a) k) h in
+        let j = passed (section 9 (k - 4)) (eqb k (length s) else TRAIL at 4 ∷ []) (got (toContents a) k) h in
         let q : k ≡ length s = eqb-true k (length s) (j .0 .0) in
         got-elim X (ap (got (toContents a)) (sym q) ∙ j .1) (f l a (i ∙ ap (got a) q))
     go l (refused x y) i h = no-value h
@@ -206,7 +206,7 @@ beginning s c n e k h =
     (λ l a i.
     let z = file-s .law .cut 0 s a (length s) i k h in
     record {
-      position = z .position;
+      spot = z .spot;
       early = omega (arith, z .early);
       is = rw (le-leb (length (take k s)) most (omega (arith, length-take k s)), z .is);
     })

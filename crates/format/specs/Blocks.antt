@@ -7,8 +7,8 @@ use lib.Dec.{leb, ltb, eqb}
 use Rattle.octets.specs.Numbers.{u32At}
 use Rattle.format.specs.declared.Place.{Place}
 use Rattle.format.specs.declared.Fault.the-variants.{Cut as CUT, Block as BLOCK}
-use Rattle.format.specs.Tests.{Test, _else_, tests, Outcome, got, refused, Reader, andThen, place, noPlace}
-use Rattle.format.specs.Items.{itemList}
+use Rattle.format.specs.Tests.{Test, _else_at_, Site, section, spotAt, tests, Outcome, got, refused, Reader, andThen, place, noPlace}
+use Rattle.format.specs.Items.{itemTests}
 use Rattle.format.specs.Pieces.{textEnds}
 
 -- ---- the table of signatures
@@ -59,16 +59,16 @@ sizeFits slot n = sizeIn signatures slot n
 -- ---- one block
 
 -- both texts of a path block end in their room, 260 bytes from 8 on and 260 units from 268 on; what follows an end is free
-abbrev pub pathTexts : List ℕ → Bool
-pathTexts b = textEnds false (take 260 (drop 8 b)) && textEnds true (take 520 (drop 268 b))
+abbrev pub pathTests : List ℕ → List Test
+pathTests b = textEnds false (take 260 (drop 8 b)) else BLOCK at 8 ∷ textEnds true (take 520 (drop 268 b)) else BLOCK at 268 ∷ []
 
 -- what a block b holds: the three path blocks (A0000001, A0000006, A0000007) their texts, A000000C items from byte 8 to its end
-unfoldable pub insideFits : ℕ → List ℕ → Bool
+unfoldable pub insideTests : ℕ → List ℕ → List Test
 unfolding slotOf
-insideFits slot b =
-    cond (eqb slot (slotOf 0xA0000001) || eqb slot (slotOf 0xA0000006) || eqb slot (slotOf 0xA0000007)) (pathTexts b)
-    (cond (eqb slot (slotOf 0xA000000C)) (itemList (drop 8 b))
-    true)
+insideTests slot b =
+    cond (eqb slot (slotOf 0xA0000001) || eqb slot (slotOf 0xA0000006) || eqb slot (slotOf 0xA0000007)) (pathTests b)
+    (cond (eqb slot (slotOf 0xA000000C)) (itemTests BLOCK 8 0 (drop 8 b))
+    [])
 
 abbrev pub slotAt : List ℕ → ℕ
 slotAt b = slotOf (u32At b 4)
@@ -76,9 +76,8 @@ slotAt b = slotOf (u32At b 4)
 -- by signature at 4: its size, then what it holds
 abbrev pub blockRules : List ℕ → List Test
 blockRules b =
-    sizeFits (slotAt b) (length b) else BLOCK
-    ∷ insideFits (slotAt b) b else BLOCK
-    ∷ []
+    sizeFits (slotAt b) (length b) else BLOCK at 0
+    ∷ insideTests (slotAt b) b
 
 abbrev pub blockSize : List ℕ → ℕ
 blockSize s = u32At s 0
@@ -86,8 +85,8 @@ blockSize s = u32At s 0
 -- Size 4 to 7: BLOCK. Beyond the file: CUT. Then by signature
 abbrev pub blockTests : List ℕ → List Test
 blockTests s =
-    leb 8 (blockSize s) else BLOCK
-    ∷ leb (blockSize s) (length s) else CUT
+    leb 8 (blockSize s) else BLOCK at 0
+    ∷ leb (blockSize s) (length s) else CUT at 0
     ∷ blockRules (take (blockSize s) s)
 
 -- ---- the step: what stands where a block is due, and how many bytes it has
@@ -96,11 +95,18 @@ pub data Standing : Type 0 where
   aBlock : Standing
   aTerminal : Standing
 
+-- a block or the terminal: where no size stands the terminal is missing
+abbrev pub block : ℕ → Site
+block p = section 8 p
+
+abbrev pub terminal : ℕ → Site
+terminal p = section 9 p
+
 -- a size has four bytes, else CUT; below 4 it is no size but makes the terminal, which is those four bytes
 abbrev pub blockStep : Reader Standing
 blockStep p s =
-    tests p (leb 4 (length s) else CUT ∷ [])
-    (cond (ltb (blockSize s) 4) (got aTerminal 4) (tests p (blockTests s) (got aBlock (blockSize s))))
+    tests (terminal p) (leb 4 (length s) else CUT at 0 ∷ [])
+    (cond (ltb (blockSize s) 4) (got aTerminal 4) (tests (block p) (blockTests s) (got aBlock (blockSize s))))
 
 -- ---- the walk: the lengths of the blocks before the terminal
 
@@ -112,12 +118,12 @@ follow (refused f q) rest = refused f q
 
 -- p is where the next block starts; k bytes of the one before it are still to come
 unfoldable pub blocksFrom : ℕ → ℕ → List ℕ → Outcome (List ℕ)
-blocksFrom p zero [] = refused CUT p
+blocksFrom p zero [] = refused CUT (spotAt (terminal p) 0)
 blocksFrom p zero (a ∷ l) =
     let n = blockSize (a ∷ l) in
     follow (blockStep p (a ∷ l)) (blocksFrom (p + n) (n - 1) l)
 -- never met: a block's size was tested against what is left
-blocksFrom p (suc k) [] = refused CUT p
+blocksFrom p (suc k) [] = refused CUT (spotAt (terminal p) 0)
 blocksFrom p (suc k) (a ∷ l) = blocksFrom p k l
 
 abbrev pub blocks : Reader (List ℕ)

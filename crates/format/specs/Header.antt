@@ -8,7 +8,7 @@ use lib.IntN.{ℤ, pos, negsuc}
 use Rattle.octets.specs.Numbers.{number, numberAt, u16At, u32At, u64At}
 use Rattle.format.specs.declared.Header.{Header}
 use Rattle.format.specs.declared.Fault.the-variants.{Cut as CUT, Magic as MAGIC, Head as HEAD}
-use Rattle.format.specs.Tests.{Test, _else_, tests, got, Reader, bit}
+use Rattle.format.specs.Tests.{Test, _else_at_, section, tests, got, Reader, bit}
 use Rattle.format.specs.Hotkey.{hotkeyOk}
 
 -- 01 14 02 00, 00 00 00 00, C0 00 00 00, 00 00 00 46
@@ -44,14 +44,14 @@ zerosFrom66 l = eqb (numberAt 10 l 66) 0
 -- In what follows l is the 76 bytes.
 abbrev pub headTests : List ℕ → List Test
 headTests l =
-    flagsOk (u32At l 20) else HEAD
-    ∷ attributesOk (u32At l 24) else HEAD
-    ∷ hotkeyOk (u16At l 64) else HEAD
-    ∷ zerosFrom66 l else HEAD
+    flagsOk (u32At l 20) else HEAD at 20
+    ∷ attributesOk (u32At l 24) else HEAD at 24
+    ∷ hotkeyOk (u16At l 64) else HEAD at 64
+    ∷ zerosFrom66 l else HEAD at 66
     ∷ []
 
 abbrev pub headerRules : List ℕ → List Test
-headerRules l = headerSizeOk (u32At l 0) else MAGIC ∷ identifierOk l else MAGIC ∷ headTests l
+headerRules l = headerSizeOk (u32At l 0) else MAGIC at 0 ∷ identifierOk l else MAGIC at 4 ∷ headTests l
 
 -- 32 bits as a signed number
 unfoldable pub signed : ℕ → ℤ
@@ -71,7 +71,7 @@ headerFields l = record {
 }
 
 abbrev pub header : Reader Header
-header p s = tests p (leb 76 (length s) else CUT ∷ headerRules (take 76 s)) (got (headerFields (take 76 s)) 76)
+header p s = tests (section 0 p) (leb 76 (length s) else CUT at 0 ∷ headerRules (take 76 s)) (got (headerFields (take 76 s)) 76)
 
 -- a ShowCommand of 3 or 7 is the window shown; every other shows 1
 abbrev pub windowShown : ℕ → ℕ

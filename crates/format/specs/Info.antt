@@ -7,7 +7,7 @@ use lib.Dec.{leb, eqb}
 use Rattle.octets.specs.Numbers.{u32At}
 use Rattle.format.specs.declared.Info.{Info}
 use Rattle.format.specs.declared.Fault.the-variants.{Cut as CUT, Info as INFO}
-use Rattle.format.specs.Tests.{Test, _else_, tests, got, Reader, noPlace}
+use Rattle.format.specs.Tests.{Test, _else_at_, section, tests, got, Reader, noPlace}
 use Rattle.format.specs.Presence.{localThere, networkThere, localUnicodeThere}
 use Rattle.format.specs.Pieces.{Piece, textPiece, textPlace, absentZero, pieceTests}
 use Rattle.format.specs.Volume.{volumePiece, volumeAt, noVolume}
@@ -44,23 +44,23 @@ hasLocalUnicode l = localUnicodeThere (longHead l) (infoFlags l)
 -- Offset fields: VolumeID at 12, LocalBasePath 16, network link 20, CommonPathSuffix 24; with a long head LocalBasePathUnicode 28, CommonPathSuffixUnicode 32
 abbrev pub infoPieces : List ℕ → List Piece
 infoPieces l =
-    volumePiece (hasLocal l) l (u32At l 12)
-    ∷ textPiece (hasLocal l) false l (u32At l 16)
-    ∷ networkPiece (hasNetwork l) l (u32At l 20)
-    ∷ textPiece true false l (u32At l 24)
-    ∷ textPiece (hasLocalUnicode l) true l (u32At l 28)
-    ∷ textPiece (longHead l) true l (u32At l 32)
+    volumePiece (hasLocal l) l 12 (u32At l 12)
+    ∷ textPiece (hasLocal l) false l 16 (u32At l 16)
+    ∷ networkPiece (hasNetwork l) l 20 (u32At l 20)
+    ∷ textPiece true false l 24 (u32At l 24)
+    ∷ textPiece (hasLocalUnicode l) true l 28 (u32At l 28)
+    ∷ textPiece (longHead l) true l 32 (u32At l 32)
     ∷ []
 
 -- the fixed head, INFO: its size, its flags, then zeros in the offset fields of absent parts
 abbrev pub infoHeadTests : List ℕ → List Test
 infoHeadTests l =
-    headOk l else INFO
-    ∷ leb (infoFlags l) 3 else INFO
-    ∷ absentZero (hasLocal l) (u32At l 12) else INFO
-    ∷ absentZero (hasLocal l) (u32At l 16) else INFO
-    ∷ absentZero (hasNetwork l) (u32At l 20) else INFO
-    ∷ (not (longHead l) || absentZero (hasLocal l) (u32At l 28)) else INFO
+    headOk l else INFO at 4
+    ∷ leb (infoFlags l) 3 else INFO at 8
+    ∷ absentZero (hasLocal l) (u32At l 12) else INFO at 12
+    ∷ absentZero (hasLocal l) (u32At l 16) else INFO at 16
+    ∷ absentZero (hasNetwork l) (u32At l 20) else INFO at 20
+    ∷ (not (longHead l) || absentZero (hasLocal l) (u32At l 28)) else INFO at 28
     ∷ []
 
 -- then the pieces' tests, PIECE
@@ -95,6 +95,9 @@ infoFields p l = record {
 -- the size field is there (CUT), holds no less than a short head (INFO) and no more than is left (CUT); then the rules
 abbrev pub info : Reader Info
 info p s =
-    tests p
-    (leb 4 (length s) else CUT ∷ leb 0x1C (infoSize s) else INFO ∷ leb (infoSize s) (length s) else CUT ∷ infoRules (take (infoSize s) s))
+    tests (section 2 p)
+    (leb 4 (length s) else CUT at 0
+    ∷ leb 0x1C (infoSize s) else INFO at 0
+    ∷ leb (infoSize s) (length s) else CUT at 0
+    ∷ infoRules (take (infoSize s) s))
     (got (infoFields p (take (infoSize s) s)) (infoSize s))

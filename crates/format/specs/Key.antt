@@ -11,7 +11,7 @@ use Rattle.format.specs.declared.Place.{Place}
 use Rattle.format.specs.declared.Record.{Record}
 use Rattle.format.specs.declared.Verdict.{Verdict}
 use Rattle.format.specs.declared.Fault.the-variants.{Room as ROOM}
-use Rattle.format.specs.Tests.{Outcome, got, refused, _else_, tests, andThen, bit, oneOr0}
+use Rattle.format.specs.Tests.{Outcome, got, refused, _else_at_, noSection, tests, andThen, bit, oneOr0}
 use Rattle.format.specs.Presence.{workdirBit, argumentsBit, stringThere, stringsUnicode}
 use Rattle.format.specs.Blocks.{firstPlace}
 use Rattle.format.specs.Shortcut.{Sections, blocksOf, shortcut, recordOf, verdictOf}
@@ -73,7 +73,7 @@ unfolding shortcut keyOf keyBytes
 key s room =
     andThen (shortcut s) (λ c n.
     let w = keyBytes (keyOf s c) in
-    tests 0 (leb (length w) room else ROOM ∷ []) (got w (length w)))
+    tests noSection (leb (length w) room else ROOM at 0 ∷ []) (got w (length w)))
 
 -- the answer, and the output buffer afterwards; the room is the buffer's length
 unfoldable pub keyAnswer : List ℕ → List ℕ → Verdict

@@ -11,6 +11,7 @@ pub mod Info
 pub mod Strings
 pub mod Blocks
 pub mod Shortcut
+pub mod Positions
 pub mod Bodies
 pub mod Contents
 pub mod Writing

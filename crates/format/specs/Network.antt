@@ -7,7 +7,7 @@ use lib.Dec.{leb, ltb}
 use Rattle.octets.specs.Numbers.{u32At}
 use Rattle.format.specs.declared.Network.{Network}
 use Rattle.format.specs.declared.Fault.the-variants.{Piece as PIECE}
-use Rattle.format.specs.Tests.{Test, _else_, bit, noPlace}
+use Rattle.format.specs.Tests.{Test, _else_at_, bit, noPlace}
 use Rattle.format.specs.Pieces.{Piece, textPiece, textPlace, structTests, absentZero, uncut, pieceTests}
 use Rattle.format.specs.Presence.{deviceThere, providerThere, deviceUnicodeThere}
 
@@ -35,33 +35,34 @@ networkSize s = u32At s 0
 
 abbrev pub networkPieces : List ℕ → List Piece
 networkPieces v =
-    textPiece true false v (u32At v 8)
-    ∷ textPiece (hasDevice v) false v (u32At v 12)
-    ∷ textPiece (networkUnicode v) true v (u32At v 20)
-    ∷ textPiece (hasDeviceUnicode v) true v (u32At v 24)
+    textPiece true false v 8 (u32At v 8)
+    ∷ textPiece (hasDevice v) false v 12 (u32At v 12)
+    ∷ textPiece (networkUnicode v) true v 20 (u32At v 20)
+    ∷ textPiece (hasDeviceUnicode v) true v 24 (u32At v 24)
     ∷ []
 
 -- flags, NetNameOffset, the two Unicode offset fields inside the declared size, then the offsets of device names that are not there
 abbrev pub networkHeadTests : List ℕ → List Test
 networkHeadTests v =
-    leb (networkFlags v) 3 else PIECE
-    ∷ leb 0x14 (u32At v 8) else PIECE
-    ∷ uncut (networkUnicode v) 0x18 v else PIECE
-    ∷ uncut (networkUnicode v) 0x1C v else PIECE
-    ∷ absentZero (hasDevice v) (u32At v 12) else PIECE
-    ∷ (not (networkUnicode v) || absentZero (hasDevice v) (u32At v 24)) else PIECE
+    leb (networkFlags v) 3 else PIECE at 4
+    ∷ leb 0x14 (u32At v 8) else PIECE at 8
+    ∷ uncut (networkUnicode v) 0x18 v else PIECE at 20
+    ∷ uncut (networkUnicode v) 0x1C v else PIECE at 24
+    ∷ absentZero (hasDevice v) (u32At v 12) else PIECE at 12
+    ∷ (not (networkUnicode v) || absentZero (hasDevice v) (u32At v 24)) else PIECE at 24
     ∷ []
 
 -- then those of its strings
 abbrev pub networkRules : List ℕ → List Test
 networkRules v = networkHeadTests v ++ pieceTests (networkHead (networkUnicode v)) (networkPieces v)
 
--- s is LinkInfo's bytes from the network link on; size at least 0x14
-abbrev pub networkTests : List ℕ → List Test
-networkTests s = structTests 0x14 networkRules s
+-- s is LinkInfo's bytes from the network link on, to which the field at i leads by the offset o; size at least 0x14
+abbrev pub networkTests : ℕ → ℕ → List ℕ → List Test
+networkTests i o s = structTests i o 0x14 networkRules s
 
-abbrev pub networkPiece : Bool → List ℕ → ℕ → Piece
-networkPiece present l o = record { present = present; offset = o; own = networkTests (drop o l); size = networkSize (drop o l) }
+abbrev pub networkPiece : Bool → List ℕ → ℕ → ℕ → Piece
+networkPiece present l i o =
+    record { present = present; field = i; offset = o; own = networkTests i o (drop o l); size = networkSize (drop o l) }
 
 abbrev pub noNetwork : Network
 noNetwork = record {

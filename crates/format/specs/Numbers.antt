@@ -42,7 +42,7 @@ outcomeNumber (refused f p) = numberOf f
 
 abbrev pub outcomeValue : {A : Type 0} → Outcome A → ℕ
 outcomeValue (got a n) = n
-outcomeValue (refused f p) = p
+outcomeValue (refused f p) = p .position
 
 -- the answer has the outcome's number and value
 abbrev pub Numbered : {A : Type 0} → Verdict → Outcome A → Type 0

@@ -8,11 +8,12 @@ use Rattle.octets.specs.Numbers.{u32At}
 use Rattle.octets.specs.Characters.{bytesOf, characters, beforeZero, hasZero}
 use Rattle.format.specs.declared.Place.{Place}
 use Rattle.format.specs.declared.Fault.the-variants.{Piece as PIECE}
-use Rattle.format.specs.Tests.{Test, _else_, place, noPlace}
+use Rattle.format.specs.Tests.{Test, _else_at_, inside, place, noPlace}
 
--- whether it is present, its offset, its own tests, that it ends within its structure among them, and how many bytes it has
+-- whether it is present, where its offset field stands and what it holds, its own tests, that it ends within its structure among them, and how many bytes it has
 pub record Piece : Type 0 where
   pub present : Bool
+  pub field : ℕ
   pub offset : ℕ
   pub own : List Test
   pub size : ℕ
@@ -30,12 +31,13 @@ textLength unicode s = bytesOf unicode (beforeZero (characters unicode s))
 abbrev pub textSize : Bool → List ℕ → ℕ
 textSize unicode s = textLength unicode s + bytesOf unicode 1
 
-abbrev pub textTests : Bool → List ℕ → List Test
-textTests unicode s = textEnds unicode s else PIECE ∷ []
+-- i is where the offset field stands, o what it holds
+abbrev pub textTests : ℕ → Bool → List ℕ → List Test
+textTests i unicode s = textEnds unicode s else PIECE at i ∷ []
 
-abbrev pub textPiece : Bool → Bool → List ℕ → ℕ → Piece
-textPiece present unicode l o =
-    record { present = present; offset = o; own = textTests unicode (drop o l); size = textSize unicode (drop o l) }
+abbrev pub textPiece : Bool → Bool → List ℕ → ℕ → ℕ → Piece
+textPiece present unicode l i o =
+    record { present = present; field = i; offset = o; own = textTests i unicode (drop o l); size = textSize unicode (drop o l) }
 
 -- where its body stands in the file, in which l starts at p
 abbrev pub textPlace : Bool → Bool → ℕ → List ℕ → ℕ → Place
@@ -44,12 +46,11 @@ textPlace present unicode p l o = cond present (place (p + o) (textLength unicod
 -- ---- structures
 
 -- s is from the structure on: it says its size in its first four bytes, which lie inside, as all of it does, and it has the least size or more; then its own rules
-abbrev pub structTests : ℕ → (List ℕ → List Test) → List ℕ → List Test
-structTests least rules s =
-    leb 4 (length s) else PIECE
-    ∷ leb (u32At s 0) (length s) else PIECE
-    ∷ leb least (u32At s 0) else PIECE
-    ∷ rules (take (u32At s 0) s)
+abbrev pub structTests : ℕ → ℕ → ℕ → (List ℕ → List Test) → List ℕ → List Test
+structTests i o least rules s =
+    leb 4 (length s) else PIECE at i
+    ∷ leb (u32At s 0) (length s) else PIECE at i
+    ∷ inside o (leb least (u32At s 0) else PIECE at 0 ∷ rules (take (u32At s 0) s))
 
 -- ---- offset fields
 
@@ -65,7 +66,7 @@ uncut there end l = not there || leb end (length l)
 
 -- a piece that is there does not start in the head, and keeps its own tests
 abbrev pub testsOf : ℕ → Piece → List Test
-testsOf head x = cond (x .present) (leb head (x .offset) else PIECE ∷ x .own) []
+testsOf head x = cond (x .present) (leb head (x .offset) else PIECE at (x .field) ∷ x .own) []
 
 -- each where its offset field stands
 abbrev pub eachOk : ℕ → List Piece → List Test
@@ -76,6 +77,10 @@ eachOk head (x ∷ xs) = testsOf head x ++ eachOk head xs
 abbrev pub span : Piece → Place
 span x = cond (x .present) (place (x .offset) (x .size)) noPlace
 
+-- with the field that leads there
+abbrev pub led : Piece → ℕ × Place
+led x = (x .field, span x)
+
 abbrev pub apart : Place → Place → Bool
 apart x y = leb (x .at + x .len) (y .at) || leb (y .at + y .len) (x .at)
 
@@ -84,9 +89,9 @@ apartFrom x [] = true
 apartFrom x (y ∷ ys) = apart x y && apartFrom x ys
 
 -- No two share a byte (house): each is apart from those of the fields before it. Order is free and gaps are allowed
-abbrev pub apartTests : List Place → List Place → List Test
+abbrev pub apartTests : List Place → List (ℕ × Place) → List Test
 apartTests before [] = []
-apartTests before (x ∷ xs) = apartFrom x before else PIECE ∷ apartTests (x ∷ before) xs
+apartTests before ((i, x) ∷ xs) = apartFrom x before else PIECE at i ∷ apartTests (x ∷ before) xs
 
 abbrev pub pieceTests : ℕ → List Piece → List Test
-pieceTests head xs = eachOk head xs ++ apartTests [] (map span xs)
+pieceTests head xs = eachOk head xs ++ apartTests [] (map led xs)

@@ -131,20 +131,20 @@ table =
     ∷ reads (headerOf 0 0 ++ little 4 3) 0 80
     ∷ reads (headerOf 0 0 ++ little 4 4) 8 76
     -- P6
-    ∷ reads (withSection 0x08000000 []) 4 0
+    ∷ reads (withSection 0x08000000 []) 4 20
     ∷ reads (headerOf 0 0x0646 ++ zeros 4) 0 80
-    ∷ reads (headerOf 0 0x0600 ++ zeros 4) 4 0
+    ∷ reads (headerOf 0 0x0600 ++ zeros 4) 4 64
     -- P7, P8
     ∷ reads (withSection 1 (0x02 ∷ 0x00 ∷ 0x00 ∷ 0x00 ∷ [])) 0 84
-    ∷ reads (withSection 1 (0x03 ∷ 0x00 ∷ 0x01 ∷ 0x00 ∷ 0x00 ∷ [])) 5 76
+    ∷ reads (withSection 1 (0x03 ∷ 0x00 ∷ 0x01 ∷ 0x00 ∷ 0x00 ∷ [])) 5 78
     -- P9
     ∷ reads (withSection 0xA0 dashG1) 0 88
     ∷ lists (withSection 0xA0 dashG1) (rowAt 0 0 76 ∷ rowAt 6 76 8 ∷ rowAt 9 84 4 ∷ [])
     ∷ reads (withSection 0x20 dashG1) 2 81
     -- P10
     ∷ reads (withSection 2 (smallInfo 0x1C 0x1C)) 0 109
-    ∷ reads (withSection 2 (smallInfo 0x1C 0x1B)) 7 76
-    ∷ reads (withSection 2 (smallInfo 0x20 0x1C)) 6 76
+    ∷ reads (withSection 2 (smallInfo 0x1C 0x1B)) 7 100
+    ∷ reads (withSection 2 (smallInfo 0x20 0x1C)) 6 80
     -- P11, P12
     ∷ writes (reading Z .held) Z (lent 79) 12 0 (lent 79)
     ∷ writes (reading Z .held) Z (lent 80) 0 80 Z

@@ -1,5 +1,5 @@
 -- FORMAT: Layout, Order of reading, The end. The whole shortcut: LONG first, then the sections in file order, TRAIL last.
-use Prim.Native.Nat.{ℕ, _+_}
+use Prim.Native.Nat.{ℕ, _+_, _-_}
 use mathlib.Core.List.{List, [], _∷_}
 use mathlib.Core.Bool.{Bool, true, false}
 use lib.ListN.{length}
@@ -13,7 +13,8 @@ use Rattle.format.specs.declared.Header.{Header}
 use Rattle.format.specs.declared.Info.{Info}
 use Rattle.format.specs.declared.Record.{Record}
 use Rattle.format.specs.declared.Reading.{Reading}
-use Rattle.format.specs.Tests.{_else_, tests, Outcome, got, refused, Reader, andThen, chain, _then_, optional, place, noPlace}
+use Rattle.format.specs.declared.Faulted.{Faulted}
+use Rattle.format.specs.Tests.{_else_at_, Site, section, noSection, tests, Outcome, got, refused, Reader, andThen, chain, _then_, optional, place, noPlace}
 use Rattle.format.specs.Presence.{itemsThere, infoThere, nameBit, relativeBit, workdirBit, argumentsBit, iconBit, stringThere, stringsUnicode}
 use Rattle.format.specs.Header.{header}
 use Rattle.format.specs.Items.{items}
@@ -41,9 +42,9 @@ found P p s = andThen (P p s) (λ a n. got (record { there = true; start = p; le
 abbrev pub sectionIf : {A : Type 0} → Bool → A → Reader A → Reader (Section A)
 sectionIf there d P = optional there (absent d) (found P)
 
--- a string by its flag bit k, its characters by bit 7
+-- a string by its flag bit k, its characters by bit 7; in the listing its number is one more
 abbrev pub stringSection : ℕ → ℕ → Reader (Section Place)
-stringSection flags k = sectionIf (stringThere k flags) noPlace (string (stringsUnicode flags))
+stringSection flags k = sectionIf (stringThere k flags) noPlace (string (k + 1) (stringsUnicode flags))
 
 abbrev pub Tail : Type 0
 Tail =
@@ -75,8 +76,8 @@ blocksOf c = c .1 .1 .1 .1 .1 .1 .1 .1
 unfoldable pub shortcut : List ℕ → Outcome Sections
 unfolding sections
 shortcut s =
-    tests most (leb (length s) most else LONG ∷ [])
-    (andThen (sections 0 s) (λ c n. tests n (eqb n (length s) else TRAIL ∷ []) (got c n)))
+    tests noSection (leb (length s) most else LONG at most ∷ [])
+    (andThen (sections 0 s) (λ c n. tests (section 9 (n - 4)) (eqb n (length s) else TRAIL at 4 ∷ []) (got c n)))
 
 -- ---- the record that reading gives
 
@@ -129,7 +130,7 @@ noRecord = record {
 -- an accepted answer carries the length, a refusal its fault and position
 abbrev pub verdictOf : {A : Type 0} → Outcome A → Verdict
 verdictOf (got a n) = Accepted n
-verdictOf (refused f p) = Refused f p
+verdictOf (refused f p) = Refused f (p .position)
 
 abbrev pub heldBy : Outcome Sections → Record
 heldBy (got c n) = recordOf c
@@ -138,3 +139,14 @@ heldBy (refused f p) = noRecord
 unfoldable pub reading : List ℕ → Reading
 unfolding shortcut
 reading s = record { verdict = verdictOf (shortcut s); held = heldBy (shortcut s) }
+
+-- ---- where the fault stands
+
+abbrev pub faultedBy : {A : Type 0} → Outcome A → Faulted
+faultedBy (got a n) = record { verdict = Accepted n; section = 0; start = 0 }
+faultedBy (refused f w) = record { verdict = Refused f (w .position); section = w .section; start = w .start }
+
+-- the verdict of reading with the section at fault, for a block the block's own start
+unfoldable pub faulted : List ℕ → Faulted
+unfolding shortcut
+faulted s = faultedBy (shortcut s)

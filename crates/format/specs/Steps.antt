@@ -1,5 +1,7 @@
 -- Steps of the implementation: contracts inside the libraries cite them, and nobody has to believe them.
 pub mod Firsts
 pub mod Lengths
-pub mod AllTests
+pub mod ItemWalk
+pub mod Wrong
 pub mod Answers
+pub mod Earlier

@@ -7,7 +7,7 @@ use lib.Dec.{leb, eqb}
 use Rattle.format.specs.declared.Record.{Record}
 use Rattle.format.specs.declared.Verdict.{Verdict}
 use Rattle.format.specs.declared.Fault.the-variants.{Room as ROOM, NoTarget as NOTARGET}
-use Rattle.format.specs.Tests.{Outcome, got, _else_, tests, andThen, bit}
+use Rattle.format.specs.Tests.{Outcome, got, _else_at_, noSection, tests, andThen, bit}
 use Rattle.format.specs.Presence.{infoThere, localThere, networkThere}
 use Rattle.format.specs.Shortcut.{shortcut, recordOf, verdictOf}
 use Rattle.format.specs.Contents.{bytesAt}
@@ -45,7 +45,7 @@ unfolding shortcut
 target s room =
     andThen (shortcut s) (λ c n.
     let w = targetText s (recordOf c) in
-    tests 0 (hasTarget (recordOf c) else NOTARGET ∷ leb (length w) room else ROOM ∷ []) (got w (length w)))
+    tests noSection (hasTarget (recordOf c) else NOTARGET at 0 ∷ leb (length w) room else ROOM at 0 ∷ []) (got w (length w)))
 
 -- the answer, and the output buffer afterwards; the room is the buffer's length
 unfoldable pub targetAnswer : List ℕ → List ℕ → Verdict

@@ -1,16 +1,37 @@
--- FORMAT: Order of reading. How a section is read: tests in the order given, each with the number that its failure gives; then what was read, and how many bytes it took.
+-- FORMAT: Order of reading. How a section is read: tests in the order given, each with the field that it is of and the number that its failure gives; then what was read, and how many bytes it took.
 use Prim.Native.Nat.{ℕ, _+_, _/_, _%_, _^_}
 use mathlib.Core.List.{List, [], _∷_}
-use mathlib.Core.Bool.{Bool, true, false, cond}
+use mathlib.Core.Bool.{Bool, true, false, _&&_, cond}
 use lib.ListN.{drop}
 use lib.Dec.{eqb}
 use Rattle.format.specs.declared.Fault.{Fault}
 use Rattle.format.specs.declared.Place.{Place}
+use Rattle.format.specs.declared.Spot.{Spot}
 
--- what was read and how many bytes it took; or a fault and its position
+-- a section by its number in the listing and its first byte
+pub record Site : Type 0 where
+  pub number : ℕ
+  pub start : ℕ
+
+abbrev pub section : ℕ → ℕ → Site
+section k p = record { number = k; start = p }
+
+-- what is refused before any section is looked at, and what is no reading
+abbrev pub noSection : Site
+noSection = section 0 0
+
+-- where a refusal stands: the section at fault, and its field that stands i bytes after its start
+abbrev pub spotAt : Site → ℕ → Spot
+spotAt w i = record { section = w .number; start = w .start; position = w .start + i }
+
+-- where a refusal of what is no reading stands: position 0
+abbrev pub nowhere : Spot
+nowhere = spotAt noSection 0
+
+-- what was read and how many bytes it took; or a fault and where it stands
 pub data Outcome (A : Type 0) : Type 0 where
   got : A → ℕ → Outcome A
-  refused : Fault → ℕ → Outcome A
+  refused : Fault → Spot → Outcome A
 
 -- bit k of a number
 abbrev pub bit : ℕ → ℕ → Bool
@@ -28,18 +49,30 @@ noPlace = place 0 0
 
 -- ---- tests
 
+-- the field is counted from the start of the section
 pub record Test : Type 0 where
   pub holds : Bool
   pub fault : Fault
+  pub field : ℕ
 
-infix 90 _else_
-abbrev pub _else_ : Bool → Fault → Test
-b else f = record { holds = b; fault = f }
+infix 90 _else_at_
+abbrev pub _else_at_ : Bool → Fault → ℕ → Test
+b else f at i = record { holds = b; fault = f; field = i }
 
--- the first test that fails decides; p is the position reported
-abbrev pub tests : {A : Type 0} → ℕ → List Test → Outcome A → Outcome A
-tests p [] r = r
-tests p (t ∷ ts) r = cond (t .holds) (tests p ts r) (refused (t .fault) p)
+-- the first test that fails decides
+abbrev pub tests : {A : Type 0} → Site → List Test → Outcome A → Outcome A
+tests w [] r = r
+tests w (t ∷ ts) r = cond (t .holds) (tests w ts r) (refused (t .fault) (spotAt w (t .field)))
+
+-- all tests of a list as one
+abbrev pub all : List Test → Bool
+all [] = true
+all (t ∷ ts) = t .holds && all ts
+
+-- the tests of a structure that starts o bytes after the start of what holds it
+abbrev pub inside : ℕ → List Test → List Test
+inside o [] = []
+inside o (t ∷ ts) = t .holds else t .fault at (o + t .field) ∷ inside o ts
 
 -- ---- sections one after another
 

@@ -10,7 +10,7 @@ use Rattle.format.specs.declared.Label.{Label}
 use Rattle.format.specs.declared.Label.the-variants.{Byte, Unicode}
 use Rattle.format.specs.declared.Volume.{Volume}
 use Rattle.format.specs.declared.Fault.the-variants.{Piece as PIECE}
-use Rattle.format.specs.Tests.{Test, _else_, place, noPlace}
+use Rattle.format.specs.Tests.{Test, _else_at_, place, noPlace}
 use Rattle.format.specs.Pieces.{Piece, textPiece, textLength, structTests, uncut, testsOf}
 
 -- In what follows v is VolumeID's own bytes.
@@ -18,8 +18,11 @@ use Rattle.format.specs.Pieces.{Piece, textPiece, textLength, structTest
 abbrev pub labelUnicode : List ℕ → Bool
 labelUnicode v = eqb (u32At v 12) 0x14
 
+abbrev pub labelField : List ℕ → ℕ
+labelField v = cond (labelUnicode v) 16 12
+
 abbrev pub labelOffset : List ℕ → ℕ
-labelOffset v = cond (labelUnicode v) (u32At v 16) (u32At v 12)
+labelOffset v = u32At v (labelField v)
 
 -- the label's least offset, where the offset fields end: 0x14 if it is Unicode, else 0x10
 abbrev pub labelLeast : Bool → ℕ
@@ -31,17 +34,18 @@ volumeSize s = u32At s 0
 -- drive type at 4, 0 to 6; the field at 16, if it is used, and the label with its terminator after the offset fields lie inside the declared size
 abbrev pub volumeRules : List ℕ → List Test
 volumeRules v =
-    leb (u32At v 4) 6 else PIECE
-    ∷ uncut (labelUnicode v) 0x14 v else PIECE
-    ∷ testsOf (labelLeast (labelUnicode v)) (textPiece true (labelUnicode v) v (labelOffset v))
+    leb (u32At v 4) 6 else PIECE at 4
+    ∷ uncut (labelUnicode v) 0x14 v else PIECE at 16
+    ∷ testsOf (labelLeast (labelUnicode v)) (textPiece true (labelUnicode v) v (labelField v) (labelOffset v))
 
--- s is LinkInfo's bytes from VolumeID on; size at least 0x11
-abbrev pub volumeTests : List ℕ → List Test
-volumeTests s = structTests 0x11 volumeRules s
+-- s is LinkInfo's bytes from VolumeID on, to which the field at i leads by the offset o; size at least 0x11
+abbrev pub volumeTests : ℕ → ℕ → List ℕ → List Test
+volumeTests i o s = structTests i o 0x11 volumeRules s
 
 -- a structure counts with its declared size
-abbrev pub volumePiece : Bool → List ℕ → ℕ → Piece
-volumePiece present l o = record { present = present; offset = o; own = volumeTests (drop o l); size = volumeSize (drop o l) }
+abbrev pub volumePiece : Bool → List ℕ → ℕ → ℕ → Piece
+volumePiece present l i o =
+    record { present = present; field = i; offset = o; own = volumeTests i o (drop o l); size = volumeSize (drop o l) }
 
 abbrev pub labelOf : Bool → Place → Label
 labelOf unicode b = cond unicode (Unicode b) (Byte b)

@@ -12,7 +12,7 @@ use Rattle.format.specs.declared.Header.{Header}
 use Rattle.format.specs.declared.Record.{Record}
 use Rattle.format.specs.declared.Verdict.{Verdict}
 use Rattle.format.specs.declared.Fault.the-variants.{Place as PLACE, Unwritable as UNWRITABLE, Room as ROOM}
-use Rattle.format.specs.Tests.{Outcome, got, refused, _else_, tests}
+use Rattle.format.specs.Tests.{Outcome, got, refused, _else_at_, noSection, tests}
 use Rattle.format.specs.Presence.{itemsThere, infoThere, nameBit, relativeBit, workdirBit, argumentsBit, iconBit, stringThere, stringsUnicode, localThere, networkThere, localUnicodeThere, deviceThere, providerThere, deviceUnicodeThere}
 use Rattle.format.specs.Header.{classIdentifier, flagsOk, attributesOk}
 use Rattle.format.specs.Hotkey.{hotkeyOk}
@@ -319,7 +319,7 @@ unfoldable pub writing : Record → List ℕ → ℕ → Outcome (List ℕ)
 unfolding placed contents canonical writable
 writing r d room =
     let w = canonical (contents d r) in
-    tests 0 (placed (length d) r else PLACE ∷ writable (contents d r) else UNWRITABLE ∷ leb (length w) room else ROOM ∷ [])
+    tests noSection (placed (length d) r else PLACE at 0 ∷ writable (contents d r) else UNWRITABLE at 0 ∷ leb (length w) room else ROOM at 0 ∷ [])
     (got w (length w))
 
 -- ---- what a call leaves in the output buffer it was lent

@@ -2,13 +2,15 @@
 use octets::Cursor;
 ghost use mathlib.Core.Path.{_≡_};
 ghost use mathlib.Core.Bool.{cond};
+ghost use Prim.Native.Nat.{_+_, _<_, _^_};
 ghost use Rattle.format.specs.Numbers.{numberOf};
-ghost use Rattle.format.specs.Tests.{bit, oneOr0};
+ghost use Rattle.format.specs.Tests.{section as sectionFrom, spotAt, bit, oneOr0};
 ghost use Rattle.format.specs.Presence.{itemsThere, infoThere, nameBit, relativeBit, workdirBit, argumentsBit, iconBit, stringThere, stringsUnicode, localThere, networkThere, localUnicodeThere, deviceThere, providerThere, deviceUnicodeThere};
 ghost use Rattle.format.specs.Header.{signed};
 ghost use Rattle.format.specs.Volume.{labelOf};
 ghost use Rattle.format.specs.Writing.{bits};
 ghost use Rattle.format.specs.Bodies.{labelPlace, labelKind};
+ghost use Rattle.format.specs.Steps.Wrong.{first};
 
 // Where a body stands in the body buffer, and how many bytes it has.
 pub struct Place {
@@ -97,10 +99,24 @@ pub enum Verdict {
     Refused(Fault, usize),
 }
 
+// Where a refusal stands: the number of the section at fault as in the listing, its first byte, and the first byte of the field found wrong.
+pub struct Spot {
+    pub section: u32,
+    pub start: usize,
+    pub position: usize,
+}
+
 // A section of one body: the body and the cursor after the section, or why it is refused and where.
 pub enum Taken {
     Got(Place, Cursor),
-    Refused(Fault, usize),
+    Refused(Fault, Spot),
+}
+
+// The verdict on a shortcut beside the section at fault: its number in the listing and its first byte; zeros where it is accepted.
+pub struct Faulted {
+    pub verdict: Verdict,
+    pub section: u32,
+    pub start: usize,
 }
 
 // What reading answers: the record stands beside the verdict, all zeros where that is a refusal.
@@ -195,6 +211,32 @@ pub fn bit_1(n: u32) -> bool
     ensures { λ r. ⌜ r ≡ bit 1 n ⌝ }
 {
     n / 2 % 2 == 1
+}
+
+// The field that stands so many bytes after the start of its section.
+pub fn spot_at(section: u32, start: usize, field: usize) -> Spot
+    requires { ⌜ start + field < 2 ^ 64 ⌝ }
+    ensures { λ r. ⌜ r ≡ spotAt (sectionFrom section start) field ⌝ }
+{
+    Spot {
+        section,
+        start,
+        position: start + field,
+    }
+}
+
+// The field of a test that fails; where it holds, what the tests after it give.
+pub fn unless(holds: bool, field: usize, rest: usize) -> usize
+    ensures { λ r. ⌜ r ≡ cond holds rest field ⌝ }
+{
+    if holds { rest } else { field }
+}
+
+// Of two fields found wrong the first; 0 is none.
+pub fn first(a: usize, b: usize) -> usize
+    ensures { λ r. ⌜ r ≡ first a b ⌝ }
+{
+    if a == 0 { b } else { a }
 }
 
 // ---- what makes each part present

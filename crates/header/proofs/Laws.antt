@@ -8,19 +8,20 @@ use native.Mathlib.Nat.{zero-add, mod-eq-of-lt, div-eq-of-lt, add-mul-div-left, 
 use lib.ListN.{length, take}
 use lib.Dec.{eqb}
 use lib.IntN.{ℤ}
-use borrow.Author.Tests.{eqb-true, eq-eqb, lt-leb, le-leb, not-true, not-false}
+use borrow.Author.Tests.{eqb-true, eq-eqb, ne-eqb, lt-leb, le-leb, not-true, not-false}
 use Rattle.octets.specs.Numbers.{number, numberAt, u16At, u32At, u64At}
 use Rattle.octets.proofs.NumberLaws.{number-split}
 use Rattle.format.specs.declared.Header.{Header}
 use Rattle.format.specs.declared.Fault.the-variants.{Cut as CUT, Magic as MAGIC, Head as HEAD}
-use Rattle.format.specs.Tests.{Outcome, got, refused}
+use Rattle.format.specs.declared.Spot.{Spot}
+use Rattle.format.specs.Tests.{section, spotAt, Outcome, got, refused}
 use Rattle.format.specs.Numbers.{outcomeNumber}
 use Rattle.format.specs.Steps.Answers.{outcomeEnd}
-use Rattle.format.specs.Steps.AllTests.{all}
+use Rattle.format.specs.Steps.Wrong.{wrong}
 use Rattle.format.specs.Header.{classIdentifier, headerSizeOk, identifierOk, flagsOk, attributesOk, zerosFrom66, headTests, signed, headerFields, header}
 use Rattle.format.specs.Hotkey.{hotkeyOk}
 use Rattle.format.proofs.Bools.{and-true, and-both, same-truth, joined-every}
-use Rattle.format.proofs.Chains.{one-fault}
+use Rattle.format.proofs.WrongLaws.{one-fault}
 use Rattle.header.specs.declared.HeaderTaken.{HeaderTaken}
 use Rattle.header.specs.declared.HeaderTaken.the-variants.{Got, Refused}
 use Rattle.header.specs.Steps.Taken.{headerTaken, headerAt, headerNumber, headerValue, HeaderAnswer}
@@ -81,9 +82,9 @@ zeros-are l {a} {b} h pa pb =
     let z : numberAt 10 l 66 ≡ 0 = eqb-true _ _ e in
     and-both (eqb a 0) (eqb b 0) (eq-eqb a 0 (omega arith)) (eq-eqb b 0 (omega arith)))
 
-pub head-are : (l : List ℕ) {f g h : ℕ} {a b c d : Bool} → f ≡ u32At l 20 → a ≡ flagsOk f → g ≡ u32At l 24 → b ≡ attributesOk g → h ≡ u16At l 64 → c ≡ hotkeyOk h
-    → d ≡ zerosFrom66 l → (a && b && c && d) ≡ all (headTests l)
-head-are l {a = a} {b = b} {c = c} {d = d} ef ea eg eb eh ec ed = joined-every a (b ∷ c ∷ d ∷ []) ∙ rw (ea, eb, ec, ed, ef, eg, eh)
+pub head-wrong-is : (l : List ℕ) {f g h : ℕ} {a b c d : Bool} {j k m n : ℕ} → f ≡ u32At l 20 → a ≡ flagsOk f → g ≡ u32At l 24 → b ≡ attributesOk g → h ≡ u16At l 64 → c ≡ hotkeyOk h
+    → d ≡ zerosFrom66 l → j ≡ cond d 0 66 → k ≡ cond c j 64 → m ≡ cond b k 24 → n ≡ cond a m 20 → n ≡ wrong (headTests l)
+head-wrong-is l ef ea eg eb eh ec ed ej ek em en = rw (en, em, ek, ej, ea, eb, ec, ed, ef, eg, eh)
 
 -- ---- the ways out
 
@@ -101,39 +102,39 @@ module _ (s : List ℕ) where
       value (got h n) = omega arith
       value (refused f q) = refl
 
-  pub header-cut : length s < 76 → HeaderAnswer s (Refused CUT 0)
+  pub header-cut : length s < 76 → {w : Spot} → w ≡ spotAt (section 0 0) 0 → HeaderAnswer s (Refused CUT w)
   unfolding headerAt
-  header-cut h = header-read (rw (lt-leb 76 (length s) h))
+  header-cut h e = header-read (rw (lt-leb 76 (length s) h, e))
 
   -- n is HeaderSize
   module _ (whole : 76 ≤ length s) {n : ℕ} {a : Bool} (en : n ≡ u32At (take 76 s) 0) (ea : a ≡ headerSizeOk n) where
     sized : {x : Bool} → a ≡ x → headerSizeOk (u32At (take 76 s) 0) ≡ x
     sized t = ap headerSizeOk (sym en) ∙ sym ea ∙ t
 
-    pub header-size : not a ≡ true → HeaderAnswer s (Refused MAGIC 0)
+    pub header-size : not a ≡ true → {w : Spot} → w ≡ spotAt (section 0 0) 0 → HeaderAnswer s (Refused MAGIC w)
     unfolding headerAt
-    header-size t = header-read (rw (le-leb 76 (length s) whole, sized (not-true a t)))
+    header-size t e = header-read (rw (le-leb 76 (length s) whole, sized (not-true a t), e))
 
     module _ (ta : not a ≡ false) {b : Bool} (eb : b ≡ identifierOk (take 76 s)) where
-      pub header-identifier : not b ≡ true → HeaderAnswer s (Refused MAGIC 0)
+      pub header-identifier : not b ≡ true → {w : Spot} → w ≡ spotAt (section 0 0) 4 → HeaderAnswer s (Refused MAGIC w)
       unfolding headerAt
-      header-identifier t = header-read (rw (le-leb 76 (length s) whole, sized (not-false a ta), sym eb ∙ not-true b t))
+      header-identifier t e = header-read (rw (le-leb 76 (length s) whole, sized (not-false a ta), sym eb ∙ not-true b t, e))
 
-      module _ (tb : not b ≡ false) {k : Bool} (ek : k ≡ all (headTests (take 76 s))) where
+      module _ (tb : not b ≡ false) {k : ℕ} (ek : k ≡ wrong (headTests (take 76 s))) where
         -- the rules of HEAD are one test
-        judged : headerAt s ≡ headerTaken (cond k (got (headerFields (take 76 s)) 76) (refused HEAD 0))
+        judged : headerAt s ≡ headerTaken (cond (eqb k 0) (got (headerFields (take 76 s)) 76) (refused HEAD (spotAt (section 0 0) k)))
         unfolding headerAt
         judged =
             let r : Outcome Header = got (headerFields (take 76 s)) 76 in
-            let g = one-fault HEAD 0 (headTests (take 76 s)) r (refl, (refl, (refl, (refl, tt)))) in
+            let g = one-fault HEAD (section 0 0) (headTests (take 76 s)) r (refl, (omega arith, (refl, (omega arith, (refl, (omega arith, (refl, (omega arith, tt)))))))) in
             rw (le-leb 76 (length s) whole, sized (not-false a ta), sym eb ∙ not-false b tb)
-            (ap headerTaken (g ∙ ap (λ (x : Bool). cond x r (refused HEAD 0)) (sym ek)))
+            (ap headerTaken (g ∙ ap (λ (x : ℕ). cond (eqb x 0) r (refused HEAD (spotAt (section 0 0) x))) (sym ek)))
 
-        pub header-head : not k ≡ true → HeaderAnswer s (Refused HEAD 0)
-        header-head t = header-read (sym (judged ∙ rw (not-true k t)))
+        pub header-head : (k ≡ 0 → ⊥) → {w : Spot} → w ≡ spotAt (section 0 0) k → HeaderAnswer s (Refused HEAD w)
+        header-head t e = header-read (sym (judged ∙ rw (ne-eqb k 0 t, e)))
 
-        pub header-got : {h : Header} → not k ≡ false → h ≡ headerFields (take 76 s) → HeaderAnswer s (Got h (record { at = 76 }))
-        header-got t e = header-read (rw e (sym (judged ∙ rw (not-false k t))))
+        pub header-got : {h : Header} → k ≡ 0 → h ≡ headerFields (take 76 s) → HeaderAnswer s (Got h (record { at = 76 }))
+        header-got t e = header-read (rw e (sym (judged ∙ rw t)))
 
 pub fields-are : (l : List ℕ) {a b c d e f h j : ℕ} {i : ℤ} → a ≡ u32At l 20 → b ≡ u32At l 24 → c ≡ u64At l 28 → d ≡ u64At l 36 → e ≡ u64At l 44 → f ≡ u32At l 52
     → i ≡ signed (u32At l 56) → h ≡ u32At l 60 → j ≡ u16At l 64

@@ -1,19 +1,22 @@
 // The header, and the window shown (FORMAT: Header).
 use format::Fault;
 use format::Header;
+use format::Spot;
+use format::spot_at;
+use format::unless;
 use octets::Cursor;
 ghost use mathlib.Core.Path.{_≡_};
 ghost use Prim.Native.Nat.{_≤_};
 ghost use lib.ListN.{length};
-ghost use Rattle.format.specs.Steps.AllTests.{all};
 ghost use Rattle.format.specs.Header.{headerSizeOk, identifierOk, flagsOk, attributesOk, zerosFrom66, headTests, headerFields, windowShown};
 ghost use Rattle.format.specs.Hotkey.{lowByteOk, highByteOk, hotkeyOk};
+ghost use Rattle.format.specs.Steps.Wrong.{wrong};
 ghost use Rattle.header.specs.Steps.Taken.{HeaderAnswer};
 
 // The header and the cursor after it, or why it is refused and where.
 pub enum HeaderTaken {
     Got(Header, Cursor),
-    Refused(Fault, usize),
+    Refused(Fault, Spot),
 }
 
 fn header_size_ok(n: u32) -> bool
@@ -84,14 +87,20 @@ fn zeros_from_66(l: &[u8]) -> bool
     (octets::u16_at(l, 66) == 0) & (octets::u64_at(l, 68) == 0)
 }
 
-fn head_ok(l: &[u8]) -> bool
+// The first field that breaks a rule of HEAD, or 0.
+fn head_wrong(l: &[u8]) -> usize
     requires { ⌜ 76 ≤ length (now l) ⌝ }
-    ensures { λ r. ⌜ r ≡ all (headTests (now (l .entry))) ⌝ }
+    ensures { λ r. ⌜ r ≡ wrong (headTests (now (l .entry))) ⌝ }
 {
-    flags_ok(octets::u32_at(l, 20))
-        & attributes_ok(octets::u32_at(l, 24))
-        & hotkey_ok(octets::u16_at(l, 64))
-        & zeros_from_66(l)
+    let flags = flags_ok(octets::u32_at(l, 20));
+    let attributes = attributes_ok(octets::u32_at(l, 24));
+    let hotkey = hotkey_ok(octets::u16_at(l, 64));
+    let zeros = zeros_from_66(l);
+    unless(
+        flags,
+        20,
+        unless(attributes, 24, unless(hotkey, 64, unless(zeros, 66, 0))),
+    )
 }
 
 fn header_fields(l: &[u8]) -> Header
@@ -115,17 +124,18 @@ pub fn header(s: &[u8]) -> HeaderTaken
     ensures { λ r. ⌜ HeaderAnswer (now (s .entry)) r ⌝ }
 {
     if s.len() < 76 {
-        return HeaderTaken::Refused(Fault::Cut, 0);
+        return HeaderTaken::Refused(Fault::Cut, spot_at(0, 0, 0));
     }
     let l = &s[..76];
     if !header_size_ok(octets::u32_at(l, 0)) {
-        return HeaderTaken::Refused(Fault::Magic, 0);
+        return HeaderTaken::Refused(Fault::Magic, spot_at(0, 0, 0));
     }
     if !identifier_ok(l) {
-        return HeaderTaken::Refused(Fault::Magic, 0);
+        return HeaderTaken::Refused(Fault::Magic, spot_at(0, 0, 4));
     }
-    if !head_ok(l) {
-        return HeaderTaken::Refused(Fault::Head, 0);
+    let wrong = head_wrong(l);
+    if wrong != 0 {
+        return HeaderTaken::Refused(Fault::Head, spot_at(0, 0, wrong));
     }
     HeaderTaken::Got(header_fields(l), Cursor { at: 76 })
 }

@@ -4,25 +4,27 @@ use mathlib.Core.List.{List, [], _∷_, map}
 use mathlib.Core.Bool.{Bool, true, false, not, _&&_, _||_, cond}
 use Prim.Native.Nat.{ℕ, _+_, _-_, _≤_, _<_}
 use native.Mathlib.Omega.{arith}
-use lib.ListN.{length, take, drop, length-drop}
+use lib.ListN.{length, take, drop, length-take, length-drop}
 use lib.Dec.{leb, eqb}
-use borrow.Author.Tests.{le-leb, lt-leb, leb-true, eqb-true, not-true, not-false}
+use borrow.Author.Tests.{le-leb, lt-leb, leb-true, eqb-true, eq-eqb, ne-eqb, not-true, not-false}
 use Rattle.octets.specs.Numbers.{u32At}
 use Rattle.octets.specs.declared.Cursor.{Cursor}
 use Rattle.format.specs.declared.Fault.{Fault}
 use Rattle.format.specs.declared.Fault.the-variants.{Cut as CUT, Info as INFO, Piece as PIECE}
 use Rattle.format.specs.declared.Info.{Info}
-use Rattle.format.specs.Tests.{Outcome, got, refused, Test, _else_, tests}
+use Rattle.format.specs.declared.Spot.{Spot}
+use Rattle.format.specs.Tests.{Site, section, spotAt, Outcome, got, refused, Test, _else_at_, tests, all}
 use Rattle.format.specs.Numbers.{outcomeNumber}
-use Rattle.format.specs.Steps.AllTests.{all}
 use Rattle.format.specs.Steps.Answers.{outcomeEnd}
-use Rattle.format.specs.Pieces.{Piece, textPiece, absentZero, testsOf, apartTests}
-use Rattle.format.specs.Volume.{volumePiece}
-use Rattle.format.specs.Network.{networkPiece}
-use Rattle.format.specs.Info.{infoSize, infoHead, longHead, hasLocal, hasNetwork, infoPieces, infoHeadTests, infoRules, infoFields, hasLocalUnicode, info}
+use Rattle.format.specs.Steps.Wrong.{wrong, first}
+use Rattle.format.specs.Pieces.{Piece, textEnds, textPiece, absentZero, testsOf, apartTests}
+use Rattle.format.specs.Volume.{volumePiece, volumeRules, volumeFields}
+use Rattle.format.specs.Network.{networkPiece, networkRules, networkFields}
+use Rattle.format.specs.Info.{infoSize, infoHead, longHead, headOk, infoFlags, hasLocal, hasNetwork, infoPieces, infoHeadTests, infoRules, infoFields, hasLocalUnicode, info}
 use Rattle.format.specs.Presence.{localThere, networkThere, localUnicodeThere}
-use Rattle.format.proofs.Bools.{or-true, and-true, and-assoc, and-yes}
-use Rattle.format.proofs.Chains.{Pass, tests-append, all-pass, pass-all, one-fault}
+use Rattle.format.proofs.Bools.{or-true, and-true}
+use Rattle.format.proofs.Chains.{Pass, tests-append, all-pass, pass-all}
+use Rattle.format.proofs.WrongLaws.{Faults, one-fault, none-wrong}
 use Rattle.format.proofs.Holds.{infoPieceTests, info-head-holds, info-pieces-hold}
 use Rattle.info.specs.declared.InfoTaken.{InfoTaken}
 use Rattle.info.specs.declared.InfoTaken.the-variants.{Got, Refused}
@@ -32,89 +34,193 @@ use Rattle.info.specs.declared.NetworkFound.{NetworkFound}
 use Rattle.info.specs.declared.Pieces.{Pieces}
 use Rattle.info.specs.Steps.Found.{fieldIf, pieceOk, textFound, volumeFound, networkFound, piecesFound}
 use Rattle.info.specs.Steps.Taken.{infoTaken, infoAt, infoNumber, infoValue, InfoAnswer}
-use Rattle.info.proofs.TestLaws.{judge, pieces-judged, info-faults}
-use Rattle.info.proofs.TextLaws.{text-field, zero-field}
-use Rattle.info.proofs.StructLaws.{first-number}
+use Rattle.info.proofs.TestLaws.{first-unless, fields-told, fields-one, fields-most, text-fields, AllFields, pieces-fields, judge, pieces-judged}
+use Rattle.info.proofs.TextLaws.{any-field, text-judged, text-field, zero-field}
+use Rattle.info.proofs.StructLaws.{first-number, struct-fields}
+use Rattle.info.proofs.VolumeLaws.{volume-fields}
+use Rattle.info.proofs.NetworkLaws.{network-fields}
 
--- ---- the head
+-- ---- the head, field after field
 
 abbrev headFits : ℕ → ℕ → Bool
 headFits head z = eqb head 0x1C || (leb 0x24 head && leb head z)
 
--- a long head lies inside
-long-inside : (head z : ℕ) → headFits head z ≡ true → leb 0x24 head ≡ true → 0x24 ≤ z
-long-inside head z h t =
-    let k : 0x24 ≤ head = leb-true 0x24 head t in
+-- a head that fits is not empty, and a long one lies inside
+fits-inside : (head z : ℕ) → headFits head z ≡ true → (0 < head) × (leb 0x24 head ≡ true → 0x24 ≤ z)
+fits-inside head z h =
     or-true (eqb head 0x1C) (leb 0x24 head && leb head z) h
-    (λ e. absurd (omega (arith, eqb-true head 0x1C e)))
-    (λ e. omega (arith, leb-true head z (and-true (leb 0x24 head) (leb head z) e .1)))
+    (λ e. let q = eqb-true head 0x1C e in (omega arith, λ t. absurd (omega (arith, leb-true 0x24 head t))))
+    (λ e.
+    let (a, b) = and-true (leb 0x24 head) (leb head z) e in
+    let f = leb-true 0x24 head a in
+    let g = leb-true head z b in
+    (omega arith, λ t. omega arith))
 
 module _ (l : List ℕ) {head : ℕ} (eh : head ≡ u32At l 4) where
-  pub head-fails : not (headFits head (length l)) ≡ true → false ≡ all (infoHeadTests l)
-  head-fails t = rw (← eh, not-true (headFits head (length l)) t)
+  pub head-unfit : not (headFits head (length l)) ≡ true → 4 ≡ wrong (infoHeadTests l)
+  head-unfit t = rw (← eh, not-true (headFits head (length l)) t)
 
-  pub head-room : not (headFits head (length l)) ≡ false → leb 0x24 head ≡ true → 0x24 ≤ length l
-  head-room t = long-inside head (length l) (not-false (headFits head (length l)) t)
+  module _ {flags : ℕ} (th : not (headFits head (length l)) ≡ false) (ef : flags ≡ u32At l 8) where
+    pub head-room : leb 0x24 head ≡ true → 0x24 ≤ length l
+    head-room = fits-inside head (length l) (not-false (headFits head (length l)) th) .1
 
-  pub passed-room : all (infoHeadTests l) ≡ true → leb 0x24 head ≡ true → 0x24 ≤ length l
-  passed-room e = long-inside head (length l) (rw eh (info-head-holds l (all-pass (infoHeadTests l) e) .head))
+    pub flags-unfit : 3 < flags → 8 ≡ wrong (infoHeadTests l)
+    flags-unfit h = rw (← eh, not-false (headFits head (length l)) th, ← ef, lt-leb flags 3 h)
 
-  pub head-passes : {flags o₁ o₂ o₃ o₄ : ℕ} {local linked x₁ x₂ x₃ x₄ : Bool} → not (headFits head (length l)) ≡ false
-      → flags ≡ u32At l 8 → local ≡ localThere flags → o₁ ≡ u32At l 12 → x₁ ≡ absentZero local o₁ → o₂ ≡ u32At l 16 → x₂ ≡ absentZero local o₂ → linked ≡ networkThere flags
-      → o₃ ≡ u32At l 20 → x₃ ≡ absentZero linked o₃ → o₄ ≡ fieldIf (leb 0x24 head) l 28 → x₄ ≡ absentZero local o₄
-      → ((((leb flags 3 && x₁) && x₂) && x₃) && x₄) ≡ all (infoHeadTests l)
-  head-passes t ef ea e₁ f₁ e₂ f₂ eb e₃ f₃ e₄ f₄ =
-      rw (← eh, not-false (headFits head (length l)) t, f₁, f₂, f₃, f₄, e₁, e₂, e₃, e₄, zero-field _ (leb 0x24 head) l 28, ea, eb, ef) (simp (and-assoc, and-yes))
+    module _ {there x : Bool} {o : ℕ} (hf : flags ≤ 3) (et : there ≡ localThere flags) (eo : o ≡ u32At l 12) (ex : x ≡ absentZero there o) where
+      volume-is : absentZero (localThere flags) (u32At l 12) ≡ x
+      volume-is = rw (ex, eo, et)
+
+      pub volume-kept : not x ≡ true → 12 ≡ wrong (infoHeadTests l)
+      volume-kept t = rw (← eh, not-false (headFits head (length l)) th, ← ef, le-leb flags 3 hf, volume-is, not-true x t)
+
+      module _ {y : Bool} {q : ℕ} (tx : not x ≡ false) (eq : q ≡ u32At l 16) (ey : y ≡ absentZero there q) where
+        local-is : absentZero (localThere flags) (u32At l 16) ≡ y
+        local-is = rw (ey, eq, et)
+
+        pub local-kept : not y ≡ true → 16 ≡ wrong (infoHeadTests l)
+        local-kept t = rw (← eh, not-false (headFits head (length l)) th, ← ef, le-leb flags 3 hf, volume-is, not-false x tx, local-is, not-true y t)
+
+        module _ {linked z : Bool} {r : ℕ} (ty : not y ≡ false) (en : linked ≡ networkThere flags) (er : r ≡ u32At l 20) (ez : z ≡ absentZero linked r) where
+          network-is : absentZero (networkThere flags) (u32At l 20) ≡ z
+          network-is = rw (ez, er, en)
+
+          pub network-kept : not z ≡ true → 20 ≡ wrong (infoHeadTests l)
+          network-kept t =
+              rw (← eh, not-false (headFits head (length l)) th, ← ef, le-leb flags 3 hf, volume-is, not-false x tx, local-is, not-false y ty, network-is, not-true z t)
+
+          pub local-unicode-kept : {w : Bool} {m n : ℕ} → not z ≡ false → m ≡ fieldIf (leb 0x24 head) l 28 → w ≡ absentZero there m → n ≡ cond w 0 28 → n ≡ wrong (infoHeadTests l)
+          local-unicode-kept {w} t em ew e =
+              let i : (not (leb 0x24 head) || absentZero (localThere flags) (u32At l 28)) ≡ w = sym (ew ∙ rw (em, et) (zero-field (localThere flags) (leb 0x24 head) l 28)) in
+              rw (← eh, not-false (headFits head (length l)) th, ← ef, le-leb flags 3 hf, volume-is, not-false x tx, local-is, not-false y ty, network-is, not-false z t, i) e
+
+head-faults : (l : List ℕ) → Faults INFO (infoHeadTests l)
+head-faults l = (refl, (omega arith, (refl, (omega arith, (refl, (omega arith, (refl, (omega arith, (refl, (omega arith, (refl, (omega arith, tt))))))))))))
+
+pub head-most : (l : List ℕ) {k : ℕ} → k ≡ wrong (infoHeadTests l) → k ≤ 28
+head-most l e =
+    rw e
+    (go (headOk l) (leb (infoFlags l) 3) (absentZero (hasLocal l) (u32At l 12)) (absentZero (hasLocal l) (u32At l 16)) (absentZero (hasNetwork l) (u32At l 20))
+    (not (longHead l) || absentZero (hasLocal l) (u32At l 28)))
+  where
+    go : (a b c d e f : Bool) → cond a (cond b (cond c (cond d (cond e (cond f 0 28) 20) 16) 12) 8) 4 ≤ 28
+    go true true true true true true = omega arith
+    go true true true true true false = omega arith
+    go true true true true false f = omega arith
+    go true true true false e f = omega arith
+    go true true false d e f = omega arith
+    go true false c d e f = omega arith
+    go false b c d e f = omega arith
+
+module _ (l : List ℕ) (e : wrong (infoHeadTests l) ≡ 0) where
+  fits : (0 < infoHead l) × (longHead l ≡ true → 0x24 ≤ length l)
+  fits = fits-inside (infoHead l) (length l) (info-head-holds l (none-wrong INFO (infoHeadTests l) (head-faults l) e) .head)
+
+  pub passed-room : {head : ℕ} → head ≡ u32At l 4 → leb 0x24 head ≡ true → 0x24 ≤ length l
+  passed-room eh t = fits .1 (rw (← eh) t)
+
+  -- ---- the pieces are of fields that are not 0 and no later than 32 after the end
+  pieces-within : AllFields (length l + 32) (infoHead l) (infoPieces l)
+  pieces-within =
+      let k : ℕ = length l + 32 in
+      let h : ℕ = infoHead l in
+      let z : 0 < h = fits .0 in (
+        struct-fields k 12 16 0x11 volumeRules volumeFields (hasLocal l) l h (u32At l 12) (omega arith) (omega arith) (omega arith) z volume-fields,
+        (
+          text-fields k h (hasLocal l) false l 16 (u32At l 16) (omega arith) (omega arith),
+          (
+            struct-fields k 20 24 0x14 networkRules networkFields (hasNetwork l) l h (u32At l 20) (omega arith) (omega arith) (omega arith) z network-fields,
+            (
+              text-fields k h true false l 24 (u32At l 24) (omega arith) (omega arith),
+              (
+                text-fields k h (hasLocalUnicode l) true l 28 (u32At l 28) (omega arith) (omega arith),
+                (text-fields k h (longHead l) true l 32 (u32At l 32) (omega arith) (omega arith), tt),
+              ),
+            ),
+          ),
+        ),
+      )
 
 -- ---- the pieces
 
 -- the six pieces, as they were found
 pub record Six (p : ℕ) (l : List ℕ) (a : VolumeFound) (b : Text) (c : NetworkFound) (d e f : Text) : Type 0 where
-  pub volume : a ≡ volumeFound (hasLocal l) l p (infoHead l) (u32At l 12)
+  pub volume : a ≡ volumeFound (hasLocal l) l p (infoHead l)
   pub local : b ≡ textFound (hasLocal l) false l p (infoHead l) (u32At l 16)
-  pub network : c ≡ networkFound (hasNetwork l) l p (infoHead l) (u32At l 20)
+  pub network : c ≡ networkFound (hasNetwork l) l p (infoHead l)
   pub suffix : d ≡ textFound true false l p (infoHead l) (u32At l 24)
   pub localUnicode : e ≡ textFound (hasLocalUnicode l) true l p (infoHead l) (u32At l 28)
   pub suffixUnicode : f ≡ textFound (longHead l) true l p (infoHead l) (u32At l 32)
 
-pub six : (p : ℕ) (l : List ℕ) {head flags o₁ o₂ o₃ o₄ o₅ o₆ : ℕ} {local both linked : Bool} {a : VolumeFound} {b : Text} {c : NetworkFound} {d e f : Text}
-    → head ≡ u32At l 4 → flags ≡ u32At l 8 → local ≡ localThere flags → both ≡ localUnicodeThere (leb 0x24 head) flags → linked ≡ networkThere flags
-    → o₁ ≡ u32At l 12 → a ≡ volumeFound local l p head o₁
-    → o₂ ≡ u32At l 16 → b ≡ textFound local false l p head o₂
-    → o₃ ≡ u32At l 20 → c ≡ networkFound linked l p head o₃
-    → o₄ ≡ u32At l 24 → d ≡ textFound true false l p head o₄
-    → o₅ ≡ fieldIf (leb 0x24 head) l 28 → e ≡ textFound both true l p head o₅
-    → o₆ ≡ fieldIf (leb 0x24 head) l 32 → f ≡ textFound (leb 0x24 head) true l p head o₆
+pub six : (p : ℕ) (l : List ℕ) {head flags o₁ o₂ o₃ o₄ : ℕ} {there both linked : Bool} {a : VolumeFound} {b : Text} {c : NetworkFound} {d e f : Text}
+    → head ≡ u32At l 4 → flags ≡ u32At l 8 → there ≡ localThere flags → both ≡ localUnicodeThere (leb 0x24 head) flags → linked ≡ networkThere flags
+    → a ≡ volumeFound there l p head
+    → o₁ ≡ u32At l 16 → b ≡ textFound there false l p head o₁
+    → c ≡ networkFound linked l p head
+    → o₂ ≡ u32At l 24 → d ≡ textFound true false l p head o₂
+    → o₃ ≡ fieldIf (leb 0x24 head) l 28 → e ≡ textFound both true l p head o₃
+    → o₄ ≡ fieldIf (leb 0x24 head) l 32 → f ≡ textFound (leb 0x24 head) true l p head o₄
     → Six p l a b c d e f
-six p l eh ef el et en e₁ ea e₂ eb e₃ ec e₄ ed e₅ ee e₆ eg =
+six p l eh ef el et en ea e₁ eb ec e₂ ed e₃ ee e₄ eg =
     let h : ℕ = infoHead l in
     let w : Bool = longHead l in
     record {
-      volume = ea ∙ rw (e₁, el, ef, eh);
-      local = eb ∙ rw (e₂, el, ef, eh);
-      network = ec ∙ rw (e₃, en, ef, eh);
-      suffix = ed ∙ rw (e₄, eh);
-      localUnicode = ee ∙ rw (et, e₅, ef, eh) (text-field (hasLocalUnicode l) true l p h 28 w (λ z. rw z));
-      suffixUnicode = eg ∙ rw (e₆, eh) (text-field w true l p h 32 w (λ z. z));
+      volume = ea ∙ rw (el, ef, eh);
+      local = eb ∙ rw (e₁, el, ef, eh);
+      network = ec ∙ rw (en, ef, eh);
+      suffix = ed ∙ rw (e₂, eh);
+      localUnicode = ee ∙ rw (et, e₃, ef, eh) (text-field (hasLocalUnicode l) true l p h 28 w (λ z. rw z));
+      suffixUnicode = eg ∙ rw (e₄, eh) (text-field w true l p h 32 w (λ z. z));
     }
 
-abbrev made : Bool → Info → Pieces
-made ok i = record { ok = ok; info = i }
+abbrev made : ℕ → Info → Pieces
+made i j = record { wrong = i; info = j }
 
-module _ (p : ℕ) (l : List ℕ) {a : VolumeFound} {b : Text} {c : NetworkFound} {d e f : Text} {far : Bool}
-    (S : Six p l a b c d e f) (ef : far ≡ all (apartTests [] (a .span ∷ b .span ∷ c .span ∷ d .span ∷ e .span ∷ f .span ∷ []))) where
-  pieces-ok : ((((((a .ok && b .ok) && c .ok) && d .ok) && e .ok) && f .ok) && far) ≡ all (infoPieceTests l)
-  unfolding textFound volumeFound networkFound
-  pieces-ok =
+module _ (p : ℕ) (l : List ℕ) {a : VolumeFound} {b : Text} {c : NetworkFound} {d e f : Text} {far m₁ m₂ m₃ m₄ m₅ m₆ : ℕ} (z : wrong (infoHeadTests l) ≡ 0)
+    (S : Six p l a b c d e f)
+    (ef : far ≡ wrong (apartTests [] ((12, a .span) ∷ (16, b .span) ∷ (20, c .span) ∷ (24, d .span) ∷ (28, e .span) ∷ (32, f .span) ∷ [])))
+    (e₁ : m₁ ≡ cond (f .ok) far 32) (e₂ : m₂ ≡ cond (e .ok) m₁ 28) (e₃ : m₃ ≡ cond (d .ok) m₂ 24)
+    (e₄ : m₄ ≡ first (c .wrong) m₃) (e₅ : m₅ ≡ cond (b .ok) m₄ 16) (e₆ : m₆ ≡ first (a .wrong) m₅) where
+  volume-judged : (a .wrong, (12, a .span)) ≡ judge (infoHead l) (volumePiece (hasLocal l) l 12 (u32At l 12))
+  unfolding volumeFound
+  volume-judged = rw (S .volume)
+
+  network-judged : (c .wrong, (20, c .span)) ≡ judge (infoHead l) (networkPiece (hasNetwork l) l 20 (u32At l 20))
+  unfolding networkFound
+  network-judged = rw (S .network)
+
+  pieces-wrong : m₆ ≡ wrong (infoPieceTests l)
+  pieces-wrong =
       let h : ℕ = infoHead l in
-      let fs : ((a .ok, a .span) ∷ (b .ok, b .span) ∷ (c .ok, c .span) ∷ (d .ok, d .span) ∷ (e .ok, e .span) ∷ (f .ok, f .span) ∷ []) ≡ map (judge h) (infoPieces l)
-      = rw (S .volume, S .local, S .network, S .suffix, S .localUnicode, S .suffixUnicode) in
-      let j = pieces-judged h (infoPieces l) fs ef in
-      simp (and-assoc, and-yes) (simp (and-assoc, and-yes) at (sym j))
+      let fs : ((a .wrong, (12, a .span)) ∷ (cond (b .ok) 0 16, (16, b .span)) ∷ (c .wrong, (20, c .span)) ∷ (cond (d .ok) 0 24, (24, d .span))
+      ∷ (cond (e .ok) 0 28, (28, e .span)) ∷ (cond (f .ok) 0 32, (32, f .span)) ∷ [])
+      ≡ map (judge h) (infoPieces l)
+      = rw (
+        volume-judged,
+        text-judged (hasLocal l) false l p h (u32At l 16) (S .local) 16,
+        network-judged,
+        text-judged true false l p h (u32At l 24) (S .suffix) 24,
+        text-judged (hasLocalUnicode l) true l p h (u32At l 28) (S .localUnicode) 28,
+        text-judged (longHead l) true l p h (u32At l 32) (S .suffixUnicode) 32,
+      ) in
+      let m : m₆ ≡ first (a .wrong) (first (cond (b .ok) 0 16) (first (c .wrong) (first (cond (d .ok) 0 24) (first (cond (e .ok) 0 28) (first (cond (f .ok) 0 32) far)))))
+      = rw (
+        e₆,
+        e₅,
+        e₄,
+        e₃,
+        e₂,
+        e₁,
+        first-unless (f .ok) far 32 (omega arith),
+        first-unless (e .ok) (cond (f .ok) far 32) 28 (omega arith),
+        first-unless (d .ok) (cond (e .ok) (cond (f .ok) far 32) 28) 24 (omega arith),
+        first-unless (b .ok) (first (c .wrong) (cond (d .ok) (cond (e .ok) (cond (f .ok) far 32) 28) 24)) 16 (omega arith),
+      ) in
+      m ∙ sym (pieces-judged (length l + 32) h (infoPieces l) (pieces-within l z) fs ef)
 
   pub pieces-are : {flags head : ℕ} → flags ≡ u32At l 8 → head ≡ u32At l 4
       → _≡_ {A = Pieces} (record {
-        ok = (((((a .ok && b .ok) && c .ok) && d .ok) && e .ok) && f .ok) && far;
+        wrong = m₆;
         info = record {
           flags = flags;
           long = leb 0x24 head;
@@ -128,43 +234,62 @@ module _ (p : ℕ) (l : List ℕ) {a : VolumeFound} {b : Text} {c : NetworkFound
       }) (piecesFound p l)
   unfolding piecesFound
   pieces-are eg eh =
-      ap₂ made pieces-ok (rw (S .volume, S .local, S .network, S .suffix, S .localUnicode, S .suffixUnicode, eg, eh))
+      ap₂ made pieces-wrong (rw (S .volume, S .local, S .network, S .suffix, S .localUnicode, S .suffixUnicode, eg, eh))
 
--- what the pieces say where all pass
-pieces-say : (p : ℕ) (l : List ℕ) {r : Pieces} → r ≡ piecesFound p l → r .ok ≡ true → r .info ≡ infoFields p l
-unfolding piecesFound volumeFound textFound networkFound
-pieces-say p l e k =
-    let o : all (infoPieceTests l) ≡ true = sym (ap (λ (x : Pieces). x .ok) e) ∙ k in
-    let c = info-pieces-hold l (all-pass (infoPieceTests l) o) in
-    ap (λ (x : Pieces). x .info) e
-    ∙ rw (
-      ok (volumePiece (hasLocal l) l (u32At l 12)) (c .volume),
-      ok (textPiece (hasLocal l) false l (u32At l 16)) (c .local),
-      ok (networkPiece (hasNetwork l) l (u32At l 20)) (c .network),
-      ok (textPiece true false l (u32At l 24)) (c .suffix),
-      ok (textPiece (hasLocalUnicode l) true l (u32At l 28)) (c .localUnicode),
-      ok (textPiece (longHead l) true l (u32At l 32)) (c .suffixUnicode),
-    )
-  where
-    ok : (x : Piece) → Pass (testsOf (infoHead l) x) → pieceOk (infoHead l) x ≡ true
-    ok x = pass-all (testsOf (infoHead l) x)
+module _ (p : ℕ) (l : List ℕ) (z : wrong (infoHeadTests l) ≡ 0) {r : Pieces} (e : r ≡ piecesFound p l) where
+  found-wrong : r .wrong ≡ wrong (infoPieceTests l)
+  unfolding piecesFound
+  found-wrong = ap (λ (x : Pieces). x .wrong) e
+
+  pieces-most : r .wrong ≤ length l + 32
+  pieces-most = rw found-wrong (fields-most (length l + 32) (infoPieceTests l) (pieces-fields (length l + 32) (infoHead l) (infoPieces l) (pieces-within l z)))
+
+  pieces-one : {A : Type 0} (w : Site) (o : Outcome A) → tests w (infoPieceTests l) o ≡ cond (eqb (r .wrong) 0) o (refused PIECE (spotAt w (r .wrong)))
+  pieces-one w o =
+      fields-one (length l + 32) w (infoPieceTests l) o (pieces-fields (length l + 32) (infoHead l) (infoPieces l) (pieces-within l z))
+      ∙ rw found-wrong
+
+  -- what the pieces say where all pass
+  pieces-say : r .wrong ≡ 0 → r .info ≡ infoFields p l
+  unfolding piecesFound volumeFound textFound networkFound
+  pieces-say k =
+      let F = pieces-fields (length l + 32) (infoHead l) (infoPieces l) (pieces-within l z) in
+      let o : all (infoPieceTests l) ≡ true = sym (fields-told (length l + 32) (infoPieceTests l) F) ∙ eq-eqb (wrong (infoPieceTests l)) 0 (sym found-wrong ∙ k) in
+      let c = info-pieces-hold l (all-pass (infoPieceTests l) o) in
+      ap (λ (x : Pieces). x .info) e
+      ∙ rw (
+        ok (volumePiece (hasLocal l) l 12 (u32At l 12)) (c .volume),
+        text-ok (hasLocal l) false 16 (c .local),
+        ok (networkPiece (hasNetwork l) l 20 (u32At l 20)) (c .network),
+        text-ok true false 24 (c .suffix),
+        text-ok (hasLocalUnicode l) true 28 (c .localUnicode),
+        text-ok (longHead l) true 32 (c .suffixUnicode),
+      )
+    where
+      ok : (x : Piece) → Pass (testsOf (infoHead l) x) → pieceOk (infoHead l) x ≡ true
+      ok x = pass-all (testsOf (infoHead l) x)
+
+      text-ok : (b u : Bool) (i : ℕ) → Pass (testsOf (infoHead l) (textPiece b u l i (u32At l i))) → pieceOk (infoHead l) (textPiece b u l 0 (u32At l i)) ≡ true
+      text-ok b u i q = sym (any-field b (leb (infoHead l) (u32At l i)) (textEnds u (drop (u32At l i) l)) i) ∙ ok (textPiece b u l i (u32At l i)) q
 
 -- ---- the section
 
 -- the rules as two tests: the head, then the pieces
-rules-grouped : {A : Type 0} (p : ℕ) (l : List ℕ) (r : Outcome A)
-    → tests p (infoRules l) r ≡ cond (all (infoHeadTests l)) (cond (all (infoPieceTests l)) r (refused PIECE p)) (refused INFO p)
-rules-grouped {A} p l r =
-    let ts : List Test = infoPieceTests l in
-    tests-append p (infoHeadTests l) ts r
-    ∙ one-fault INFO p (infoHeadTests l) (tests p ts r) (refl, (refl, (refl, (refl, (refl, (refl, tt))))))
-    ∙ ap (λ (x : Outcome A). cond (all (infoHeadTests l)) x (refused INFO p)) (one-fault PIECE p ts r (info-faults l))
+rules-grouped : {A : Type 0} (w : Site) (l : List ℕ) (r : Outcome A) {k : ℕ} → k ≡ wrong (infoHeadTests l)
+    → tests w (infoRules l) r ≡ cond (eqb k 0) (tests w (infoPieceTests l) r) (refused INFO (spotAt w k))
+rules-grouped w l r e =
+    tests-append w (infoHeadTests l) (infoPieceTests l) r
+    ∙ one-fault INFO w (infoHeadTests l) (tests w (infoPieceTests l) r) (head-faults l)
+    ∙ rw e
 
-three-pass : {A : Type 0} (p : ℕ) (a b c : Bool) (f g h : Fault) (ts : List Test) (r : Outcome A) → a ≡ true → b ≡ true → c ≡ true
-    → tests p (a else f ∷ b else g ∷ c else h ∷ ts) r ≡ tests p ts r
-three-pass p a b c f g h ts r i j k = rw (i, j, k)
+three-pass : {A : Type 0} (w : Site) (a b c : Bool) (f g h : Fault) (ts : List Test) (r : Outcome A) → a ≡ true → b ≡ true → c ≡ true
+    → tests w (a else f at 0 ∷ b else g at 0 ∷ c else h at 0 ∷ ts) r ≡ tests w ts r
+three-pass w a b c f g h ts r i j k = rw (i, j, k)
 
 module _ (s : List ℕ) (p : ℕ) where
+  abbrev here : Site
+  here = section 2 p
+
   -- the number and the value of the answer
   info-read : {r : InfoTaken} → r ≡ infoAt s p → InfoAnswer s p r
   unfolding infoAt infoNumber infoValue
@@ -178,9 +303,9 @@ module _ (s : List ℕ) (p : ℕ) where
       value (got i n) = refl
       value (refused f q) = refl
 
-  pub info-cut : length s < p + 4 → InfoAnswer s p (Refused CUT p)
+  pub info-cut : {w : Spot} → length s < p + 4 → w ≡ spotAt here 0 → InfoAnswer s p (Refused CUT w)
   unfolding infoAt
-  info-cut h = info-read (rw (length-drop, lt-leb 4 (length s - p) (omega arith)))
+  info-cut h e = info-read (rw (length-drop p s, lt-leb 4 (length s - p) (omega arith), e))
 
   module _ {n : ℕ} (f : p + 4 ≤ length s) (e : n ≡ u32At s p) where
     size-is : infoSize (drop p s) ≡ n
@@ -189,48 +314,50 @@ module _ (s : List ℕ) (p : ℕ) where
     starts : leb 4 (length (drop p s)) ≡ true
     starts = le-leb 4 (length (drop p s)) (rw length-drop (omega arith))
 
-    pub info-small : n < 0x1C → InfoAnswer s p (Refused INFO p)
+    pub info-small : {w : Spot} → n < 0x1C → w ≡ spotAt here 0 → InfoAnswer s p (Refused INFO w)
     unfolding infoAt
-    info-small h = info-read (rw (starts, size-is, lt-leb 0x1C n h))
+    info-small h ew = info-read (rw (starts, size-is, lt-leb 0x1C n h, ew))
 
     module _ (h : 0x1C ≤ n) where
-      pub info-past : length s < p + n → InfoAnswer s p (Refused CUT p)
+      pub info-past : {w : Spot} → length s < p + n → w ≡ spotAt here 0 → InfoAnswer s p (Refused CUT w)
       unfolding infoAt
-      info-past g =
+      info-past g ew =
           let i : leb n (length (drop p s)) ≡ false = lt-leb n (length (drop p s)) (rw length-drop (omega arith)) in
-          info-read (rw (starts, size-is, le-leb 0x1C n h, i))
+          info-read (rw (starts, size-is, le-leb 0x1C n h, i, ew))
 
-      module _ {d : Cursor} {x : Bool} (g : p + n ≤ length s) (q : d .at ≡ p + n) (ex : x ≡ all (infoHeadTests (take (d .at - p) (drop p s)))) where
+      module _ {d : Cursor} {k : ℕ} (g : p + n ≤ length s) (q : d .at ≡ p + n) (ek : k ≡ wrong (infoHeadTests (take (d .at - p) (drop p s)))) where
         abbrev part : List ℕ
         part = take (d .at - p) (drop p s)
 
-        info-is : infoAt s p ≡ infoTaken p (cond x (cond (all (infoPieceTests part)) (got (infoFields p part) n) (refused PIECE p)) (refused INFO p))
+        info-is : infoAt s p ≡ infoTaken p (cond (eqb k 0) (tests here (infoPieceTests part) (got (infoFields p part) n)) (refused INFO (spotAt here k)))
         unfolding infoAt
         info-is =
             let t : List ℕ = drop p s in
             let m : ℕ = infoSize t in
             let w : n ≡ d .at - p = omega arith in
-            let k : take m t ≡ part = ap (λ (i : ℕ). take i t) (size-is ∙ w) in
+            let j : take m t ≡ part = ap (λ (i : ℕ). take i t) (size-is ∙ w) in
             let b : 0x1C ≤ m = rw size-is h in
             let c : m ≤ length t = rw (size-is, length-drop) (omega arith) in
             ap (infoTaken p)
-            (three-pass p (leb 4 (length t)) (leb 0x1C m) (leb m (length t)) CUT INFO CUT (infoRules (take m t)) (got (infoFields p (take m t)) m) starts (le-leb 0x1C m b) (le-leb m (length t) c)
-            ∙ ap₂ (λ (l : List ℕ) (i : ℕ). tests p (infoRules l) (got (infoFields p l) i)) k size-is
-            ∙ rules-grouped p part (got (infoFields p part) n)
-            ∙ ap (λ (y : Bool). cond y (cond (all (infoPieceTests part)) (got (infoFields p part) n) (refused PIECE p)) (refused INFO p)) (sym ex))
+            (three-pass here (leb 4 (length t)) (leb 0x1C m) (leb m (length t)) CUT INFO CUT (infoRules (take m t)) (got (infoFields p (take m t)) m) starts (le-leb 0x1C m b) (le-leb m (length t) c)
+            ∙ ap₂ (λ (l : List ℕ) (i : ℕ). tests here (infoRules l) (got (infoFields p l) i)) j size-is
+            ∙ rules-grouped here part (got (infoFields p part) n) ek)
 
-        pub info-head : not x ≡ true → InfoAnswer s p (Refused INFO p)
-        info-head t = info-read (sym (info-is ∙ rw (not-true x t)))
+        pub info-head : {w : Spot} → (k ≡ 0 → ⊥) → w ≡ spotAt here k → InfoAnswer s p (Refused INFO w)
+        info-head t ew = info-read (sym (info-is ∙ rw (ne-eqb k 0 t, ew)))
 
-        module _ {r : Pieces} (t : not x ≡ false) (er : r ≡ piecesFound p part) where
-          judged : all (infoPieceTests part) ≡ r .ok
-          unfolding piecesFound
-          judged = sym (ap (λ (y : Pieces). y .ok) er)
+        module _ {r : Pieces} (t : k ≡ 0) (er : r ≡ piecesFound p part) where
+          passed : wrong (infoHeadTests part) ≡ 0
+          passed = sym ek ∙ t
 
-          pub info-piece : not (r .ok) ≡ true → InfoAnswer s p (Refused PIECE p)
-          info-piece o = info-read (sym (info-is ∙ rw (not-false x t, judged ∙ not-true (r .ok) o)))
+          pieces-is : infoAt s p ≡ infoTaken p (cond (eqb (r .wrong) 0) (got (infoFields p part) n) (refused PIECE (spotAt here (r .wrong))))
+          pieces-is = info-is ∙ rw t (ap (infoTaken p) (pieces-one p part passed er here (got (infoFields p part) n)))
 
-          pub info-got : not (r .ok) ≡ false → InfoAnswer s p (Got (r .info) d)
-          info-got o =
-              let i : r .ok ≡ true = not-false (r .ok) o in
-              info-read (rw (pieces-say p part er i) (sym (info-is ∙ rw (not-false x t, judged ∙ i, ← q))))
+          pub piece-most : r .wrong ≤ length s + 32
+          piece-most = let m = pieces-most p part passed er in omega (arith, length-take (d .at - p) (drop p s), length-drop p s)
+
+          pub info-piece : {w : Spot} → (r .wrong ≡ 0 → ⊥) → w ≡ spotAt here (r .wrong) → InfoAnswer s p (Refused PIECE w)
+          info-piece o ew = info-read (sym (pieces-is ∙ rw (ne-eqb (r .wrong) 0 o, ew)))
+
+          pub info-got : r .wrong ≡ 0 → InfoAnswer s p (Got (r .info) d)
+          info-got o = info-read (rw (pieces-say p part passed er o) (sym (pieces-is ∙ rw (o, ← q))))

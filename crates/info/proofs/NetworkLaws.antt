@@ -1,70 +1,102 @@
 -- The network link: its head, its own bytes, and the piece of LinkInfo.
 use mathlib.Core.Path.{_≡_, refl, sym, ap, _∙_}
 use mathlib.Core.List.{List, [], _∷_, map}
-use mathlib.Core.Bool.{Bool, true, false, not, _&&_, _||_, cond}
-use Prim.Native.Nat.{ℕ, _≤_}
+use mathlib.Core.Bool.{Bool, true, false, not, _||_, cond}
+use Prim.Native.Nat.{ℕ, _≤_, _<_}
 use native.Mathlib.Omega.{arith}
 use lib.ListN.{length}
-use lib.Dec.{leb, ltb}
-use borrow.Author.Tests.{not-true, not-false}
+use lib.Dec.{ltb, eqb}
+use borrow.Author.Tests.{le-leb, lt-leb, ne-eqb, eqb-true, not-true, not-false}
 use Rattle.octets.specs.Numbers.{u32At}
 use Rattle.format.specs.declared.Network.{Network}
-use Rattle.format.specs.Steps.AllTests.{all}
+use Rattle.format.specs.Tests.{all}
+use Rattle.format.specs.Steps.Wrong.{wrong, first}
 use Rattle.format.specs.Presence.{deviceThere, providerThere, deviceUnicodeThere}
 use Rattle.format.specs.Pieces.{absentZero, uncut, apartTests}
 use Rattle.format.specs.Network.{hasDevice, networkUnicode, networkHead, networkPieces, networkHeadTests, networkRules, networkFields, networkPiece, networkAt, noNetwork, hasDeviceUnicode}
-use Rattle.format.proofs.Bools.{every-out, and-true, and-assoc, and-yes}
-use Rattle.format.proofs.Chains.{all-pass, all-append}
+use Rattle.format.proofs.Chains.{all-pass}
 use Rattle.format.proofs.Holds.{networkPieceTests, network-head-holds}
 use Rattle.info.specs.declared.Text.{Text}
 use Rattle.info.specs.declared.NetworkFound.{NetworkFound}
 use Rattle.info.specs.declared.NetworkRead.{NetworkRead}
 use Rattle.info.specs.declared.NetworkRead.the-variants.{Good, Bad}
-use Rattle.info.specs.Steps.Found.{fieldIf, pieceFound, textFound, networkIf, networkIn, makeNetwork, networkFound, okOrPiece, networkNumber, PieceAnswers, NetworkAnswer}
-use Rattle.info.proofs.TestLaws.{uncut-room, judge, pieces-judged}
-use Rattle.info.proofs.TextLaws.{text-body, text-field, zero-field}
+use Rattle.info.specs.Steps.Found.{fieldIf, pieceFound, textFound, networkIf, networkIn, makeNetwork, networkFound}
+use Rattle.info.proofs.TestLaws.{uncut-room, Fields, here, fields-join, fields-told, fields-then, first-unless, unless-none, text-fields, AllFields, pieces-fields, judge, pieces-judged}
+use Rattle.info.proofs.TextLaws.{text-judged, text-body, text-field, zero-field}
 use Rattle.info.proofs.StructLaws.{Kind}
 
--- ---- the head
+-- ---- the head, field after field
 
--- flags, NetNameOffset and the two fields that may be cut come first
-module _ (v : List ℕ) {flags name : ℕ} {x y : Bool} (ef : flags ≡ u32At v 4) (en : name ≡ u32At v 8) (ex : x ≡ uncut (ltb 0x14 name) 0x18 v) (ey : y ≡ uncut (ltb 0x14 name) 0x1C v) where
-  abbrev first : Bool
-  first = ((leb flags 3 && leb 0x14 name) && x) && y
+module _ (v : List ℕ) {flags name : ℕ} (ef : flags ≡ u32At v 4) (en : name ≡ u32At v 8) where
+  pub head-flags : 3 < flags → 4 ≡ wrong (networkHeadTests v)
+  head-flags h = rw (← ef, lt-leb flags 3 h)
 
-  abbrev offsets : Bool
-  offsets = absentZero (hasDevice v) (u32At v 12) && (not (networkUnicode v) || absentZero (hasDevice v) (u32At v 24))
+  module _ (hf : flags ≤ 3) where
+    pub head-name : name < 0x14 → 8 ≡ wrong (networkHeadTests v)
+    head-name h = rw (← ef, le-leb flags 3 hf, ← en, lt-leb 0x14 name h)
 
-  head-split : (first && offsets) ≡ all (networkHeadTests v)
-  head-split = rw (ex, ey, ef, en) (simp (and-assoc, and-yes))
+    module _ {x : Bool} (hn : 0x14 ≤ name) (ex : x ≡ uncut (ltb 0x14 name) 0x18 v) where
+      pub head-net : not x ≡ true → 20 ≡ wrong (networkHeadTests v)
+      head-net t = rw (← ef, le-leb flags 3 hf, ← en, le-leb 0x14 name hn, ← ex, not-true x t)
 
-  pub network-short : not first ≡ true → false ≡ all (networkHeadTests v)
-  network-short t = ap (λ (b : Bool). b && offsets) (sym (not-true first t)) ∙ head-split
+      module _ {y : Bool} (tx : not x ≡ false) (ey : y ≡ uncut (ltb 0x14 name) 0x1C v) where
+        pub head-device : not y ≡ true → 24 ≡ wrong (networkHeadTests v)
+        head-device t = rw (← ef, le-leb flags 3 hf, ← en, le-leb 0x14 name hn, ← ex, not-false x tx, ← ey, not-true y t)
 
-  pub network-fields : not first ≡ false → ltb 0x14 name ≡ true → 0x1C ≤ length v
-  network-fields t = uncut-room (ltb 0x14 name) 0x1C v (sym ey ∙ and-true ((leb flags 3 && leb 0x14 name) && x) y (not-false first t) .1)
+        pub head-room : not y ≡ false → ltb 0x14 name ≡ true → 0x1C ≤ length v
+        head-room t = uncut-room (ltb 0x14 name) 0x1C v (sym ey ∙ not-false y t)
 
-  pub network-long : {device a b : Bool} {o₁ o₂ : ℕ} → not first ≡ false → device ≡ deviceThere flags → o₁ ≡ u32At v 12 → a ≡ absentZero device o₁
-      → o₂ ≡ fieldIf (ltb 0x14 name) v 24 → b ≡ absentZero device o₂ → (a && b) ≡ all (networkHeadTests v)
-  network-long {device} {a} {b} t ed e₁ ea e₂ eb =
-      let k : (a && b) ≡ offsets = rw (ea, eb, e₁, e₂, zero-field _ (ltb 0x14 name) v 24, ed, ef, en) in
-      k ∙ ap (λ (z : Bool). z && offsets) (sym (not-false first t)) ∙ head-split
+        pub head-offsets : {there a b : Bool} {o₁ o₂ m n : ℕ} → not y ≡ false → there ≡ deviceThere flags → o₁ ≡ u32At v 12 → a ≡ absentZero there o₁
+            → o₂ ≡ fieldIf (ltb 0x14 name) v 24 → b ≡ absentZero there o₂ → m ≡ cond b 0 24 → n ≡ cond a m 12 → n ≡ wrong (networkHeadTests v)
+        head-offsets {there} {a} {b} {m = m} {n} t ed e₁ ea e₂ eb em eg =
+            let i : absentZero (deviceThere flags) (u32At v 12) ≡ a = rw (ea, e₁, ed) in
+            let j : (not (ltb 0x14 name) || absentZero (deviceThere flags) (u32At v 24)) ≡ b = sym (eb ∙ rw (e₂, ed) (zero-field (deviceThere flags) (ltb 0x14 name) v 24)) in
+            rw (← ef, le-leb flags 3 hf, ← en, le-leb 0x14 name hn, ← ex, not-false x tx, ← ey, not-false y t, i, j) (eg ∙ rw em)
 
--- a head that passes its tests lies inside
-pub network-room : (v : List ℕ) {ok : Bool} {name : ℕ} → ok ≡ all (networkHeadTests v) → not ok ≡ false → name ≡ u32At v 8 → ltb 0x14 name ≡ true → 0x1C ≤ length v
-network-room v {ok} e t en u =
-    let c = network-head-holds v (all-pass (networkHeadTests v) (sym e ∙ not-false ok t)) in
+-- ---- all of them are of fields up to 24
+
+head-fields : (v : List ℕ) → Fields 24 (networkHeadTests v)
+head-fields v = (
+  here 24 4 (omega arith) (omega arith),
+  λ e. (
+    here 24 8 (omega arith) (omega arith),
+    λ e. (
+      here 24 20 (omega arith) (omega arith),
+      λ e. (
+        here 24 24 (omega arith) (omega arith),
+        λ e.
+            (here 24 12 (omega arith) (omega arith), λ e. (here 24 24 (omega arith) (omega arith), λ e. tt)),
+      ),
+    ),
+  ),
+)
+
+pieces-within : (v : List ℕ) → AllFields 24 (networkHead (networkUnicode v)) (networkPieces v)
+pieces-within v =
+    let h : ℕ = networkHead (networkUnicode v) in (
+      text-fields 24 h true false v 8 (u32At v 8) (omega arith) (omega arith),
+      (
+        text-fields 24 h (hasDevice v) false v 12 (u32At v 12) (omega arith) (omega arith),
+        (
+          text-fields 24 h (networkUnicode v) true v 20 (u32At v 20) (omega arith) (omega arith),
+          (text-fields 24 h (hasDeviceUnicode v) true v 24 (u32At v 24) (omega arith) (omega arith), tt),
+        ),
+      ),
+    )
+
+pub network-fields : (v : List ℕ) → Fields 24 (networkRules v)
+network-fields v = fields-join 24 (networkHeadTests v) (networkPieceTests v) (head-fields v) (pieces-fields 24 (networkHead (networkUnicode v)) (networkPieces v) (pieces-within v))
+
+-- a head of which no field is wrong lies inside
+pub network-room : (v : List ℕ) {k name : ℕ} → k ≡ wrong (networkHeadTests v) → k ≡ 0 → name ≡ u32At v 8 → ltb 0x14 name ≡ true → 0x1C ≤ length v
+network-room v {k} e z en u =
+    let q : all (networkHeadTests v) ≡ true = sym (fields-told 24 (networkHeadTests v) (head-fields v)) ∙ rw (← e, z) in
+    let c = network-head-holds v (all-pass (networkHeadTests v) q) in
     uncut-room (networkUnicode v) 0x1C v (c .deviceUnicodeField) (rw (← en) u)
 
 -- ---- the network link's own bytes
 
-rules-split : (v : List ℕ) → all (networkRules v) ≡ (all (networkHeadTests v) && all (networkPieceTests v))
-rules-split v = all-append (networkHeadTests v) (networkPieceTests v)
-
--- whether all pass, and the fields, as the code puts them together
-abbrev pub fourPass : Text → Text → Text → Text → Bool → Bool
-fourPass a b c d far = (((a .ok && b .ok) && c .ok) && d .ok) && far
-
+-- the fields as the code puts them together
 abbrev pub fourFields : ℕ → ℕ → Bool → Text → Text → Text → Text → Network
 fourFields flags provider unicode a b c d = record {
   flags = flags;
@@ -97,48 +129,57 @@ four p v ef en ed et eh ea e₁ eb e₂ ec e₃ ee =
       deviceUnicode = ee ∙ rw (et, e₃, eh, ef, en) (text-field (hasDeviceUnicode v) true v p h 24 u (λ z. rw z));
     }
 
--- the number of the answer
-chosen : (ok : Bool) (n : Network) → networkNumber (networkIf ok n) ≡ okOrPiece ok
-unfolding networkNumber
-chosen true n = refl
-chosen false n = refl
+module _ (p : ℕ) (v : List ℕ) {k : ℕ} (ek : k ≡ wrong (networkHeadTests v)) where
+  rules-wrong : wrong (networkRules v) ≡ first k (wrong (networkPieceTests v))
+  rules-wrong = fields-then 24 (networkHeadTests v) (networkPieceTests v) (head-fields v) ∙ rw ek
 
-pub if-good : {ok : Bool} (n : Network) → ok ≡ true → PieceAnswers networkNumber ok (networkIf ok n) (Good n)
-unfolding networkNumber
-if-good n e = record { is = rw e; number = rw e }
+  rules-pass : {n : ℕ} → wrong (networkRules v) ≡ n → all (networkRules v) ≡ eqb n 0
+  rules-pass e = sym (fields-told 24 (networkRules v) (network-fields v)) ∙ ap (λ (n : ℕ). eqb n 0) e
 
-pub if-bad : {ok : Bool} (n : Network) → ok ≡ false → PieceAnswers networkNumber ok (networkIf ok n) Bad
-unfolding networkNumber
-if-bad n e = record { is = rw e; number = rw e }
-
-network-judged : (p : ℕ) (v : List ℕ) {r : NetworkRead} → r ≡ networkIn p v → NetworkAnswer p v r
-unfolding networkIn
-network-judged p v e = record { is = e; number = rw e (chosen (all (networkRules v)) (networkFields p v)) }
-
-module _ (p : ℕ) (v : List ℕ) {ok : Bool} (ex : ok ≡ all (networkHeadTests v)) where
-  pub network-fails : not ok ≡ true → NetworkAnswer p v Bad
+  pub network-fails : (k ≡ 0 → ⊥) → Bad k ≡ networkIn p v
   unfolding networkIn
-  network-fails t = network-judged p v (rw (rules-split v, ← ex, not-true ok t))
+  network-fails z =
+      let q : wrong (networkRules v) ≡ k = rules-wrong ∙ rw (ne-eqb k 0 z) in
+      rw (rules-pass q, q, ne-eqb k 0 z)
 
-  module _ {a b c d : Text} {far : Bool} (t : not ok ≡ false) (f : Four p v a b c d) (ef : far ≡ all (apartTests [] (a .span ∷ b .span ∷ c .span ∷ d .span ∷ []))) where
-    judged : all (networkRules v) ≡ fourPass a b c d far
-    unfolding textFound
+  module _ {a b c d : Text} {far m₁ m₂ m₃ m₄ : ℕ} (z : k ≡ 0) (f : Four p v a b c d) (ef : far ≡ wrong (apartTests [] ((0, a .span) ∷ (12, b .span) ∷ (20, c .span) ∷ (24, d .span) ∷ [])))
+      (e₁ : m₁ ≡ cond (d .ok) far 24) (e₂ : m₂ ≡ cond (c .ok) m₁ 20) (e₃ : m₃ ≡ cond (b .ok) m₂ 12) (e₄ : m₄ ≡ cond (a .ok) m₃ 8) where
+    judged : wrong (networkRules v) ≡ m₄
     judged =
         let h : ℕ = networkHead (networkUnicode v) in
-        let fs : ((a .ok, a .span) ∷ (b .ok, b .span) ∷ (c .ok, c .span) ∷ (d .ok, d .span) ∷ []) ≡ map (judge h) (networkPieces v)
-        = rw (f .net, f .device, f .netUnicode, f .deviceUnicode) in
-        rules-split v ∙ rw (← ex, not-false ok t, pieces-judged h (networkPieces v) fs ef) (simp (and-assoc, and-yes))
+        let fs : ((cond (a .ok) 0 8, (8, a .span)) ∷ (cond (b .ok) 0 12, (12, b .span)) ∷ (cond (c .ok) 0 20, (20, c .span)) ∷ (cond (d .ok) 0 24, (24, d .span)) ∷ [])
+        ≡ map (judge h) (networkPieces v)
+        = rw (
+          text-judged true false v p h (u32At v 8) (f .net) 8,
+          text-judged (hasDevice v) false v p h (u32At v 12) (f .device) 12,
+          text-judged (networkUnicode v) true v p h (u32At v 20) (f .netUnicode) 20,
+          text-judged (hasDeviceUnicode v) true v p h (u32At v 24) (f .deviceUnicode) 24,
+        ) in
+        let m : first (cond (a .ok) 0 8) (first (cond (b .ok) 0 12) (first (cond (c .ok) 0 20) (first (cond (d .ok) 0 24) far))) ≡ m₄
+        = rw (
+          e₄,
+          e₃,
+          e₂,
+          e₁,
+          first-unless (d .ok) far 24 (omega arith),
+          first-unless (c .ok) (cond (d .ok) far 24) 20 (omega arith),
+          first-unless (b .ok) (cond (c .ok) (cond (d .ok) far 24) 20) 12 (omega arith),
+          first-unless (a .ok) (cond (b .ok) (cond (c .ok) (cond (d .ok) far 24) 20) 12) 8 (omega arith),
+        ) in
+        rules-wrong ∙ rw z (pieces-judged 24 h (networkPieces v) (pieces-within v) fs ef ∙ m)
 
     pub network-read : {flags name kept provider : ℕ} {t : Bool} {r : NetworkRead} → flags ≡ u32At v 4 → name ≡ u32At v 8 → t ≡ providerThere flags → kept ≡ u32At v 16 → provider ≡ cond t kept 0
-        → r ≡ networkIf (fourPass a b c d far) (fourFields flags provider (ltb 0x14 name) a b c d) → NetworkAnswer p v r
+        → r ≡ networkIf m₄ (fourFields flags provider (ltb 0x14 name) a b c d) → r ≡ networkIn p v
     unfolding networkIn
-    network-read {flags} {name} {provider = provider} eg en et ek ep er =
-        network-judged p v (er ∙ go (fourPass a b c d far) refl ∙ ap (λ (k : Bool). networkIf k (networkFields p v)) (sym judged))
+    network-read {flags} {name} {provider = provider} eg en et ek ep er = er ∙ go (eqb m₄ 0) refl ∙ rw (rules-pass judged, judged)
       where
-        go : (k : Bool) → fourPass a b c d far ≡ k → networkIf k (fourFields flags provider (ltb 0x14 name) a b c d) ≡ networkIf k (networkFields p v)
+        go : (x : Bool) → eqb m₄ 0 ≡ x → cond x (Good (fourFields flags provider (ltb 0x14 name) a b c d)) (Bad m₄) ≡ cond x (Good (networkFields p v)) (Bad m₄)
         go true e =
             let h : ℕ = networkHead (networkUnicode v) in
-            let (net, (device, (netUnicode, (deviceUnicode, apart)))) = every-out (a .ok ∷ b .ok ∷ c .ok ∷ d .ok ∷ far ∷ []) (simp (and-yes, ← and-assoc) e) in
+            let (net, r₃) = unless-none (a .ok) m₃ 8 (omega arith) (sym e₄ ∙ eqb-true m₄ 0 e) in
+            let (device, r₂) = unless-none (b .ok) m₂ 12 (omega arith) (sym e₃ ∙ r₃) in
+            let (netUnicode, r₁) = unless-none (c .ok) m₁ 20 (omega arith) (sym e₂ ∙ r₂) in
+            let (deviceUnicode, apart) = unless-none (d .ok) far 24 (omega arith) (sym e₁ ∙ r₁) in
             ap Good (rw (
               ep,
               et,
@@ -154,34 +195,41 @@ module _ (p : ℕ) (v : List ℕ) {ok : Bool} (ex : ok ≡ all (networkHeadTests
 
 -- ---- the piece
 
-pub good-not-bad : (a : Network) → Good a ≡ Bad → ⊥
-good-not-bad a e = let z : _≡_ {A = ℕ} 0 1 = cc in omega arith
+pub good-not-bad : (a : Network) (i : ℕ) → Good a ≡ Bad i → ⊥
+good-not-bad a i e = let z : _≡_ {A = ℕ} 0 1 = cc in omega arith
 
 pub good-same : (a c : Network) → Good a ≡ Good c → a ≡ c
 good-same a c e = cc
 
-pub read-is : (p : ℕ) (v : List ℕ) → networkIn p v ≡ cond (all (networkRules v)) (Good (networkFields p v)) Bad
+pub bad-same : (i j : ℕ) → Bad i ≡ Bad j → i ≡ j
+bad-same i j e = cc
+
+pub read-is : (p : ℕ) (v : List ℕ) → networkIn p v ≡ cond (all (networkRules v)) (Good (networkFields p v)) (Bad (wrong (networkRules v)))
 unfolding networkIn
 read-is p v = refl
 
-pub found-as : (b : Bool) (l : List ℕ) (start head o : ℕ)
-    → networkFound b l start head o ≡ pieceFound makeNetwork head (networkPiece b l o) (networkAt b start l o) noNetwork
+pub found-as : (b : Bool) (l : List ℕ) (start head : ℕ)
+    → networkFound b l start head ≡ pieceFound makeNetwork head (networkPiece b l 20 (u32At l 20)) (networkAt b start l (u32At l 20)) noNetwork
 unfolding networkFound
-found-as b l start head o = refl
+found-as b l start head = refl
 
 abbrev pub networkKind : Kind Network NetworkFound NetworkRead
 networkKind = record {
   make = makeNetwork;
   spanOf = λ r. r .span;
-  spans = λ ok x a. refl;
+  spans = λ i x a. refl;
   none = noNetwork;
+  offsetField = 20;
   least = 0x14;
   rules = networkRules;
   fields = networkFields;
+  last = 24;
+  within = network-fields;
   good = Good;
   bad = Bad;
   differ = good-not-bad;
   same = good-same;
+  same-bad = bad-same;
   readAs = networkIn;
   read-is = read-is;
   foundAs = networkFound;

@@ -12,22 +12,22 @@ use Rattle.octets.specs.Numbers.{u32At, numberAt}
 use Rattle.octets.proofs.NumberLaws.{number-drop}
 use Rattle.octets.proofs.ChoiceLaws.{cond-first, cond-second}
 use Rattle.format.specs.declared.Place.{Place}
-use Rattle.format.specs.Tests.{Test, place, noPlace}
-use Rattle.format.specs.Steps.AllTests.{all}
+use Rattle.format.specs.Tests.{Test, all, inside, place, noPlace}
+use Rattle.format.specs.Steps.Wrong.{wrong}
 use Rattle.format.specs.Pieces.{Piece, structTests, span}
-use Rattle.format.proofs.Bools.{and-true}
-use Rattle.format.proofs.Chains.{all-pass}
+use Rattle.format.proofs.Chains.{all-pass, all-inside, no-true}
 use Rattle.format.proofs.Holds.{struct-holds}
 use Rattle.format.proofs.PieceLaws.{pieceAt}
 use Rattle.info.specs.declared.StructEnd.{StructEnd}
 use Rattle.info.specs.declared.StructEnd.the-variants.{At, Outside}
-use Rattle.info.specs.Steps.Found.{EndSmall, pieceOk, pieceFound, endsRight, endAt, okOrPiece, endNumber, endValue, EndAnswer}
-use Rattle.info.proofs.TestLaws.{found-absent, found-not, found-is}
+use Rattle.info.specs.Steps.Found.{EndSmall, pieceOk, pieceWrong, pieceFound, frameTests, endAt}
+use Rattle.info.proofs.TestLaws.{Fields, here, fields-inside, fields-most, PieceFields, wrong-inside, found-absent, found-not, found-is}
 
 -- ---- a structure of LinkInfo as a piece, and what it says
 
-abbrev pub structAt : {A : Type 0} → ℕ → (List ℕ → List Test) → (ℕ → List ℕ → A) → Bool → List ℕ → ℕ → Piece
-structAt least rules fields b l o = pieceAt (structTests least rules) (λ s. u32At s 0) (fields 0) b l o
+-- to which the field at i leads by the offset o
+abbrev pub structAt : {A : Type 0} → ℕ → ℕ → (List ℕ → List Test) → (ℕ → List ℕ → A) → Bool → List ℕ → ℕ → Piece
+structAt i least rules fields b l o = pieceAt i (λ o. structTests i o least rules) (λ s. u32At s 0) (fields 0) b l o
 
 abbrev pub structSays : {A : Type 0} → (ℕ → List ℕ → A) → A → Bool → List ℕ → ℕ → ℕ → A
 structSays fields none b l start o = cond b (fields (start + o) (take (u32At (drop o l) 0) (drop o l))) none
@@ -37,51 +37,35 @@ structSays fields none b l start o = cond b (fields (start + o) (take (u32At (dr
 pub first-number : (l : List ℕ) (o : ℕ) → u32At (drop o l) 0 ≡ u32At l o
 first-number l o = number-drop 4 o l 0 ∙ ap (numberAt 4 l) (add-zero o)
 
-module _ (l : List ℕ) (head least o : ℕ) where
-  -- the number and the value of the answer
-  ends : {r : StructEnd} → r ≡ endAt l head least o → EndAnswer l head least o r
-  unfolding endAt endNumber endValue
-  ends i = record { is = i; number = rw i (number (endsRight l head least o)); value = rw i (value (endsRight l head least o)) }
-    where
-      e : ℕ
-      e = o + u32At (drop o l) 0
-
-      number : (b : Bool) → endNumber (cond b (At e) Outside) ≡ okOrPiece b
-      number true = refl
-      number false = refl
-
-      value : (b : Bool) → endValue (cond b (At e) Outside) ≡ cond b e 0
-      value true = refl
-      value false = refl
-
-  pub end-low : o < head → EndAnswer l head least o Outside
+module _ (l : List ℕ) (head least i o : ℕ) where
+  pub end-low : o < head → Outside i ≡ endAt l head least i o
   unfolding endAt
-  end-low h = ends (rw (lt-leb head o h))
+  end-low h = rw (lt-leb head o h)
 
   module _ (h : head ≤ o) where
-    pub end-cut : length l < o + 4 → EndAnswer l head least o Outside
+    pub end-cut : length l < o + 4 → Outside i ≡ endAt l head least i o
     unfolding endAt
-    end-cut k = ends (rw (le-leb head o h, length-drop, lt-leb 4 (length l - o) (omega arith)))
+    end-cut k = rw (le-leb head o h, length-drop, lt-leb 4 (length l - o) (omega arith))
 
     module _ {n : ℕ} (f : o + 4 ≤ length l) (e : n ≡ u32At l o) where
-      pub end-past : length l < o + n → EndAnswer l head least o Outside
+      pub end-past : length l < o + n → Outside i ≡ endAt l head least i o
       unfolding endAt
-      end-past k = ends (rw (le-leb head o h, length-drop, le-leb 4 (length l - o) (omega arith), first-number l o, ← e, lt-leb n (length l - o) (omega arith)))
+      end-past k = rw (le-leb head o h, length-drop, le-leb 4 (length l - o) (omega arith), first-number l o, ← e, lt-leb n (length l - o) (omega arith))
 
       module _ (k : o + n ≤ length l) where
-        pub end-small : n < least → EndAnswer l head least o Outside
+        pub end-small : n < least → Outside o ≡ endAt l head least i o
         unfolding endAt
-        end-small i =
-            ends (rw (le-leb head o h, length-drop, le-leb 4 (length l - o) (omega arith), first-number l o, ← e, le-leb n (length l - o) (omega arith), lt-leb least n i))
+        end-small j =
+            rw (le-leb head o h, length-drop, le-leb 4 (length l - o) (omega arith), first-number l o, ← e, le-leb n (length l - o) (omega arith), lt-leb least n j, add-zero)
 
-        pub end-at : least ≤ n → {m : ℕ} → m ≡ o + n → EndAnswer l head least o (At m)
+        pub end-at : least ≤ n → {m : ℕ} → m ≡ o + n → At m ≡ endAt l head least i o
         unfolding endAt
-        end-at i q =
-            ends (rw (q, le-leb head o h, length-drop, le-leb 4 (length l - o) (omega arith), first-number l o, ← e, le-leb n (length l - o) (omega arith), le-leb least n i))
+        end-at j q =
+            rw (q, le-leb head o h, length-drop, le-leb 4 (length l - o) (omega arith), first-number l o, ← e, le-leb n (length l - o) (omega arith), le-leb least n j)
 
 -- ---- from the answer to the facts
 
-pub at-not-outside : {x : StructEnd} {e : ℕ} → x ≡ At e → x ≡ Outside → ⊥
+pub at-not-outside : {x : StructEnd} {e w : ℕ} → x ≡ At e → x ≡ Outside w → ⊥
 at-not-outside p q = let z : _≡_ {A = ℕ} 0 1 = cc in omega arith
 
 -- a structure that ends at e
@@ -93,19 +77,19 @@ pub record Ended (l : List ℕ) (head least o e : ℕ) : Type 0 where
   pub ordered : o ≤ e
   pub inside : e ≤ length l
 
-module _ (l : List ℕ) (head least o : ℕ) {x : StructEnd} (ex : x ≡ endAt l head least o) where
-  outside-tests : x ≡ Outside → (leb head o && all (structTests least (λ v. []) (drop o l))) ≡ false
+module _ (l : List ℕ) (head least i o : ℕ) {x : StructEnd} (ex : x ≡ endAt l head least i o) where
+  outside-tests : {w : ℕ} → x ≡ Outside w → (all (frameTests l head least i o) ≡ false) × (wrong (frameTests l head least i o) ≡ w)
   unfolding endAt
-  outside-tests q = cond-second _ ex (λ h. at-not-outside h q) .0
+  outside-tests q = let (a, b) = cond-second _ ex (λ h. at-not-outside h q) in (a, cc)
 
   pub ended : {e : ℕ} → x ≡ At e → Ended l head least o e
   unfolding endAt
   ended {e} h =
       let s : List ℕ = drop o l in
       let n : ℕ = u32At s 0 in
-      let i = cond-first _ ex (at-not-outside h) in
-      let (a, b) = and-true (leb head o) (all (structTests least (λ v. []) s)) (i .0) in
-      let t = struct-holds least (λ v. []) s (all-pass (structTests least (λ v. []) s) b) in
+      let j = cond-first _ ex (at-not-outside h) in
+      let (a, b) = all-pass (frameTests l head least i o) (j .0) in
+      let t = struct-holds i o least (λ v. []) s b in
       let q : e ≡ o + n = cc in
       let h : head ≤ o = leb-true head o a in
       let g = length-drop o l in
@@ -114,83 +98,145 @@ module _ (l : List ℕ) (head least o : ℕ) {x : StructEnd} (ex : x ≡ endAt l
   -- ---- the tests of the structure, as a piece
 
   module _ {A : Type 0} (rules : List ℕ → List Test) (fields : ℕ → List ℕ → A) where
-    struct-outside : x ≡ Outside → pieceOk head (structAt least rules fields true l o) ≡ false
-    struct-outside q = go (leb head o) (leb 4 (length (drop o l))) (leb (u32At (drop o l) 0) (length (drop o l))) (leb least (u32At (drop o l) 0)) _ (outside-tests q)
-      where
-        go : (a b c d e : Bool) → (a && (b && (c && (d && true)))) ≡ false → (a && (b && (c && (d && e)))) ≡ false
-        go false b c d e h = refl
-        go true false c d e h = refl
-        go true true false d e h = refl
-        go true true true false e h = refl
-        go true true true true e h = absurd (let z : _≡_ {A = ℕ} 0 1 = cc in omega arith)
+    abbrev this : Piece
+    this = structAt i least rules fields true l o
 
-    struct-judged : {e : ℕ} → x ≡ At e → pieceOk head (structAt least rules fields true l o) ≡ all (rules (take (e - o) (drop o l)))
+    struct-outside : {w : ℕ} → x ≡ Outside w → (pieceOk head this ≡ false) × (pieceWrong head this ≡ w)
+    struct-outside {w} q =
+        let j = outside-tests q in
+        go (leb head o) (leb 4 (length (drop o l))) (leb (u32At (drop o l) 0) (length (drop o l))) (leb least (u32At (drop o l) 0)) _ _ (j .0) (j .1)
+      where
+        go : (a b c d e : Bool) (m : ℕ) → (a && (b && (c && (d && true)))) ≡ false → cond a (cond b (cond c (cond d 0 (o + 0)) i) i) i ≡ w
+            → ((a && (b && (c && (d && e)))) ≡ false) × (cond a (cond b (cond c (cond d m (o + 0)) i) i) i ≡ w)
+        go false b c d e m h k = (refl, k)
+        go true false c d e m h k = (refl, k)
+        go true true false d e m h k = (refl, k)
+        go true true true false e m h k = (refl, k)
+        go true true true true e m h k = no-true (sym h)
+
+    -- the rules of the structure's own bytes
+    abbrev ruled : ℕ → List Test
+    ruled e = rules (take (e - o) (drop o l))
+
+    struct-judged : {e : ℕ} → x ≡ At e → (pieceOk head this ≡ all (ruled e)) × (pieceWrong head this ≡ wrong (inside o (ruled e)))
     struct-judged {e} h =
-        let i = ended h in
+        let j = ended h in
         let d : e - o ≤ length (drop o l) = rw length-drop (omega arith) in
-        rw (i .sized, le-leb head o (i .after), le-leb 4 (length (drop o l)) (i .field), le-leb (e - o) (length (drop o l)) d, le-leb least (e - o) (i .enough))
+        let a = le-leb head o (j .after) in
+        let b = le-leb 4 (length (drop o l)) (j .field) in
+        let c = le-leb (e - o) (length (drop o l)) d in
+        let f = le-leb least (e - o) (j .enough) in
+        (rw (j .sized, a, b, c, f, all-inside o (ruled e)), rw (j .sized, a, b, c, f))
+
+-- a structure starts after the head, so none of its fields is 0; and before the end
+pub struct-fields : {A : Type 0} (k i m least : ℕ) (rules : List ℕ → List Test) (fields : ℕ → List ℕ → A) (b : Bool) (l : List ℕ) (h o : ℕ)
+    → 0 < i → i ≤ k → length l + m ≤ k → 0 < h → ((v : List ℕ) → Fields m (rules v)) → PieceFields k h (structAt i least rules fields b l o)
+struct-fields k i m least rules fields b l h o p q r z F =
+    let s : List ℕ = drop o l in
+    let v : List ℕ = take (u32At s 0) s in
+    record {
+      some = p;
+      most = q;
+      own = λ e.
+          let g : h ≤ o = leb-true h o e in (
+            here k i p q,
+            λ f.
+                let j : o ≤ length l = omega (arith, leb-true 4 (length s) f, length-drop o l) in
+                (here k i p q, λ t. (here k (o + 0) (omega arith) (omega arith), λ t. fields-inside o m k (rules v) (omega arith) (F v))),
+          );
+    }
 
 -- ---- a kind of structure
 
 pub record Kind (A R Q : Type 0) : Type 0 where
   -- an answer, and the span in it
-  pub make : Bool → Place → A → R
+  pub make : ℕ → Place → A → R
   pub spanOf : R → Place
-  pub spans : (ok : Bool) (x : Place) (a : A) → spanOf (make ok x a) ≡ x
+  pub spans : (i : ℕ) (x : Place) (a : A) → spanOf (make i x a) ≡ x
   -- what it says, and what stands for that where it is absent
   pub none : A
+  -- where its offset field stands
+  pub offsetField : ℕ
   pub least : ℕ
   pub rules : List ℕ → List Test
   pub fields : ℕ → List ℕ → A
+  -- the last field of its rules
+  pub last : ℕ
+  pub within : (v : List ℕ) → Fields last (rules v)
   -- what reading its own bytes answers
   pub good : A → Q
-  pub bad : Q
-  pub differ : (a : A) → good a ≡ bad → ⊥
+  pub bad : ℕ → Q
+  pub differ : (a : A) (i : ℕ) → good a ≡ bad i → ⊥
   pub same : (a c : A) → good a ≡ good c → a ≡ c
+  pub same-bad : (i j : ℕ) → bad i ≡ bad j → i ≡ j
   -- the definitions that the contracts cite
   pub readAs : ℕ → List ℕ → Q
-  pub read-is : (p : ℕ) (v : List ℕ) → readAs p v ≡ cond (all (rules v)) (good (fields p v)) bad
-  pub foundAs : Bool → List ℕ → ℕ → ℕ → ℕ → R
-  pub found-as : (b : Bool) (l : List ℕ) (start head o : ℕ) → foundAs b l start head o ≡ pieceFound make head (structAt least rules fields b l o) (structSays fields none b l start o) none
+  pub read-is : (p : ℕ) (v : List ℕ) → readAs p v ≡ cond (all (rules v)) (good (fields p v)) (bad (wrong (rules v)))
+  pub foundAs : Bool → List ℕ → ℕ → ℕ → R
+  pub found-as : (b : Bool) (l : List ℕ) (start head : ℕ)
+      → foundAs b l start head ≡ pieceFound make head (structAt offsetField least rules fields b l (u32At l offsetField)) (structSays fields none b l start (u32At l offsetField)) none
+
+-- what is bad fails at that field
+module _ {A R Q : Type 0} (K : Kind A R Q) (p : ℕ) (v : List ℕ) {y : Q} (ey : y ≡ K .readAs p v) {w : ℕ} (j : y ≡ K .bad w) where
+  read-bad : (all (K .rules v) ≡ false) × (wrong (K .rules v) ≡ w)
+  read-bad =
+      let (f, g) = cond-second _ (ey ∙ K .read-is p v) (λ g. K .differ _ w (sym g ∙ j)) in
+      (f, K .same-bad _ _ (sym g ∙ j))
+
+  pub bad-small : w ≤ K .last
+  bad-small = let z = fields-most (K .last) (K .rules v) (K .within v) in omega (arith, read-bad .1)
 
 -- ---- the ways out
 
-module _ {A R Q : Type 0} (K : Kind A R Q) (b : Bool) (l : List ℕ) (start head o : ℕ) where
-  abbrev piece : Piece
-  piece = structAt (K .least) (K .rules) (K .fields) b l o
+module _ {A R Q : Type 0} (K : Kind A R Q) (b : Bool) (l : List ℕ) (start head : ℕ) where
+  abbrev piece : ℕ → Piece
+  piece o = structAt (K .offsetField) (K .least) (K .rules) (K .fields) b l o
 
-  abbrev says : A
-  says = structSays (K .fields) (K .none) b l start o
+  abbrev says : ℕ → A
+  says o = structSays (K .fields) (K .none) b l start o
 
-  nowhere : (ok : Bool) {r : R} → r ≡ K .make ok noPlace (K .none) → EndSmall (K .spanOf r)
-  nowhere ok e = rw (ap (K .spanOf) e ∙ K .spans ok noPlace (K .none)) (omega arith)
+  nowhere : (i : ℕ) {r : R} → r ≡ K .make i noPlace (K .none) → EndSmall (K .spanOf r)
+  nowhere i e = rw (ap (K .spanOf) e ∙ K .spans i noPlace (K .none)) (omega arith)
 
-  pub struct-absent : {r : R} → not b ≡ true → r ≡ K .make true noPlace (K .none) → (r ≡ K .foundAs b l start head o) × EndSmall (K .spanOf r)
+  pub struct-absent : {r : R} → not b ≡ true → r ≡ K .make 0 noPlace (K .none) → (r ≡ K .foundAs b l start head) × EndSmall (K .spanOf r)
   struct-absent t e =
       let f : b ≡ false = not-true b t in
-      (e ∙ found-absent (K .make) head piece says (K .none) f (rw f) ∙ sym (K .found-as b l start head o), nowhere true e)
+      let o : ℕ = u32At l (K .offsetField) in
+      (e ∙ found-absent (K .make) head (piece o) (says o) (K .none) f (rw f) ∙ sym (K .found-as b l start head), nowhere 0 e)
 
-  not-found : {r : R} → pieceOk head piece ≡ false → r ≡ K .make false noPlace (K .none) → (r ≡ K .foundAs b l start head o) × EndSmall (K .spanOf r)
-  not-found f e = (e ∙ found-not (K .make) head piece says (K .none) f ∙ sym (K .found-as b l start head o), nowhere false e)
+  -- o is what the field holds
+  module _ {o : ℕ} {x : StructEnd} (t : not b ≡ false) (eo : o ≡ u32At l (K .offsetField)) (ex : x ≡ endAt l head (K .least) (K .offsetField) o) where
+    found-at : K .foundAs b l start head ≡ pieceFound (K .make) head (piece o) (says o) (K .none)
+    found-at = K .found-as b l start head ∙ ap (λ (o : ℕ). pieceFound (K .make) head (piece o) (says o) (K .none)) (sym eo)
 
-  module _ {x : StructEnd} (t : not b ≡ false) (ex : x ≡ endAt l head (K .least) o) where
-    pub struct-lost : {r : R} → x ≡ Outside → r ≡ K .make false noPlace (K .none) → (r ≡ K .foundAs b l start head o) × EndSmall (K .spanOf r)
-    struct-lost q = not-found (rw (not-false b t) (struct-outside l head (K .least) o ex (K .rules) (K .fields) q))
+    not-found : {i : ℕ} {r : R} → pieceOk head (piece o) ≡ false → pieceWrong head (piece o) ≡ i → r ≡ K .make i noPlace (K .none)
+        → (r ≡ K .foundAs b l start head) × EndSmall (K .spanOf r)
+    not-found {i} f g e = (e ∙ found-not (K .make) head (piece o) (says o) (K .none) f g ∙ sym found-at, nowhere i e)
+
+    pub struct-lost : {w : ℕ} {r : R} → x ≡ Outside w → r ≡ K .make w noPlace (K .none) → (r ≡ K .foundAs b l start head) × EndSmall (K .spanOf r)
+    struct-lost q =
+        let j = struct-outside l head (K .least) (K .offsetField) o ex (K .rules) (K .fields) q in
+        not-found (rw (not-false b t) (j .0)) (rw (not-false b t) (j .1))
 
     module _ {e : ℕ} {y : Q} (q : x ≡ At e) (ey : y ≡ K .readAs (start + o) (take (e - o) (drop o l))) where
-      judged : pieceOk head piece ≡ all (K .rules (take (e - o) (drop o l)))
-      judged = rw (not-false b t) (struct-judged l head (K .least) o ex (K .rules) (K .fields) q)
+      abbrev own : List Test
+      own = K .rules (take (e - o) (drop o l))
 
-      pub struct-bad : {r : R} → y ≡ K .bad → r ≡ K .make false noPlace (K .none) → (r ≡ K .foundAs b l start head o) × EndSmall (K .spanOf r)
-      struct-bad i = not-found (judged ∙ cond-second _ (ey ∙ K .read-is _ _) (λ g. K .differ _ (sym g ∙ i)) .0)
+      judged : (pieceOk head (piece o) ≡ all own) × (pieceWrong head (piece o) ≡ wrong (inside o own))
+      judged = rw (not-false b t) (struct-judged l head (K .least) (K .offsetField) o ex (K .rules) (K .fields) q)
+
+      pub struct-bad : {w m : ℕ} {r : R} → y ≡ K .bad w → m ≡ o + w → r ≡ K .make m noPlace (K .none) → (r ≡ K .foundAs b l start head) × EndSmall (K .spanOf r)
+      struct-bad j em =
+          let (f, g) = read-bad K (start + o) (take (e - o) (drop o l)) ey j in
+          not-found (judged .0 ∙ f) (judged .1 ∙ wrong-inside o own f ∙ rw (em, g))
 
       pub struct-good : {a : A} → start + length l ≤ 65536 → y ≡ K .good a
-          → (K .make true (place o (e - o)) a ≡ K .foundAs b l start head o) × EndSmall (K .spanOf (K .make true (place o (e - o)) a))
-      struct-good {a} s i =
-          let w = ended l head (K .least) o ex q in
-          let j = cond-first _ (ey ∙ K .read-is _ _) (λ g. K .differ _ (sym i ∙ g)) in
-          let k : says ≡ a = rw (not-false b t, w .sized) (K .same _ _ (sym (j .1) ∙ i)) in
-          let m : span piece ≡ place o (e - o) = rw (not-false b t, w .sized) in (
-            rw (← k) (found-is (K .make) head piece says (K .none) (judged ∙ j .0) m) ∙ sym (K .found-as b l start head o),
-            rw (K .spans true (place o (e - o)) a) (omega arith),
+          → (K .make 0 (place o (e - o)) a ≡ K .foundAs b l start head) × EndSmall (K .spanOf (K .make 0 (place o (e - o)) a))
+      struct-good {a} s j =
+          let w = ended l head (K .least) (K .offsetField) o ex q in
+          let i = cond-first _ (ey ∙ K .read-is _ _) (λ g. K .differ _ _ (sym j ∙ g)) in
+          let k : says o ≡ a = rw (not-false b t, w .sized) (K .same _ _ (sym (i .1) ∙ j)) in
+          let m : span (piece o) ≡ place o (e - o) = rw (not-false b t, w .sized) in (
+            rw (← k) (found-is (K .make) head (piece o) (says o) (K .none) (judged .0 ∙ i .0) m) ∙ sym found-at,
+            rw (K .spans 0 (place o (e - o)) a) (omega arith),
           )

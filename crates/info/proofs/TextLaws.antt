@@ -1,10 +1,11 @@
 -- The string that an offset leads to, and a field that is there or not.
 use mathlib.Core.Path.{_≡_, refl, sym, ap, _∙_}
-use mathlib.Core.List.{List}
-use mathlib.Core.Bool.{Bool, true, false, not, _||_}
+use mathlib.Core.List.{List, [], _∷_}
+use mathlib.Core.Bool.{Bool, true, false, not, _||_, cond}
 use Prim.Native.Nat.{ℕ, _+_, _≤_, _<_}
 use native.Mathlib.Omega.{arith}
 use lib.ListN.{length, drop, length-drop}
+use lib.Dec.{leb}
 use borrow.Author.Tests.{ltb-true, le-leb, lt-leb, not-true, not-false}
 use Rattle.octets.specs.Numbers.{u32At}
 use Rattle.octets.specs.Characters.{bytesOf, characters, beforeZero}
@@ -13,11 +14,14 @@ use Rattle.octets.specs.declared.Zero.{Zero}
 use Rattle.octets.specs.declared.Zero.the-variants.{After, Nowhere}
 use Rattle.octets.proofs.CharacterLaws.{characters-fit, bytes-of-le, bytes-of-add}
 use Rattle.octets.proofs.ZeroLaws.{zero-after, zero-nowhere}
-use Rattle.format.specs.Tests.{place, noPlace}
-use Rattle.format.specs.Pieces.{textEnds, textLength, textPiece, textPlace, absentZero}
+use Rattle.format.specs.declared.Fault.the-variants.{Piece as PIECE}
+use Rattle.format.specs.Tests.{_else_at_, all, place, noPlace}
+use Rattle.format.specs.Steps.Wrong.{wrong}
+use Rattle.format.specs.declared.Place.{Place}
+use Rattle.format.specs.Pieces.{Piece, span, textEnds, textLength, textPiece, textPlace, absentZero}
 use Rattle.info.specs.declared.Text.{Text}
-use Rattle.info.specs.Steps.Found.{EndSmall, fieldIf, pieceOk, makeText, textFound}
-use Rattle.info.proofs.TestLaws.{found-absent, found-not, found-is}
+use Rattle.info.specs.Steps.Found.{EndSmall, fieldIf, pieceOk, pieceWrong, makeText, textFound}
+use Rattle.info.proofs.TestLaws.{judge}
 
 -- ---- a string inside its part
 
@@ -39,15 +43,19 @@ text-inside u l o {n = n} e h =
 -- ---- the ways out
 
 module _ (b u : Bool) (l : List ℕ) (start head o : ℕ) where
+  abbrev piece : Piece
+  piece = textPiece b u l 0 o
+
+  abbrev says : Place
+  says = textPlace b u start l o
+
   pub text-absent : {r : Text} → not b ≡ true → r ≡ makeText true noPlace noPlace → (r ≡ textFound b u l start head o) × EndSmall (r .span)
   unfolding textFound
-  text-absent t e =
-      let f : b ≡ false = not-true b t in
-      (e ∙ found-absent makeText head (textPiece b u l o) (textPlace b u start l o) noPlace f (rw f), rw e (omega arith))
+  text-absent t e = (e ∙ rw (not-true b t), rw e (omega arith))
 
-  not-found : {r : Text} → pieceOk head (textPiece b u l o) ≡ false → r ≡ makeText false noPlace noPlace → (r ≡ textFound b u l start head o) × EndSmall (r .span)
+  not-found : {r : Text} → pieceOk head piece ≡ false → r ≡ makeText false noPlace noPlace → (r ≡ textFound b u l start head o) × EndSmall (r .span)
   unfolding textFound
-  not-found f e = (e ∙ found-not makeText head (textPiece b u l o) (textPlace b u start l o) noPlace f, rw e (omega arith))
+  not-found f e = (e ∙ rw f, rw e (omega arith))
 
   module _ (t : not b ≡ false) where
     pub text-low : {r : Text} → o < head → r ≡ makeText false noPlace noPlace → (r ≡ textFound b u l start head o) × EndSmall (r .span)
@@ -65,21 +73,36 @@ module _ (b u : Bool) (l : List ℕ) (start head o : ℕ) where
       text-ends s {n} {k} {m} q ek em =
           let (w, i) = zero-after u l o ez q in
           let x : k ≡ textLength u (drop o l) = ek ∙ ap (bytesOf u) i in
-          let y : textPlace b u start l o ≡ place (start + o) k = rw (not-false b t, x) in (
-            rw (← y) (found-is makeText head (textPiece b u l o) (textPlace b u start l o) noPlace (rw (not-false b t, le-leb head o h, w)) (rw (not-false b t, x, em))),
-            omega (arith, text-inside u l o ez q),
-          )
+          let f : pieceOk head piece ≡ true = rw (not-false b t, le-leb head o h, w) in
+          let g : span piece ≡ place o (k + m) = rw (not-false b t, x, em) in
+          let y : says ≡ place (start + o) k = rw (not-false b t, x) in
+          (rw (f, g, y), omega (arith, text-inside u l o ez q))
 
 -- ---- what was found
 
+-- both tests of a string are of the field that leads there
+two-tests : (b x y : Bool) (i : ℕ) → wrong (cond b (x else PIECE at i ∷ y else PIECE at i ∷ []) []) ≡ cond (all (cond b (x else PIECE at 0 ∷ y else PIECE at 0 ∷ []) [])) 0 i
+two-tests true true true i = refl
+two-tests true true false i = refl
+two-tests true false y i = refl
+two-tests false x y i = refl
+
+pub any-field : (b x y : Bool) (i : ℕ) → all (cond b (x else PIECE at i ∷ y else PIECE at i ∷ []) []) ≡ all (cond b (x else PIECE at 0 ∷ y else PIECE at 0 ∷ []) [])
+any-field true x y i = refl
+any-field false x y i = refl
+
 module _ (b u : Bool) (l : List ℕ) (start head o : ℕ) {t : Text} (e : t ≡ textFound b u l start head o) where
-  pub text-ok : t .ok ≡ pieceOk head (textPiece b u l o)
+  pub text-wrong : (i : ℕ) → pieceWrong head (textPiece b u l i o) ≡ cond (t .ok) 0 i
   unfolding textFound
-  text-ok = ap (λ (x : Text). x .ok) e
+  text-wrong i = two-tests b (leb head o) (textEnds u (drop o l)) i ∙ rw e
+
+  pub text-judged : (i : ℕ) → (cond (t .ok) 0 i, (i, t .span)) ≡ judge head (textPiece b u l i o)
+  unfolding textFound
+  text-judged i = rw (text-wrong i, any-field b (leb head o) (textEnds u (drop o l)) i, e)
 
   pub text-body : t .ok ≡ true → t .body ≡ textPlace b u start l o
   unfolding textFound
-  text-body k = ap (λ (x : Text). x .body) e ∙ rw (sym text-ok ∙ k)
+  text-body k = let f : pieceOk head (textPiece b u l 0 o) ≡ true = sym (ap (λ (x : Text). x .ok) e) ∙ k in ap (λ (x : Text). x .body) e ∙ rw f
 
 -- ---- a field that is there or not
 

@@ -1,101 +1,122 @@
 -- VolumeID: its own bytes, and the piece of LinkInfo.
-use mathlib.Core.Path.{_≡_, refl, sym, _∙_}
+use mathlib.Core.Path.{_≡_, refl, sym, ap, _∙_}
 use mathlib.Core.List.{List}
-use mathlib.Core.Bool.{Bool, true, false, not, _&&_, _||_, cond}
-use Prim.Native.Nat.{ℕ, _≤_}
+use mathlib.Core.Bool.{Bool, true, false, not, cond}
+use Prim.Native.Nat.{ℕ, _+_, _≤_, _<_}
 use native.Mathlib.Omega.{arith}
 use lib.ListN.{length}
-use lib.Dec.{leb, ltb}
-use borrow.Author.Tests.{le-leb, lt-leb, ltb-true, ltb-false, not-true, not-false}
+use lib.Dec.{eqb}
+use borrow.Author.Tests.{le-leb, lt-leb, ne-eqb, not-true, not-false}
 use Rattle.octets.specs.Numbers.{u32At}
 use Rattle.format.specs.declared.Label.{Label}
 use Rattle.format.specs.declared.Volume.{Volume}
-use Rattle.format.specs.Steps.AllTests.{all}
+use Rattle.format.specs.Tests.{all}
+use Rattle.format.specs.Steps.Wrong.{wrong}
 use Rattle.format.specs.Pieces.{uncut, textPiece}
-use Rattle.format.specs.Volume.{labelUnicode, labelLeast, labelOf, volumeRules, volumeFields, volumeAt, volumePiece, noVolume}
-use Rattle.format.proofs.Bools.{or-true, and-no}
+use Rattle.format.specs.Volume.{labelUnicode, labelField, labelLeast, labelOf, volumeRules, volumeFields, volumeAt, volumePiece, noVolume}
 use Rattle.info.specs.declared.Text.{Text}
 use Rattle.info.specs.declared.VolumeFound.{VolumeFound}
 use Rattle.info.specs.declared.VolumeRead.{VolumeRead}
 use Rattle.info.specs.declared.VolumeRead.the-variants.{Good, Bad}
-use Rattle.info.specs.Steps.Found.{pieceOk, pieceFound, labelAt, textFound, makeVolume, volumeFound, volumeIn, okOrPiece, volumeNumber, VolumeAnswer}
-use Rattle.info.proofs.TestLaws.{or-false, uncut-room}
-use Rattle.info.proofs.TextLaws.{text-ok, text-body}
+use Rattle.info.specs.Steps.Found.{pieceWrong, pieceFound, textFound, makeVolume, volumeFound, volumeIn}
+use Rattle.info.proofs.TestLaws.{Fields, here, fields-told, uncut-room}
+use Rattle.info.proofs.TextLaws.{text-wrong, text-body}
 use Rattle.info.proofs.StructLaws.{Kind}
 
 -- ---- VolumeID's own bytes
 
-pub label-room : (v : List ℕ) {x : Bool} (u a : Bool) → x ≡ uncut u 0x14 v → (a || not x) ≡ false → u ≡ true → 0x14 ≤ length v
-label-room v {x} u a e h = uncut-room u 0x14 v (sym e ∙ not-false x (or-false a (not x) h .1))
+label-field : (u : Bool) → (12 ≤ cond u 16 12) × (cond u 16 12 ≤ 16)
+label-field true = (omega arith, omega arith)
+label-field false = (omega arith, omega arith)
 
--- the number of the answer
-volume-judged : (p : ℕ) (v : List ℕ) {r : VolumeRead} → r ≡ volumeIn p v → VolumeAnswer p v r
-unfolding volumeIn volumeNumber
-volume-judged p v e = record { is = e; number = rw e (number (all (volumeRules v))) }
+pub volume-fields : (v : List ℕ) → Fields 16 (volumeRules v)
+volume-fields v =
+    let (f, g) = label-field (labelUnicode v) in
+    let i : ℕ = labelField v in
+    (here 16 4 (omega arith) (omega arith), λ e. (here 16 16 (omega arith) (omega arith), λ e. (here 16 i (omega arith) g, λ e. (here 16 i (omega arith) g, λ e. tt))))
+
+-- the field that holds the label's offset lies inside
+pub label-room : (v : List ℕ) {x : Bool} {i : ℕ} (u : Bool) → 0x11 ≤ length v → x ≡ uncut u 0x14 v → not x ≡ false → i ≡ cond u 16 12 → i + 4 ≤ length v
+label-room v {x} {i} u h e t = go u (uncut-room u 0x14 v (sym e ∙ not-false x t))
   where
-    number : (b : Bool) → volumeNumber (cond b (Good (volumeFields p v)) Bad) ≡ okOrPiece b
-    number true = refl
-    number false = refl
+    go : (u : Bool) → (u ≡ true → 0x14 ≤ length v) → i ≡ cond u 16 12 → i + 4 ≤ length v
+    go true f q = omega (arith, f refl)
+    go false f q = omega arith
 
-module _ (p : ℕ) (v : List ℕ) {drive : ℕ} {u x : Bool} (ed : drive ≡ u32At v 4) (eu : u ≡ labelUnicode v) (ex : x ≡ uncut u 0x14 v) where
-  rules-are : all (volumeRules v) ≡ (leb drive 6 && (x && pieceOk (labelLeast u) (textPiece true u v (labelAt v u))))
-  rules-are = rw (ex, eu, ed)
-
-  pub volume-fixed : (ltb 6 drive || not x) ≡ true → VolumeAnswer p v Bad
+module _ (p : ℕ) (v : List ℕ) {drive : ℕ} (ed : drive ≡ u32At v 4) where
+  pub volume-drive : 6 < drive → Bad 4 ≡ volumeIn p v
   unfolding volumeIn
-  volume-fixed h =
-      or-true (ltb 6 drive) (not x) h
-      (λ i. volume-judged p v (rw (rules-are, lt-leb drive 6 (ltb-true 6 drive i))))
-      (λ i. volume-judged p v (rw (rules-are, not-true x i, and-no)))
+  volume-drive h = rw (← ed, lt-leb drive 6 h)
 
-  module _ {o least : ℕ} {t : Text} (h : (ltb 6 drive || not x) ≡ false) (el : least ≡ labelLeast u) (eo : o ≡ labelAt v u) (et : t ≡ textFound true u v p least o) where
-    rules-text : all (volumeRules v) ≡ t .ok
-    rules-text =
-        let i = or-false (ltb 6 drive) (not x) h in
-        let j : leb drive 6 ≡ true = le-leb drive 6 (ltb-false 6 drive (i .0)) in
-        rules-are ∙ rw (j, not-false x (i .1), ← eo, ← el) (sym (text-ok true u v p least o et))
+  module _ {u x : Bool} (h : drive ≤ 6) (eu : u ≡ labelUnicode v) (ex : x ≡ uncut u 0x14 v) where
+    field-uncut : uncut (labelUnicode v) 0x14 v ≡ x
+    field-uncut = rw (ex, eu)
 
-    pub volume-open : not (t .ok) ≡ true → VolumeAnswer p v Bad
+    pub volume-cut : not x ≡ true → Bad 16 ≡ volumeIn p v
     unfolding volumeIn
-    volume-open q = volume-judged p v (rw (rules-text ∙ not-true (t .ok) q))
+    volume-cut t = rw (← ed, le-leb drive 6 h, field-uncut, not-true x t)
 
-    pub volume-good : {serial : ℕ} {label : Label} → not (t .ok) ≡ false → serial ≡ u32At v 8 → label ≡ labelOf u (t .body)
-        → VolumeAnswer p v (Good (record { drive = drive; serial = serial; label = label }))
-    unfolding volumeIn
-    volume-good q es eb =
-        let i : t .ok ≡ true = not-false (t .ok) q in
-        volume-judged p v (rw (rules-text ∙ i, ed, es, eb, text-body true u v p least o et i, eo, eu))
+    module _ {i o least : ℕ} {t : Text} (tx : not x ≡ false) (el : least ≡ labelLeast u) (ei : i ≡ cond u 16 12) (eo : o ≡ u32At v i) (et : t ≡ textFound true u v p least o) where
+      rules-wrong : wrong (volumeRules v) ≡ cond (t .ok) 0 i
+      rules-wrong =
+          let q : pieceWrong (labelLeast u) (textPiece true u v (cond u 16 12) (u32At v (cond u 16 12))) ≡ cond (t .ok) 0 i = rw (← el, ← ei, ← eo) (text-wrong true u v p least o et i) in
+          rw (← ed, le-leb drive 6 h, field-uncut, not-false x tx) (rw (← eu) q)
+
+      rules-pass : all (volumeRules v) ≡ t .ok
+      rules-pass = sym (fields-told 16 (volumeRules v) (volume-fields v)) ∙ ap (λ (n : ℕ). eqb n 0) rules-wrong ∙ go (t .ok)
+        where
+          go : (x : Bool) → eqb (cond x 0 i) 0 ≡ x
+          go true = refl
+          go false = ne-eqb i 0 (λ e. omega (arith, label-field u .0))
+
+      pub volume-open : not (t .ok) ≡ true → Bad i ≡ volumeIn p v
+      unfolding volumeIn
+      volume-open q = rw (rules-pass, rules-wrong, not-true (t .ok) q)
+
+      pub volume-good : {serial : ℕ} {label : Label} → not (t .ok) ≡ false → serial ≡ u32At v 8 → label ≡ labelOf u (t .body)
+          → Good (record { drive = drive; serial = serial; label = label }) ≡ volumeIn p v
+      unfolding volumeIn
+      volume-good q es eb =
+          let k : t .ok ≡ true = not-false (t .ok) q in
+          rw (rules-pass, k, ed, es, eb, text-body true u v p least o et k, eo, ei, eu)
 
 -- ---- the piece
 
-pub good-not-bad : (a : Volume) → Good a ≡ Bad → ⊥
-good-not-bad a e = let z : _≡_ {A = ℕ} 0 1 = cc in omega arith
+pub good-not-bad : (a : Volume) (i : ℕ) → Good a ≡ Bad i → ⊥
+good-not-bad a i e = let z : _≡_ {A = ℕ} 0 1 = cc in omega arith
 
 pub good-same : (a c : Volume) → Good a ≡ Good c → a ≡ c
 good-same a c e = cc
 
-pub read-is : (p : ℕ) (v : List ℕ) → volumeIn p v ≡ cond (all (volumeRules v)) (Good (volumeFields p v)) Bad
+pub bad-same : (i j : ℕ) → Bad i ≡ Bad j → i ≡ j
+bad-same i j e = cc
+
+pub read-is : (p : ℕ) (v : List ℕ) → volumeIn p v ≡ cond (all (volumeRules v)) (Good (volumeFields p v)) (Bad (wrong (volumeRules v)))
 unfolding volumeIn
 read-is p v = refl
 
-pub found-as : (b : Bool) (l : List ℕ) (start head o : ℕ)
-    → volumeFound b l start head o ≡ pieceFound makeVolume head (volumePiece b l o) (volumeAt b start l o) noVolume
+pub found-as : (b : Bool) (l : List ℕ) (start head : ℕ)
+    → volumeFound b l start head ≡ pieceFound makeVolume head (volumePiece b l 12 (u32At l 12)) (volumeAt b start l (u32At l 12)) noVolume
 unfolding volumeFound
-found-as b l start head o = refl
+found-as b l start head = refl
 
 abbrev pub volumeKind : Kind Volume VolumeFound VolumeRead
 volumeKind = record {
   make = makeVolume;
   spanOf = λ r. r .span;
-  spans = λ ok x a. refl;
+  spans = λ i x a. refl;
   none = noVolume;
+  offsetField = 12;
   least = 0x11;
   rules = volumeRules;
   fields = volumeFields;
+  last = 16;
+  within = volume-fields;
   good = Good;
   bad = Bad;
   differ = good-not-bad;
   same = good-same;
+  same-bad = bad-same;
   readAs = volumeIn;
   read-is = read-is;
   foundAs = volumeFound;

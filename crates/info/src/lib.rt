@@ -3,73 +3,79 @@ use format::Fault;
 use format::Info;
 use format::Network;
 use format::Place;
+use format::Spot;
 use format::Volume;
+use format::first;
+use format::spot_at;
+use format::unless;
 use octets::Cursor;
 use octets::Skipped;
 use octets::Took;
 use octets::Zero;
 ghost use mathlib.Core.Path.{_≡_};
-ghost use mathlib.Core.Bool.{true};
+ghost use mathlib.Core.Bool.{true, cond};
 ghost use mathlib.Core.List.{[], _∷_};
 ghost use Prim.Native.Nat.{_+_, _≤_};
 ghost use lib.ListN.{length};
 ghost use Rattle.octets.specs.Characters.{bytesOf};
-ghost use Rattle.format.specs.Tests.{bit, noPlace};
-ghost use Rattle.format.specs.Steps.AllTests.{all};
+ghost use Rattle.format.specs.Tests.{noPlace};
 ghost use Rattle.format.specs.Pieces.{absentZero, uncut, apart, apartTests};
 ghost use Rattle.format.specs.Volume.{labelLeast, noVolume};
 ghost use Rattle.format.specs.Network.{networkHead, networkHeadTests, noNetwork};
 ghost use Rattle.format.specs.Info.{infoHeadTests};
-ghost use Rattle.info.specs.Steps.Found.{EndSmall, fieldIf, makeText, textFound, EndAnswer, labelAt, VolumeAnswer, makeVolume, volumeFound};
-ghost use Rattle.info.specs.Steps.Found.{networkIf, networkNumber, PieceAnswers, NetworkAnswer, makeNetwork, networkFound, piecesFound};
+ghost use Rattle.format.specs.Steps.Wrong.{wrong};
+ghost use Rattle.info.specs.Steps.Found.{EndSmall, fieldIf, makeText, textFound, endAt, volumeIn, makeVolume, volumeFound};
+ghost use Rattle.info.specs.Steps.Found.{networkIf, networkIn, makeNetwork, networkFound, piecesFound};
 ghost use Rattle.info.specs.Steps.Taken.{InfoAnswer};
 
 // LinkInfo and the cursor after it, or why it is refused and where.
 pub enum InfoTaken {
     Got(Info, Cursor),
-    Refused(Fault, usize),
+    Refused(Fault, Spot),
 }
 
 // A string that an offset leads to: whether it passes its tests, the bytes that it takes, and its body in the file. Zeros where it is absent or fails.
+// Who calls knows which field leads there: given the field to answer with, each string cost six instructions more.
 pub struct Text {
     pub ok: bool,
     pub span: Place,
     pub body: Place,
 }
 
+// Of these, wrong is the first field at fault, counted from LinkInfo's start; 0 is none.
 pub struct VolumeFound {
-    pub ok: bool,
+    pub wrong: usize,
     pub span: Place,
     pub volume: Volume,
 }
 
 pub struct NetworkFound {
-    pub ok: bool,
+    pub wrong: usize,
     pub span: Place,
     pub network: Network,
 }
 
-// The six pieces: whether all pass their tests, and what they say.
+// What the six pieces say.
 pub struct Pieces {
-    pub ok: bool,
+    pub wrong: usize,
     pub info: Info,
 }
 
-// Where a structure ends, in the part that holds it; or it does not lie inside.
+// Where a structure ends, in the part that holds it; or the field, offset or size, that is wrong about that.
 pub enum StructEnd {
     At(usize),
-    Outside,
+    Outside(usize),
 }
 
-// What a VolumeID says, or it breaks a rule.
+// What a VolumeID says, or its first field that breaks a rule, counted from its own start.
 pub enum VolumeRead {
     Good(Volume),
-    Bad,
+    Bad(usize),
 }
 
 pub enum NetworkRead {
     Good(Network),
-    Bad,
+    Bad(usize),
 }
 
 // ---- numbers and flags
@@ -154,54 +160,56 @@ fn apart(x: Place, y: Place) -> bool
     (x.at + x.len <= y.at) | (y.at + y.len <= x.at)
 }
 
-// Each of four with those before it.
-fn apart_four(a: Place, b: Place, c: Place, d: Place) -> bool
+// The first field whose piece shares a byte with that of an earlier field. LinkInfo and the network link both have their third and fourth at 20 and 24.
+fn apart_four(second: usize, a: Place, b: Place, c: Place, d: Place) -> usize
     requires { ⌜ EndSmall a × EndSmall b × EndSmall c × EndSmall d ⌝ }
-    ensures { λ r. ⌜ r ≡ all (apartTests [] (a ∷ b ∷ c ∷ d ∷ [])) ⌝ }
+    ensures { λ r. ⌜ r ≡ wrong (apartTests [] ((0, a) ∷ (second, b) ∷ (20, c) ∷ (24, d) ∷ [])) ⌝ }
 {
-    apart(b, a) & apart(c, b) & apart(c, a) & apart(d, c) & apart(d, b) & apart(d, a)
+    if !apart(b, a) {
+        return second;
+    }
+    if !(apart(c, b) & apart(c, a)) {
+        return 20;
+    }
+    if !(apart(d, c) & apart(d, b) & apart(d, a)) {
+        return 24;
+    }
+    0
 }
 
-// Each of six with those before it.
-fn apart_six(a: Place, b: Place, c: Place, d: Place, e: Place, f: Place) -> bool
+// The same of LinkInfo's six.
+fn apart_six(a: Place, b: Place, c: Place, d: Place, e: Place, f: Place) -> usize
     requires { ⌜ EndSmall a × EndSmall b × EndSmall c × EndSmall d × EndSmall e × EndSmall f ⌝ }
-    ensures { λ r. ⌜ r ≡ all (apartTests [] (a ∷ b ∷ c ∷ d ∷ e ∷ f ∷ [])) ⌝ }
+    ensures { λ r. ⌜ r ≡ wrong (apartTests [] ((12, a) ∷ (16, b) ∷ (20, c) ∷ (24, d) ∷ (28, e) ∷ (32, f) ∷ [])) ⌝ }
 {
-    let four = apart_four(a, b, c, d);
+    let four = apart_four(16, a, b, c, d);
     // The last two are absent with a short head: they end at 0, apart from every other.
     if (e.at + e.len == 0) & (f.at + f.len == 0) {
         return four;
     }
-    four
-        & apart(e, d)
-        & apart(e, c)
-        & apart(e, b)
-        & apart(e, a)
-        & apart(f, e)
-        & apart(f, d)
-        & apart(f, c)
-        & apart(f, b)
-        & apart(f, a)
+    let e_apart = apart(e, d) & apart(e, c) & apart(e, b) & apart(e, a);
+    let f_apart = apart(f, e) & apart(f, d) & apart(f, c) & apart(f, b) & apart(f, a);
+    first(four, unless(e_apart, 28, unless(f_apart, 32, 0)))
 }
 
 // ---- structures
 
-// A structure at the offset o says its size in its first four bytes.
-fn end_of(l: &[u8], head: usize, least: u32, o: usize) -> StructEnd
-    ensures { λ r. ⌜ EndAnswer (now (l .entry)) head least o r ⌝ }
+// A structure at the offset o, to which the field at i leads, says its size in its first four bytes.
+fn end_of(l: &[u8], head: usize, least: u32, i: usize, o: usize) -> StructEnd
+    ensures { λ r. ⌜ r ≡ endAt (now (l .entry)) head least i o ⌝ }
 {
     if o < head {
-        return StructEnd::Outside;
+        return StructEnd::Outside(i);
     }
     let c = Cursor { at: o };
     let Took::Number(size, _) = c.take_u32(l) else {
-        return StructEnd::Outside;
+        return StructEnd::Outside(i);
     };
     let Skipped::To(next) = c.skip(l, size as usize) else {
-        return StructEnd::Outside;
+        return StructEnd::Outside(i);
     };
     if size < least {
-        return StructEnd::Outside;
+        return StructEnd::Outside(o);
     }
     StructEnd::At(next.at)
 }
@@ -215,38 +223,37 @@ fn label_least(unicode: bool) -> usize
     if unicode { 0x14 } else { 0x10 }
 }
 
-// The offset of the label of VolumeID v.
-fn label_offset(v: &[u8], unicode: bool) -> usize
-    requires { ⌜ (0x10 ≤ length (now v)) × (unicode ≡ true → 0x14 ≤ length (now v)) ⌝ }
-    ensures { λ r. ⌜ r ≡ labelAt (now (v .entry)) unicode ⌝ }
+// Where the offset field of the label stands.
+fn label_field(unicode: bool) -> usize
+    ensures { λ r. ⌜ r ≡ cond unicode 16 12 ⌝ }
 {
-    if unicode {
-        octets::u32_at(v, 16) as usize
-    } else {
-        octets::u32_at(v, 12) as usize
-    }
+    if unicode { 16 } else { 12 }
 }
 
 // VolumeID from its own part of the file, which starts at the place at.
 fn volume_in(v: &[u8], at: usize) -> VolumeRead
     requires { ⌜ (0x11 ≤ length (now v)) × (at + length (now v) ≤ 65536) ⌝ }
-    ensures { λ r. ⌜ VolumeAnswer at (now (v .entry)) r ⌝ }
+    ensures { λ r. ⌜ r ≡ volumeIn at (now (v .entry)) ⌝ }
 {
     let drive = octets::u32_at(v, 4);
-    let unicode = octets::u32_at(v, 12) == 0x14;
-    if (6 < drive) | !uncut(unicode, 0x14, v) {
-        return VolumeRead::Bad;
+    if 6 < drive {
+        return VolumeRead::Bad(4);
     }
+    let unicode = octets::u32_at(v, 12) == 0x14;
+    if !uncut(unicode, 0x14, v) {
+        return VolumeRead::Bad(16);
+    }
+    let i = label_field(unicode);
     let t = text_at(
         true,
         unicode,
         v,
         at,
         label_least(unicode),
-        label_offset(v, unicode),
+        octets::u32_at(v, i) as usize,
     );
     if !t.ok {
-        return VolumeRead::Bad;
+        return VolumeRead::Bad(i);
     }
     let b = t.body;
     VolumeRead::Good(Volume {
@@ -257,35 +264,38 @@ fn volume_in(v: &[u8], at: usize) -> VolumeRead
 }
 
 // Zeros for a VolumeID that is absent or fails.
-fn no_volume(ok: bool) -> VolumeFound
-    ensures { λ r. ⌜ r ≡ makeVolume ok noPlace noVolume ⌝ }
+fn no_volume(wrong: usize) -> VolumeFound
+    ensures { λ r. ⌜ r ≡ makeVolume wrong noPlace noVolume ⌝ }
 {
     VolumeFound {
-        ok,
+        wrong,
         span: format::NO_PLACE,
         volume: format::NO_VOLUME,
     }
 }
 
-// VolumeID at the offset o of LinkInfo l, which starts at start in the file.
-fn volume(present: bool, l: &[u8], start: usize, head: usize, o: usize) -> VolumeFound
-    requires { ⌜ start + length (now l) ≤ 65536 ⌝ }
-    ensures { λ r. ⌜ (r ≡ volumeFound present (now (l .entry)) start head o) × EndSmall (r .span) ⌝ }
+// VolumeID, to which the field at 12 of LinkInfo l leads; l starts at start in the file.
+fn volume(present: bool, l: &[u8], start: usize, head: usize) -> VolumeFound
+    requires { ⌜ (0x1C ≤ length (now l)) × (start + length (now l) ≤ 65536) ⌝ }
+    ensures { λ r. ⌜ (r ≡ volumeFound present (now (l .entry)) start head) × EndSmall (r .span) ⌝ }
 {
     if !present {
-        return no_volume(true);
+        return no_volume(0);
     }
-    let StructEnd::At(e) = end_of(l, head, 0x11, o) else {
-        return no_volume(false);
-    };
-    let v = &l[o..e];
-    let VolumeRead::Good(volume) = volume_in(v, start + o) else {
-        return no_volume(false);
-    };
-    VolumeFound {
-        ok: true,
-        span: Place { at: o, len: e - o },
-        volume,
+    let o = octets::u32_at(l, 12) as usize;
+    match end_of(l, head, 0x11, 12, o) {
+        StructEnd::Outside(wrong) => no_volume(wrong),
+        StructEnd::At(e) => {
+            let v = &l[o..e];
+            match volume_in(v, start + o) {
+                VolumeRead::Bad(wrong) => no_volume(o + wrong),
+                VolumeRead::Good(volume) => VolumeFound {
+                    wrong: 0,
+                    span: Place { at: o, len: e - o },
+                    volume,
+                },
+            }
+        }
     }
 }
 
@@ -297,38 +307,50 @@ fn network_head(unicode: bool) -> usize
     if unicode { 0x1C } else { 0x14 }
 }
 
-// The tests of its head, which come before those of its strings.
-fn network_head_ok(v: &[u8]) -> bool
+// The first field of its head that breaks a rule, or 0; these tests come before those of its strings.
+fn network_head_wrong(v: &[u8]) -> usize
     requires { ⌜ 0x14 ≤ length (now v) ⌝ }
-    ensures { λ r. ⌜ r ≡ all (networkHeadTests (now (v .entry))) ⌝ }
+    ensures { λ r. ⌜ r ≡ wrong (networkHeadTests (now (v .entry))) ⌝ }
 {
     let flags = octets::u32_at(v, 4);
     let name = octets::u32_at(v, 8);
     let unicode = 0x14 < name;
-    if !((flags <= 3) & (0x14 <= name) & uncut(unicode, 0x18, v) & uncut(unicode, 0x1C, v)) {
-        return false;
+    if 3 < flags {
+        return 4;
     }
-    let device = format::device_there(flags);
-    absent_zero(device, octets::u32_at(v, 12) as usize) & absent_zero(device, field(unicode, v, 24))
+    if name < 0x14 {
+        return 8;
+    }
+    if !uncut(unicode, 0x18, v) {
+        return 20;
+    }
+    if !uncut(unicode, 0x1C, v) {
+        return 24;
+    }
+    let there = format::device_there(flags);
+    let device = absent_zero(there, octets::u32_at(v, 12) as usize);
+    let device_unicode = absent_zero(there, field(unicode, v, 24));
+    unless(device, 12, unless(device_unicode, 24, 0))
 }
 
-fn network_if(ok: bool, n: Network) -> NetworkRead
-    ensures { λ r. ⌜ PieceAnswers networkNumber ok (networkIf ok n) r ⌝ }
+fn network_if(wrong: usize, n: Network) -> NetworkRead
+    ensures { λ r. ⌜ r ≡ networkIf wrong n ⌝ }
 {
-    if ok {
+    if wrong == 0 {
         NetworkRead::Good(n)
     } else {
-        NetworkRead::Bad
+        NetworkRead::Bad(wrong)
     }
 }
 
 // The network link from its own part of the file, which starts at the place at.
 fn network_in(v: &[u8], at: usize) -> NetworkRead
     requires { ⌜ (0x14 ≤ length (now v)) × (at + length (now v) ≤ 65536) ⌝ }
-    ensures { λ r. ⌜ NetworkAnswer at (now (v .entry)) r ⌝ }
+    ensures { λ r. ⌜ r ≡ networkIn at (now (v .entry)) ⌝ }
 {
-    if !network_head_ok(v) {
-        return NetworkRead::Bad;
+    let wrong = network_head_wrong(v);
+    if wrong != 0 {
+        return NetworkRead::Bad(wrong);
     }
     let flags = octets::u32_at(v, 4);
     let name = octets::u32_at(v, 8) as usize;
@@ -340,14 +362,19 @@ fn network_in(v: &[u8], at: usize) -> NetworkRead
     let b = text_at(device, false, v, at, head, octets::u32_at(v, 12) as usize);
     let c = text_at(unicode, true, v, at, head, field(unicode, v, 20));
     let d = text_at(both, true, v, at, head, field(unicode, v, 24));
-    let ok = a.ok & b.ok & c.ok & d.ok & apart_four(a.span, b.span, c.span, d.span);
+    let far = apart_four(12, a.span, b.span, c.span, d.span);
+    let wrong = unless(
+        a.ok,
+        8,
+        unless(b.ok, 12, unless(c.ok, 20, unless(d.ok, 24, far))),
+    );
     let provider = format::number_if(format::provider_there(flags), octets::u32_at(v, 16));
     let net = a.body;
     let device = b.body;
     let net_unicode = c.body;
     let device_unicode = d.body;
     network_if(
-        ok,
+        wrong,
         Network {
             flags,
             provider,
@@ -361,83 +388,89 @@ fn network_in(v: &[u8], at: usize) -> NetworkRead
 }
 
 // Zeros for a network link that is absent or fails.
-fn no_network(ok: bool) -> NetworkFound
-    ensures { λ r. ⌜ r ≡ makeNetwork ok noPlace noNetwork ⌝ }
+fn no_network(wrong: usize) -> NetworkFound
+    ensures { λ r. ⌜ r ≡ makeNetwork wrong noPlace noNetwork ⌝ }
 {
     NetworkFound {
-        ok,
+        wrong,
         span: format::NO_PLACE,
         network: format::NO_NETWORK,
     }
 }
 
-// The network link at the offset o of LinkInfo l, which starts at start in the file.
-fn network(present: bool, l: &[u8], start: usize, head: usize, o: usize) -> NetworkFound
-    requires { ⌜ start + length (now l) ≤ 65536 ⌝ }
-    ensures { λ r. ⌜ (r ≡ networkFound present (now (l .entry)) start head o) × EndSmall (r .span) ⌝ }
+// The network link, to which the field at 20 of LinkInfo l leads; l starts at start in the file.
+fn network(present: bool, l: &[u8], start: usize, head: usize) -> NetworkFound
+    requires { ⌜ (0x1C ≤ length (now l)) × (start + length (now l) ≤ 65536) ⌝ }
+    ensures { λ r. ⌜ (r ≡ networkFound present (now (l .entry)) start head) × EndSmall (r .span) ⌝ }
 {
     if !present {
-        return no_network(true);
+        return no_network(0);
     }
-    let StructEnd::At(e) = end_of(l, head, 0x14, o) else {
-        return no_network(false);
-    };
-    let v = &l[o..e];
-    let NetworkRead::Good(network) = network_in(v, start + o) else {
-        return no_network(false);
-    };
-    NetworkFound {
-        ok: true,
-        span: Place { at: o, len: e - o },
-        network,
+    let o = octets::u32_at(l, 20) as usize;
+    match end_of(l, head, 0x14, 20, o) {
+        StructEnd::Outside(wrong) => no_network(wrong),
+        StructEnd::At(e) => {
+            let v = &l[o..e];
+            match network_in(v, start + o) {
+                NetworkRead::Bad(wrong) => no_network(o + wrong),
+                NetworkRead::Good(network) => NetworkFound {
+                    wrong: 0,
+                    span: Place { at: o, len: e - o },
+                    network,
+                },
+            }
+        }
     }
 }
 
 // ---- LinkInfo
 
-// The tests of its fixed head, which come before those of its pieces.
-fn info_head_ok(l: &[u8]) -> bool
+// The first field of its fixed head that breaks a rule, or 0; these tests come before those of its pieces.
+fn info_head_wrong(l: &[u8]) -> usize
     requires { ⌜ 0x1C ≤ length (now l) ⌝ }
-    ensures { λ r. ⌜ r ≡ all (infoHeadTests (now (l .entry))) ⌝ }
+    ensures { λ r. ⌜ r ≡ wrong (infoHeadTests (now (l .entry))) ⌝ }
 {
     let head = octets::u32_at(l, 4) as usize;
     let long = 0x24 <= head;
     if !((head == 0x1C) | (long & (head <= l.len()))) {
-        return false;
+        return 4;
     }
     let flags = octets::u32_at(l, 8);
-    let local = format::local_there(flags);
-    (flags <= 3)
-        & absent_zero(local, octets::u32_at(l, 12) as usize)
-        & absent_zero(local, octets::u32_at(l, 16) as usize)
-        & absent_zero(format::network_there(flags), octets::u32_at(l, 20) as usize)
-        & absent_zero(local, field(long, l, 28))
+    if 3 < flags {
+        return 8;
+    }
+    let there = format::local_there(flags);
+    if !absent_zero(there, octets::u32_at(l, 12) as usize) {
+        return 12;
+    }
+    if !absent_zero(there, octets::u32_at(l, 16) as usize) {
+        return 16;
+    }
+    if !absent_zero(format::network_there(flags), octets::u32_at(l, 20) as usize) {
+        return 20;
+    }
+    unless(absent_zero(there, field(long, l, 28)), 28, 0)
 }
 
 // What the offsets of LinkInfo l lead to; l starts at start in the file.
 fn info_pieces(l: &[u8], start: usize) -> Pieces
-    requires { ⌜ (0x1C ≤ length (now l)) × (start + length (now l) ≤ 65536) × (all (infoHeadTests (now l)) ≡ true) ⌝ }
+    requires { ⌜ (0x1C ≤ length (now l)) × (start + length (now l) ≤ 65536) × (wrong (infoHeadTests (now l)) ≡ 0) ⌝ }
     ensures { λ r. ⌜ r ≡ piecesFound start (now (l .entry)) ⌝ }
 {
     let head = octets::u32_at(l, 4) as usize;
     let flags = octets::u32_at(l, 8);
-    let local = format::local_there(flags);
+    let there = format::local_there(flags);
     let long = 0x24 <= head;
     let both = format::local_unicode_there(long, flags);
-    let a = volume(local, l, start, head, octets::u32_at(l, 12) as usize);
-    let b = text_at(local, false, l, start, head, octets::u32_at(l, 16) as usize);
-    let c = network(
-        format::network_there(flags),
-        l,
-        start,
-        head,
-        octets::u32_at(l, 20) as usize,
-    );
+    let a = volume(there, l, start, head);
+    let b = text_at(there, false, l, start, head, octets::u32_at(l, 16) as usize);
+    let c = network(format::network_there(flags), l, start, head);
     let d = text_at(true, false, l, start, head, octets::u32_at(l, 24) as usize);
     let e = text_at(both, true, l, start, head, field(long, l, 28));
     let f = text_at(long, true, l, start, head, field(long, l, 32));
-    let whole = a.ok & b.ok & c.ok & d.ok & e.ok & f.ok;
     let far = apart_six(a.span, b.span, c.span, d.span, e.span, f.span);
+    let later = unless(d.ok, 24, unless(e.ok, 28, unless(f.ok, 32, far)));
+    let wrong = first(a.wrong, unless(b.ok, 16, first(c.wrong, later)));
     let volume = a.volume;
     let local = b.body;
     let network = c.network;
@@ -445,7 +478,7 @@ fn info_pieces(l: &[u8], start: usize) -> Pieces
     let local_unicode = e.body;
     let suffix_unicode = f.body;
     Pieces {
-        ok: whole & far,
+        wrong,
         info: Info {
             flags,
             long,
@@ -464,24 +497,25 @@ pub fn info(s: &[u8], c: Cursor) -> InfoTaken
     requires { ⌜ length (now s) ≤ 65536 ⌝ }
     ensures { λ r. ⌜ InfoAnswer (now (s .entry)) (c .at) r ⌝ }
 {
+    let at = c.at;
     let Took::Number(size, _) = c.take_u32(s) else {
-        return InfoTaken::Refused(Fault::Cut, c.at);
+        return InfoTaken::Refused(Fault::Cut, spot_at(2, at, 0));
     };
     if size < 0x1C {
-        return InfoTaken::Refused(Fault::Info, c.at);
+        return InfoTaken::Refused(Fault::Info, spot_at(2, at, 0));
     }
     let Skipped::To(next) = c.skip(s, size as usize) else {
-        return InfoTaken::Refused(Fault::Cut, c.at);
+        return InfoTaken::Refused(Fault::Cut, spot_at(2, at, 0));
     };
-    let at = c.at;
     let end = next.at;
     let l = &s[at..end];
-    if !info_head_ok(l) {
-        return InfoTaken::Refused(Fault::Info, at);
+    let wrong = info_head_wrong(l);
+    if wrong != 0 {
+        return InfoTaken::Refused(Fault::Info, spot_at(2, at, wrong));
     }
     let f = info_pieces(l, at);
-    if !f.ok {
-        return InfoTaken::Refused(Fault::Piece, at);
+    if f.wrong != 0 {
+        return InfoTaken::Refused(Fault::Piece, spot_at(2, at, f.wrong));
     }
     let i = f.info;
     InfoTaken::Got(i, next)

@@ -27,7 +27,7 @@ use Rattle.format.specs.declared.Fault.{Fault}
 use Rattle.format.specs.declared.Fault.the-variants.{Room as ROOM}
 use Rattle.format.specs.declared.Verdict.{Verdict}
 use Rattle.format.specs.declared.Verdict.the-variants.{Accepted, Refused}
-use Rattle.format.specs.Tests.{got, refused, _else_, tests, oneOr0, place, noPlace}
+use Rattle.format.specs.Tests.{nowhere, got, refused, oneOr0, place, noPlace}
 use Rattle.format.specs.Numbers.{Numbered}
 use Rattle.format.specs.Presence.{workdirBit, argumentsBit, stringThere, stringsUnicode}
 use Rattle.format.specs.Blocks.{blocks}
@@ -316,14 +316,14 @@ module _ (s out : List ℕ) {g : Reading} (e : g ≡ reading s) where
   -- leaving with the refusal
   pub key-left : {f : Fault} {p : ℕ} → g .verdict ≡ Refused f p → KeyCall s out (g .verdict) out
   unfolding keyAnswer keyOutput key outputOf
-  key-left q = let i = refused-read s (ap (λ (x : Reading). x .verdict) (sym e) ∙ q) in key-call s out (q ∙ rw i) (rw i)
+  key-left q = let i = refused-read s (ap (λ (x : Reading). x .verdict) (sym e) ∙ q) in key-call s out (q ∙ rw (i .is, i .told)) (rw (i .is))
 
   module _ {n : ℕ} (q : g .verdict ≡ Accepted n) where
     pub accepts : Accepts s (g .held)
     accepts = accepted-whole s (g .held) n (accepted-held s e q)
 
     -- the key of what was read
-    key-is : key s (length out) ≡ tests 0 (leb (length (keyBytes (keyIn s))) (length out) else ROOM ∷ []) (got (keyBytes (keyIn s)) (length (keyBytes (keyIn s))))
+    key-is : key s (length out) ≡ cond (leb (length (keyBytes (keyIn s))) (length out)) (got (keyBytes (keyIn s)) (length (keyBytes (keyIn s)))) (refused ROOM nowhere)
     unfolding key keyIn Accepts
     key-is = let x = accepted-read s (g .held) (length s) accepts in rw (x .is)
 
@@ -333,7 +333,7 @@ module _ (s out : List ℕ) {g : Reading} (e : g ≡ reading s) where
 
       pub key-room : length out < m → KeyCall s out (Refused ROOM 0) out
       unfolding keyAnswer keyOutput outputOf
-      key-room o = let z : key s (length out) ≡ refused ROOM 0 = key-is ∙ rw (long, lt-leb m (length out) o) in key-call s out (rw z) (rw z)
+      key-room o = let z : key s (length out) ≡ refused ROOM nowhere = key-is ∙ rw (long, lt-leb m (length out) o) in key-call s out (rw z) (rw z)
 
       pub key-written : {x : List ℕ} {r : ℕ} → m ≤ length out → Wrote out 0 (keyBytes (keyShown s k)) (keyLength k) x r → KeyCall s out (Accepted r) x
       unfolding keyAnswer keyOutput outputOf

@@ -6,12 +6,12 @@ use native.Mathlib.Omega.{arith}
 use lib.ListN.{length, drop, length-drop}
 use lib.Seq.{drop-drop}
 use Rattle.format.specs.declared.Fault.{Fault}
-use Rattle.format.specs.Tests.{got, refused}
+use Rattle.format.specs.Tests.{got, refused, spotAt}
 use Rattle.format.specs.Blocks.{blockSize, aTerminal, blockStep}
 use Rattle.format.specs.Listing.{blockRows}
 use Rattle.format.proofs.Chains.{got-elim, no-value}
 use Rattle.format.proofs.BlockLaws.{none-left, step-elim}
-use Rattle.blocks.specs.Steps.Walk.{Sized}
+use Rattle.blocks.specs.Steps.Walk.{Sized, stepSite}
 use Rattle.blocks.proofs.WalkLaws.{walk-ended, walk-refused}
 use Rattle.lines.specs.declared.Window.{Window}
 use Rattle.lines.specs.Text.{nameText, lineOf, rowLine, rowLines}
@@ -22,7 +22,7 @@ module _ (s : List ℕ) (p : ℕ) (d : List ℕ) (w : Window) {x : List ℕ} {r 
   pub blocks-outside : length s < p → BlocksShowed s p d w x r
   blocks-outside h ls n e = no-value (sym (none-left p (drop p s) (omega (arith, length-drop p s))) ∙ e)
 
-  pub blocks-refused : {f : Fault} → ((q : ℕ) → blockStep q (drop p s) ≡ refused f q) → BlocksShowed s p d w x r
+  pub blocks-refused : {f : Fault} → ((q : ℕ) → blockStep q (drop p s) ≡ refused f (spotAt (stepSite q (length (drop p s))) 0)) → BlocksShowed s p d w x r
   blocks-refused h ls n e = no-value (sym (walk-refused (drop p s) p (h p)) ∙ e)
 
   pub blocks-ended : ((q : ℕ) → blockStep q (drop p s) ≡ got aTerminal 4) → Showed d w (lineOf (nameText 9) p 4) x r → BlocksShowed s p d w x r

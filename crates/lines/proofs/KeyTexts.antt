@@ -13,6 +13,7 @@ use Rattle.octets.specs.Parts.{put}
 use Rattle.octets.specs.Steps.Puts.{part}
 use Rattle.octets.proofs.PartLaws.{part-in, length-put}
 use Rattle.format.specs.declared.Fault.{Fault}
+use Rattle.format.specs.declared.Spot.{Spot}
 use Rattle.format.specs.declared.Fault.the-variants.{Room as ROOM}
 use Rattle.format.specs.declared.Verdict.{Verdict}
 use Rattle.format.specs.declared.Verdict.the-variants.{Accepted, Refused}
@@ -37,7 +38,7 @@ unfolding reading
 got-accepts s c n i = accepted-whole s (recordOf c) n (rw i)
 
 module _ (s out : List ℕ) (bs : Bytes s) (room : length out ≡ most) {v : Verdict} (e : v ≡ keyAnswer s out) where
-  stopped : {f : Fault} {p : ℕ} → shortcut s ≡ refused f p → keyAnswer s out ≡ Refused f p
+  stopped : {f : Fault} {p : Spot} → shortcut s ≡ refused f p → keyAnswer s out ≡ Refused f (p .position)
   unfolding keyAnswer key
   stopped i = rw i
 
@@ -81,4 +82,4 @@ module _ (s out : List ℕ) (bs : Bytes s) (room : length out ≡ most) {v : Ver
           let w = keyBytes (keyOf s c) in
           let z : part x 0 n ≡ w = rw (h, P .content, P .long) (part-put out w (P .fits)) in
           ap (λ (l : List ℕ). hexOf l ++ lineFeed) z
-      go (refused f p) i = let x : Accepted n ≡ Refused f p = sym k ∙ e ∙ stopped i in let z : _≡_ {A = ℕ} 0 1 = cc in absurd (omega arith)
+      go (refused f p) i = let x : Accepted n ≡ Refused f (p .position) = sym k ∙ e ∙ stopped i in let z : _≡_ {A = ℕ} 0 1 = cc in absurd (omega arith)

@@ -142,7 +142,7 @@ unfolding keyText
 length-key-line s bs = go (shortcut s) refl
   where
     go : (o : Outcome Sections) → shortcut s ≡ o → length (keyLine s o) < 3 * 65536
-    go (refused f p) i = omega (arith, length-verdict (Refused f p))
+    go (refused f p) i = omega (arith, length-verdict (Refused f (p .position)))
     go (got c n) i =
         let w = keyBytes (keyOf s c) in
         let k : length w ≤ length s = rw (got-key s c n i) at (key-short s (recordOf c) bs (got-accepts s c n i)) in

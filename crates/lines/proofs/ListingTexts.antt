@@ -80,4 +80,4 @@ module _ (s : List ℕ) {o : Outline} {g : Reading} (e : OutlineAnswer s o) (q :
   refused-listing v =
       let r = outline-read s e q in
       let i = refused-read s (ap (λ (z : Reading). z .verdict) (sym r) ∙ v) in
-      rw (r, i) (sym (append-nil (verdictLine (reading s .verdict))))
+      rw (r, i .is) (sym (append-nil (verdictLine (reading s .verdict))))

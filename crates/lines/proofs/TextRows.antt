@@ -6,8 +6,8 @@ use Rattle.octets.specs.Numbers.{number, numberAt, little}
 use Rattle.octets.specs.Characters.{units, beforeZero}
 use Rattle.format.specs.Numbers.{numberOf}
 use Rattle.format.specs.Header.{identifierOk, signed}
-use Rattle.format.specs.Items.{walk}
-use Rattle.format.specs.Blocks.{slotOf, sizeFits, insideFits, blocksFrom}
+use Rattle.format.specs.Items.{itemTests}
+use Rattle.format.specs.Blocks.{slotOf, sizeFits, insideTests, blocksFrom}
 use Rattle.format.specs.Shortcut.{sections, shortcut, reading}
 use Rattle.format.specs.Key.{keyOf, keyBytes}
 use Rattle.format.specs.Listing.{listing}
@@ -21,5 +21,5 @@ pub text-rows : listingText Z ∷ listingText [] ∷ keyText Z ∷ keyText [] �
     ∷ (replicate 42 0x30 ++ 0x0A ∷ [])
     ∷ (0x72 ∷ 0x65 ∷ 0x66 ∷ 0x75 ∷ 0x73 ∷ 0x65 ∷ 0x64 ∷ 0x20 ∷ 0x32 ∷ 0x20 ∷ 0x30 ∷ 0x0A ∷ [])
     ∷ []
-unfolding number numberAt little units beforeZero numberOf identifierOk signed walk slotOf sizeFits insideFits blocksFrom sections shortcut reading keyOf keyBytes listing nameText decimal hexDigit hexOf lineOf rowLine rowLines verdictLine listingText keyText
+unfolding number numberAt little units beforeZero numberOf identifierOk signed itemTests slotOf sizeFits insideTests blocksFrom sections shortcut reading keyOf keyBytes listing nameText decimal hexDigit hexOf lineOf rowLine rowLines verdictLine listingText keyText
 text-rows = refl

@@ -90,7 +90,7 @@ listingText s = verdictLine (reading s .verdict) ++ rowLines (listing s)
 -- the key in hex, or the line of the refusal
 abbrev pub keyLine : List ℕ → Outcome Sections → List ℕ
 keyLine s (got c n) = hexOf (keyBytes (keyOf s c)) ++ lineFeed
-keyLine s (refused f p) = verdictLine (Refused f p)
+keyLine s (refused f p) = verdictLine (Refused f (p .position))
 
 unfoldable pub keyText : List ℕ → List ℕ
 keyText s = keyLine s (shortcut s)

@@ -5,6 +5,7 @@ use Rattle.reader.proofs.outline_of as outline-of
 use Rattle.reader.proofs.finish as finish
 use Rattle.reader.proofs.read as read
 use Rattle.reader.proofs.check as check
+use Rattle.reader.proofs.fault as fault
 
 pub outline-of-one-outcome : OneAnswer outline-of.ended outline-of.Reads.Post
 outline-of-one-outcome κs a r q s t p o = p .is ∙ sym (o .is)
@@ -17,3 +18,6 @@ read-one-outcome κs a r q s t p o = p .0 ∙ sym (o .0)
 
 pub check-one-outcome : OneAnswer check.ended check.Reads.Post
 check-one-outcome κs a r q s t p o = p .0 ∙ sym (o .0)
+
+pub fault-one-outcome : OneAnswer fault.ended fault.Reads.Post
+fault-one-outcome κs a r q s t p o = p ∙ sym o

@@ -2,29 +2,32 @@
 use mathlib.Core.Path.{_≡_, refl, sym, ap, _∙_}
 use mathlib.Core.List.{List, [], _∷_}
 use mathlib.Core.Bool.{Bool, true, false, cond}
-use Prim.Native.Nat.{ℕ, _+_, _≤_, _<_}
+use Prim.Native.Nat.{ℕ, _+_, _≤_, _<_, _-_}
 use native.Mathlib.Omega.{arith}
 use lib.ListN.{length, take, drop}
 use lib.Dec.{leb, eqb}
 use borrow.Author.Tests.{le-leb, lt-leb, leb-true, leb-false, eq-eqb, ne-eqb}
 use Rattle.octets.specs.declared.Cursor.{Cursor}
 use Rattle.format.specs.declared.Fault.{Fault}
+use Rattle.format.specs.declared.Spot.{Spot}
 use Rattle.format.specs.declared.Fault.the-variants.{Long as LONG, Cut as CUT, Trail as TRAIL}
 use Rattle.format.specs.declared.Header.{Header}
 use Rattle.format.specs.declared.Record.{Record}
+use Rattle.format.specs.declared.Faulted.{Faulted}
 use Rattle.format.specs.declared.Reading.{Reading}
 use Rattle.format.specs.declared.Place.{Place}
 use Rattle.format.specs.declared.Info.{Info}
 use Rattle.format.specs.declared.Verdict.{Verdict}
 use Rattle.format.specs.declared.Verdict.the-variants.{Accepted, Refused as Stopped}
-use Rattle.format.specs.Tests.{Outcome, got, refused, Test, _else_, tests, place}
+use Rattle.format.specs.Tests.{section, noSection, spotAt, Outcome, got, refused, Test, _else_at_, tests, andThen, place}
 use Rattle.format.specs.Presence.{itemsThere, infoThere, nameBit, relativeBit, workdirBit, argumentsBit, iconBit, stringThere, stringsUnicode}
 use Rattle.format.specs.Header.{headerRules, headerFields, header}
 use Rattle.format.specs.Numbers.{answerNumber, answerValue, outcomeNumber, Numbered}
 use Rattle.format.specs.Steps.Firsts.{firsts}
 use Rattle.format.specs.Steps.Answers.{outcomeEnd}
-use Rattle.format.specs.Shortcut.{Section, Tail, Sections, most, tail, sections, shortcut, recordOf, reading, sum}
-use Rattle.format.proofs.Chains.{tests-elim, got-elim}
+use Rattle.format.specs.Shortcut.{Section, found, faultedBy, faulted, Tail, Sections, most, tail, sections, shortcut, recordOf, reading, sum}
+use Rattle.format.proofs.Chains.{tests-elim, got-elim, chain-elim}
+use Rattle.format.proofs.PlaceLaws.{found-elim}
 use Rattle.format.proofs.AnswerLaws.{numbered}
 use Rattle.header.specs.Steps.Taken.{headerTaken, headerAt}
 use Rattle.header.specs.declared.HeaderTaken.{HeaderTaken}
@@ -37,22 +40,22 @@ use Rattle.reader.specs.declared.Step.{Step}
 use Rattle.reader.specs.declared.InfoStep.{InfoStep}
 use Rattle.reader.specs.declared.BlocksStep.{BlocksStep}
 use Rattle.reader.specs.Steps.EachSection.{itemsStep, stringStep, infoStep, blocksStep, atOf, endsOf, outlineFrom}
-use Rattle.reader.specs.Steps.Finish.{refusedAt, finished, outlineOff, outlineAfter, outlineOf, FirstsOf, nextNumber, nextValue, toTerminal, OutlineAnswer, FinishAnswer}
+use Rattle.reader.specs.Steps.Finish.{refusedAt, finished, outlineOff, outlineAfter, outlineOf, FirstsOf, nextNumber, nextValue, toTerminal, OutlineAnswer, trailing, faultedTrail, faultAfter, FinishAnswer}
 use Rattle.reader.proofs.Runs.{Reached, Runs, sectionOf, then-from, on-not-off}
 use Rattle.reader.proofs.StepLaws.{items-from, string-from, info-from, BlocksFact, blocks-from}
 
 -- ---- the header
 
 header-tests : List ℕ → List Test
-header-tests s = leb 76 (length s) else CUT ∷ headerRules (take 76 s)
+header-tests s = leb 76 (length s) else CUT at 0 ∷ headerRules (take 76 s)
 
 header-size : (s : List ℕ) (g : Header) (n : ℕ) → header 0 s ≡ got g n → n ≡ 76
 unfolding header-tests
-header-size s g n e = tests-elim (λ g n. n ≡ 76) 0 (header-tests s) (headerFields (take 76 s)) 76 (λ c. refl) g n e
+header-size s g n e = tests-elim (λ g n. n ≡ 76) (section 0 0) (header-tests s) (headerFields (take 76 s)) 76 (λ c. refl) g n e
 
 pub record HeaderRead (s : List ℕ) (h : Header) (c : Cursor) : Type 0 where
   pub is : header 0 s ≡ got h 76
-  pub at : c ≡ record { at = 76 }
+  pub cursor : c ≡ record { at = 76 }
 
 pub header-got : (s : List ℕ) {r : HeaderTaken} {h : Header} {c : Cursor} → r ≡ headerAt s → r ≡ Got h c → HeaderRead s h c
 unfolding headerAt
@@ -63,10 +66,10 @@ header-got s {r} {h} {c} e k = go (header 0 s) refl (sym k ∙ e)
         let a : h ≡ g = cc in
         let b : c ≡ record { at = n } = cc in
         let m : n ≡ 76 = header-size s g n i in
-        record { is = i ∙ rw (a, m); at = b ∙ rw m }
+        record { is = i ∙ rw (a, m); cursor = b ∙ rw m }
     go (refused f p) i q = absurd (let z : _≡_ {A = ℕ} 0 1 = cc in omega arith)
 
-pub header-refused : (s : List ℕ) {r : HeaderTaken} {f : Fault} {q : ℕ} → r ≡ headerAt s → r ≡ Refused f q → header 0 s ≡ refused f q
+pub header-refused : (s : List ℕ) {r : HeaderTaken} {f : Fault} {q : Spot} → r ≡ headerAt s → r ≡ Refused f q → header 0 s ≡ refused f q
 unfolding headerAt
 header-refused s {r} {f} {q} e k = go (header 0 s) refl (sym k ∙ e)
   where
@@ -123,19 +126,19 @@ outline-runs s h =
     let start : Next = On (record { at = 76 }) in
     let items = itemsStep s (itemsThere f) start in
     let info = infoStep s (infoThere f) (items .next) in
-    let name = stringStep s (stringThere nameBit f) u (info .next) in
-    let relative = stringStep s (stringThere relativeBit f) u (name .next) in
-    let workdir = stringStep s (stringThere workdirBit f) u (relative .next) in
-    let arguments = stringStep s (stringThere argumentsBit f) u (workdir .next) in
-    let icon = stringStep s (stringThere iconBit f) u (arguments .next) in
+    let name = stringStep s (stringThere nameBit f) (nameBit + 1) u (info .next) in
+    let relative = stringStep s (stringThere relativeBit f) (relativeBit + 1) u (name .next) in
+    let workdir = stringStep s (stringThere workdirBit f) (workdirBit + 1) u (relative .next) in
+    let arguments = stringStep s (stringThere argumentsBit f) (argumentsBit + 1) u (workdir .next) in
+    let icon = stringStep s (stringThere iconBit f) (iconBit + 1) u (arguments .next) in
     let r =
     (then-from (items-from s (itemsThere f) start)
     (then-from (info-from s (infoThere f) (items .next))
-    (then-from (string-from s (stringThere nameBit f) u (info .next))
-    (then-from (string-from s (stringThere relativeBit f) u (name .next))
-    (then-from (string-from s (stringThere workdirBit f) u (relative .next))
-    (then-from (string-from s (stringThere argumentsBit f) u (workdir .next))
-    (then-from (string-from s (stringThere iconBit f) u (arguments .next)) (blocks-from s (icon .next))))))))) .runs (record { at = 76 }) refl in
+    (then-from (string-from s (stringThere nameBit f) (nameBit + 1) u (info .next))
+    (then-from (string-from s (stringThere relativeBit f) (relativeBit + 1) u (name .next))
+    (then-from (string-from s (stringThere workdirBit f) (workdirBit + 1) u (relative .next))
+    (then-from (string-from s (stringThere argumentsBit f) (argumentsBit + 1) u (workdir .next))
+    (then-from (string-from s (stringThere iconBit f) (iconBit + 1) u (arguments .next)) (blocks-from s (icon .next))))))))) .runs (record { at = 76 }) refl in
     record {
       on = λ c e.
           let x = r .on c e in
@@ -198,7 +201,7 @@ record-held s h v F =
         → record { header = g; items = x₁; info = x₂; name = x₃; relative = x₄; workdir = x₅; arguments = x₆; icon = x₇; blocks = x₈ } ≡ r
     same-record g r a b c d e f i j k = rw (a, b, c, d, e, f, i, j, k)
 
-pub sections-refused : (s : List ℕ) (h : Header) {f : Fault} {q : ℕ} → header 0 s ≡ got h 76 → tail (h .flags) 76 (drop 76 s) ≡ refused f q → sections 0 s ≡ refused f q
+pub sections-refused : (s : List ℕ) (h : Header) {f : Fault} {q : Spot} → header 0 s ≡ got h 76 → tail (h .flags) 76 (drop 76 s) ≡ refused f q → sections 0 s ≡ refused f q
 unfolding sections
 sections-refused s h e k = rw (e, k)
 
@@ -208,16 +211,16 @@ unfolding sections
 sections-got s h e k = rw (e, k)
 
 module _ (s : List ℕ) (small : length s ≤ most) where
-  pub shortcut-refused : {f : Fault} {q : ℕ} → sections 0 s ≡ refused f q → shortcut s ≡ refused f q
+  pub shortcut-refused : {f : Fault} {q : Spot} → sections 0 s ≡ refused f q → shortcut s ≡ refused f q
   unfolding shortcut
   shortcut-refused e = rw (le-leb (length s) most small, e)
 
-  pub shortcut-ends : {c : Sections} {n : ℕ} → sections 0 s ≡ got c n → shortcut s ≡ tests n (eqb n (length s) else TRAIL ∷ []) (got c n)
+  pub shortcut-ends : {c : Sections} {n : ℕ} → sections 0 s ≡ got c n → shortcut s ≡ tests (section 9 (n - 4)) (eqb n (length s) else TRAIL at 4 ∷ []) (got c n)
   unfolding shortcut
   shortcut-ends e = rw (le-leb (length s) most small, e)
 
   -- a refusal as an answer
-  pub refused-reading : {f : Fault} {q : ℕ} → shortcut s ≡ refused f q → refusedAt f q ≡ reading s
+  pub refused-reading : {f : Fault} {q : Spot} → shortcut s ≡ refused f q → refusedAt f (q .position) ≡ reading s
   unfolding reading refusedAt
   refused-reading e = rw e
 
@@ -225,11 +228,11 @@ module _ (s : List ℕ) (small : length s ≤ most) where
   unfolding reading
   accepted-reading e k = rw (e, k)
 
-  pub header-refused-shortcut : {f : Fault} {q : ℕ} → header 0 s ≡ refused f q → shortcut s ≡ refused f q
+  pub header-refused-shortcut : {f : Fault} {q : Spot} → header 0 s ≡ refused f q → shortcut s ≡ refused f q
   unfolding sections
   header-refused-shortcut e = shortcut-refused (rw e)
 
-  pub header-refused-reading : {f : Fault} {q : ℕ} → header 0 s ≡ refused f q → refusedAt f q ≡ reading s
+  pub header-refused-reading : {f : Fault} {q : Spot} → header 0 s ≡ refused f q → refusedAt f (q .position) ≡ reading s
   header-refused-reading e = refused-reading (header-refused-shortcut e)
 
   pub outline-reading : (h : Header) → header 0 s ≡ got h 76
@@ -248,18 +251,19 @@ module _ (s : List ℕ) (small : length s ≤ most) where
           rw k (accepted-reading q (record-held s h (x .value) (x .fact)))
       ended c x false k =
           let n : 76 + x .count ≡ c .at = x .ends in
-          let q : shortcut s ≡ refused TRAIL (c .at) = shortcut-ends (sections-got s h e (x .is)) ∙ rw (n, k) in
-          rw k (refused-reading q)
+          let q : shortcut s ≡ refused TRAIL (spotAt (section 9 (c .at - 4)) 4) = shortcut-ends (sections-got s h e (x .is)) ∙ rw (n, k) in
+          let m : c .at - 4 + 4 ≡ c .at = omega arith in
+          rw k (rw m at (refused-reading q))
 
       go : (t : Next) → outline s h .next ≡ t → finished (length s) t (outline s h .held) ≡ reading s
       go (On c) k = ended c (R .on c k) (eqb (c .at) (length s)) refl
       go (Off f q) k = refused-reading (shortcut-refused (sections-refused s h e (R .off f q k)))
 
-pub long-shortcut : (s : List ℕ) → most < length s → shortcut s ≡ refused LONG 65536
+pub long-shortcut : (s : List ℕ) → most < length s → shortcut s ≡ refused LONG (spotAt noSection most)
 unfolding shortcut
 long-shortcut s h = rw (lt-leb (length s) most h)
 
-pub long-reading : (s : List ℕ) → most < length s → refusedAt LONG 65536 ≡ reading s
+pub long-reading : (s : List ℕ) → most < length s → refusedAt LONG most ≡ reading s
 unfolding reading refusedAt
 long-reading s h = rw (long-shortcut s h)
 
@@ -286,11 +290,11 @@ finishes n (On c) r e = record { is = e; number = rw e (number (eqb (c .at) n));
     by : Bool → Reading
     by b = cond b (record { verdict = Accepted (c .at); held = r }) (refusedAt TRAIL (c .at))
 
-    number : (b : Bool) → answerNumber (by b .verdict) ≡ outcomeNumber (tests (c .at) (b else TRAIL ∷ []) (got (On c) (c .at)))
+    number : (b : Bool) → answerNumber (by b .verdict) ≡ outcomeNumber (cond b (got (On c) (c .at)) (refused TRAIL (trailing c)))
     number true = refl
     number false = refl
 
-    value : (b : Bool) → answerValue (by b .verdict) ≡ outcomeEnd 0 (tests (c .at) (b else TRAIL ∷ []) (got (On c) (c .at)))
+    value : (b : Bool) → answerValue (by b .verdict) ≡ outcomeEnd 0 (cond b (got (On c) (c .at)) (refused TRAIL (trailing c)))
     value true = omega arith
     value false = refl
 finishes n (Off f p) r e = record { is = e; number = rw e; value = rw e }
@@ -312,7 +316,7 @@ module _ (n : ℕ) (t : Next) (r : Record) where
   unfolding finished
   finished-trail e k i = finishes n t r (rw (e, ne-eqb _ _ k) i)
 
-  pub finished-off : {f : Fault} {p : ℕ} {g : Reading} → t ≡ Off f p → g ≡ refusedAt f p → FinishAnswer n t r g
+  pub finished-off : {f : Fault} {p : Spot} {g : Reading} → t ≡ Off f p → g ≡ refusedAt f (p .position) → FinishAnswer n t r g
   unfolding finished
   finished-off e i = finishes n t r (rw e i)
 
@@ -324,15 +328,15 @@ pub outline-is : (s : List ℕ) (h : Header) (c : Cursor) {items name relative w
     → t₂ ≡ infoThere (h .flags)
     → info ≡ infoStep s t₂ (items .next)
     → t₃ ≡ stringThere nameBit (h .flags)
-    → name ≡ stringStep s t₃ u (info .next)
+    → name ≡ stringStep s t₃ 3 u (info .next)
     → t₄ ≡ stringThere relativeBit (h .flags)
-    → relative ≡ stringStep s t₄ u (name .next)
+    → relative ≡ stringStep s t₄ 4 u (name .next)
     → t₅ ≡ stringThere workdirBit (h .flags)
-    → workdir ≡ stringStep s t₅ u (relative .next)
+    → workdir ≡ stringStep s t₅ 5 u (relative .next)
     → t₆ ≡ stringThere argumentsBit (h .flags)
-    → arguments ≡ stringStep s t₆ u (workdir .next)
+    → arguments ≡ stringStep s t₆ 6 u (workdir .next)
     → t₇ ≡ stringThere iconBit (h .flags)
-    → icon ≡ stringStep s t₇ u (arguments .next)
+    → icon ≡ stringStep s t₇ 7 u (arguments .next)
     → blocks ≡ blocksStep s (icon .next)
     → e ≡ endsOf (items .next) (info .next) (name .next) (relative .next) (workdir .next) (arguments .next) (icon .next)
     → record {
@@ -362,8 +366,8 @@ outline-first : (s : List ℕ) (h : Header) (c : Cursor) → outline s h .next �
 outline-first s h c k lengths n e =
     let o : Outline = outline s h in
     let F = ((outline-runs s h) .on c k) .fact .blocks in
-    let at : o .held .blocks .at ≡ o .ends .icon = ap (λ (b : Place). b .at) (F .body) in
-    rw at (got-elim (λ ls n. o .firsts ≡ firsts s (o .ends .icon) ls) (sym (F .is) ∙ (rw at at e)) (F .first))
+    let start : o .held .blocks .at ≡ o .ends .icon = ap (λ (b : Place). b .at) (F .body) in
+    rw start (got-elim (λ ls n. o .firsts ≡ firsts s (o .ends .icon) ls) (sym (F .is) ∙ (rw start at e)) (F .first))
 
 module _ (s : List ℕ) where
   -- the number and the value of the answer: the outline goes on where the sections end
@@ -378,17 +382,17 @@ module _ (s : List ℕ) where
       next h e (Off f q) k = rw (sections-refused s h e (outline-runs s h .off f q k))
 
       after : (t : HeaderTaken) → t ≡ headerAt s → nextOf (sections 0 s) ≡ outlineAfter s t .next
-      after (Got h c) i = let g = header-got s i refl in rw (g .at) (next h (g .is) (outline s h .next) refl)
+      after (Got h c) i = let g = header-got s i refl in rw (g .cursor) (next h (g .is) (outline s h .next) refl)
       after (Refused f p) i = rw (header-refused s i refl)
 
-      go : (b : Bool) → leb (length s) most ≡ b → nextOf (tests most (b else LONG ∷ []) (sections 0 s)) ≡ cond b (outlineAfter s (headerAt s)) (outlineOff LONG 65536) .next
+      go : (b : Bool) → leb (length s) most ≡ b → nextOf (tests noSection (b else LONG at most ∷ []) (sections 0 s)) ≡ cond b (outlineAfter s (headerAt s)) (outlineOff LONG (spotAt noSection most)) .next
       go true k = after (headerAt s) refl
       go false k = refl
 
   outlined : {o : Outline} → o ≡ outlineOf s → OutlineAnswer s o
   outlined e = record { is = e; number = rw (e, ← outline-next) (next-number (toTerminal s)); value = rw (e, ← outline-next) (next-value (toTerminal s)) }
 
-  pub outline-long : {o : Outline} → most < length s → o ≡ outlineOff LONG 65536 → OutlineAnswer s o
+  pub outline-long : {o : Outline} → most < length s → o ≡ outlineOff LONG (spotAt noSection most) → OutlineAnswer s o
   unfolding outlineOf
   outline-long h e = outlined (rw (lt-leb (length s) most h) e)
 
@@ -396,7 +400,7 @@ module _ (s : List ℕ) where
   unfolding outlineOf
   outline-got k e q r = outlined (rw (le-leb (length s) most k, ← e, q) r)
 
-  pub outline-refused : {o : Outline} {t : HeaderTaken} {f : Fault} {q : ℕ} → length s ≤ most → t ≡ headerAt s → t ≡ Refused f q → o ≡ outlineOff f q → OutlineAnswer s o
+  pub outline-refused : {o : Outline} {t : HeaderTaken} {f : Fault} {q : Spot} → length s ≤ most → t ≡ headerAt s → t ≡ Refused f q → o ≡ outlineOff f q → OutlineAnswer s o
   unfolding outlineOf
   outline-refused k e i r = outlined (rw (le-leb (length s) most k, ← e, i) r)
 
@@ -411,11 +415,11 @@ module _ (s : List ℕ) where
       after : length s ≤ most → (t : HeaderTaken) → t ≡ headerAt s → o ≡ outlineAfter s t → r ≡ reading s
       after k (Got h c) i x =
           let g = header-got s i refl in
-          let y : o ≡ outlineFrom s h (record { at = 76 }) = x ∙ ap (outlineFrom s h) (g .at) in
+          let y : o ≡ outlineFrom s h (record { at = 76 }) = x ∙ ap (outlineFrom s h) (g .cursor) in
           q ∙ rw y (outline-reading s k h (g .is))
       after k (Refused f p) i x = q ∙ rw x (header-refused-reading s k (header-refused s i refl))
 
-      go : (b : Bool) → leb (length s) most ≡ b → o ≡ cond b (outlineAfter s (headerAt s)) (outlineOff LONG 65536) → r ≡ reading s
+      go : (b : Bool) → leb (length s) most ≡ b → o ≡ cond b (outlineAfter s (headerAt s)) (outlineOff LONG (spotAt noSection most)) → r ≡ reading s
       go true k x = after (leb-true (length s) most k) (headerAt s) refl x
       go false k x = q ∙ rw x (long-reading s (leb-false (length s) most k))
 
@@ -430,11 +434,11 @@ module _ (s : List ℕ) where
           after : (t : HeaderTaken) → t ≡ headerAt s → o ≡ outlineAfter s t → FirstsOf s (o .held) (o .firsts)
           after (Got h d) i x =
               let g = header-got s i refl in
-              let y : o ≡ outline s h = x ∙ ap (outlineFrom s h) (g .at) in
+              let y : o ≡ outline s h = x ∙ ap (outlineFrom s h) (g .cursor) in
               rw y (outline-first s h c (ap (λ (z : Outline). z .next) (sym y) ∙ k))
           after (Refused f p) i x = absurd (on-not-off k (ap (λ (z : Outline). z .next) x))
 
-          go : (b : Bool) → o ≡ cond b (outlineAfter s (headerAt s)) (outlineOff LONG 65536) → FirstsOf s (o .held) (o .firsts)
+          go : (b : Bool) → o ≡ cond b (outlineAfter s (headerAt s)) (outlineOff LONG (spotAt noSection most)) → FirstsOf s (o .held) (o .firsts)
           go true x = after (headerAt s) refl x
           go false x = absurd (on-not-off k (ap (λ (z : Outline). z .next) x))
 
@@ -445,3 +449,60 @@ module _ (s : List ℕ) where
           whole true y = rw y (noted c k)
           whole false y = absurd (refused-not (ap (λ (z : Reading). z .verdict) (sym y) ∙ v))
       ended (Off f p) k x = absurd (refused-not (ap (λ (z : Reading). z .verdict) (sym x) ∙ v))
+
+-- ---- where the fault stands
+
+-- the header is at least there
+long-enough : (s : List ℕ) (c : Sections) (n : ℕ) → sections 0 s ≡ got c n → 76 ≤ n
+unfolding sections
+long-enough s c n e =
+    chain-elim (found header) (λ (h : Section Header). tail (h .read .flags)) 0 s (λ c n. 76 ≤ n)
+    (λ a k b m i j. let z : 76 ≤ k = found-elim header 0 s (λ a k. 76 ≤ k) (λ h k x. omega (arith, header-size s h k x)) a k i in omega arith)
+    c n e
+
+module _ (s : List ℕ) {o : Outline} (O : OutlineAnswer s o) where
+  next-is : o .next ≡ nextOf (toTerminal s)
+  next-is = ap (λ (x : Outline). x .next) (O .is) ∙ sym (outline-next s)
+
+  fault-is : faulted s ≡ faultAfter (length s) (nextOf (toTerminal s))
+  unfolding faulted faultAfter shortcut
+  fault-is = go (leb (length s) most)
+    where
+      ends : (n : ℕ) (c : Sections) → 76 ≤ n → (b : Bool)
+          → faultedBy (cond b (got c n) (refused TRAIL (spotAt (section 9 (n - 4)) 4))) ≡ cond b (record { verdict = Accepted n; section = 0; start = 0 }) (faultedTrail (record { at = n }))
+      ends n c h true = refl
+      ends n c h false = let m : n - 4 + 4 ≡ n = omega arith in rw m
+
+      after : (r : Outcome Sections) → sections 0 s ≡ r
+          → faultedBy (andThen r (λ c n. tests (section 9 (n - 4)) (eqb n (length s) else TRAIL at 4 ∷ []) (got c n))) ≡ faultAfter (length s) (nextOf r)
+      after (got c n) i = ends n c (long-enough s c n i) (eqb n (length s))
+      after (refused f w) i = refl
+
+      go : (b : Bool) → faultedBy (cond b (andThen (sections 0 s) (λ c n. tests (section 9 (n - 4)) (eqb n (length s) else TRAIL at 4 ∷ []) (got c n))) (refused LONG (spotAt noSection most)))
+          ≡ faultAfter (length s) (nextOf (cond b (sections 0 s) (refused LONG (spotAt noSection most))))
+      go true = after (sections 0 s) refl
+      go false = refl
+
+  pub fault-whole : {c : Cursor} → o .next ≡ On c → c .at ≡ length s → record { verdict = Accepted (c .at); section = 0; start = 0 } ≡ faulted s
+  unfolding faultAfter
+  fault-whole e k = sym (fault-is ∙ ap (faultAfter (length s)) (sym next-is ∙ e) ∙ rw (eq-eqb _ _ k))
+
+  pub fault-trail : {c : Cursor} {g : Faulted} → o .next ≡ On c → (c .at ≡ length s → ⊥) → g ≡ faultedTrail c → g ≡ faulted s
+  unfolding faultAfter
+  fault-trail e k i = i ∙ sym (fault-is ∙ ap (faultAfter (length s)) (sym next-is ∙ e) ∙ rw (ne-eqb _ _ k))
+
+  pub fault-off : {f : Fault} {p : Spot} → o .next ≡ Off f p → record { verdict = Stopped f (p .position); section = p .section; start = p .start } ≡ faulted s
+  unfolding faultAfter
+  fault-off e = sym (fault-is ∙ ap (faultAfter (length s)) (sym next-is ∙ e))
+
+  -- the terminal block stands before the cursor
+  pub on-four : {c : Cursor} → o .next ≡ On c → 4 ≤ c .at
+  on-four {c} e = go (leb (length s) most) (sections 0 s) refl (sym next-is ∙ e)
+    where
+      go : (b : Bool) (r : Outcome Sections) → sections 0 s ≡ r → nextOf (cond b r (refused LONG (spotAt noSection most))) ≡ On c → 4 ≤ c .at
+      go true (got x n) i k =
+          let d : _≡_ {A = Cursor} (record { at = n }) c = cc in
+          let m : n ≡ c .at = ap (λ (y : Cursor). y .at) d in
+          omega (arith, long-enough s x n i)
+      go true (refused f w) i k = absurd (on-not-off k refl)
+      go false r i k = absurd (on-not-off k refl)

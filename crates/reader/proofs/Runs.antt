@@ -9,6 +9,7 @@ use lib.ListN.{drop}
 use lib.Seq.{drop-drop}
 use Rattle.octets.specs.declared.Cursor.{Cursor}
 use Rattle.format.specs.declared.Fault.{Fault}
+use Rattle.format.specs.declared.Spot.{Spot}
 use Rattle.format.specs.Tests.{got, refused, Reader, _then_}
 use Rattle.format.specs.Shortcut.{Section, found, sectionIf, absent}
 use Rattle.reader.specs.declared.Next.{Next}
@@ -26,14 +27,14 @@ pub record Reached {A : Type 0} (s : List ℕ) (P : Reader A) (p e : ℕ) (X : A
 -- the reader P, from p on, led to t
 pub record Runs {A : Type 0} (s : List ℕ) (P : Reader A) (p : ℕ) (t : Next) (X : A → Type 0) : Type 0 where
   pub on : (c : Cursor) → t ≡ On c → Reached s P p (c .at) X
-  pub off : (f : Fault) (q : ℕ) → t ≡ Off f q → P p (drop p s) ≡ refused f q
+  pub off : (f : Fault) (q : Spot) → t ≡ Off f q → P p (drop p s) ≡ refused f q
 
-pub on-not-off : {t : Next} {c : Cursor} {f : Fault} {q : ℕ} → t ≡ On c → t ≡ Off f q → ⊥
+pub on-not-off : {t : Next} {c : Cursor} {f : Fault} {q : Spot} → t ≡ On c → t ≡ Off f q → ⊥
 on-not-off e k = let z : _≡_ {A = ℕ} 0 1 = cc in omega arith
 
 -- one after another: the second starts where the first ended, or passes its refusal on
 module _ {A B : Type 0} {s : List ℕ} {P : Reader A} {Q : Reader B} {p : ℕ} {t u : Next} {X : A → Type 0} {Y : B → Type 0} where
-  pub then-runs : Runs s P p t X → ((c : Cursor) → t ≡ On c → Runs s Q (c .at) u Y) → ((f : Fault) (q : ℕ) → t ≡ Off f q → u ≡ Off f q)
+  pub then-runs : Runs s P p t X → ((c : Cursor) → t ≡ On c → Runs s Q (c .at) u Y) → ((f : Fault) (q : Spot) → t ≡ Off f q → u ≡ Off f q)
       → Runs s (P then Q) p u (λ v. X (v .0) × Y (v .1))
   then-runs F G H = go t refl
     where
@@ -75,13 +76,13 @@ sectionOf false p e a = absent a
 found-got : {A : Type 0} (P : Reader A) (p : ℕ) (s : List ℕ) {a : A} {n : ℕ} → P p s ≡ got a n → found P p s ≡ got (record { there = true; start = p; len = n; read = a }) n
 found-got P p s e = rw e
 
-found-refused : {A : Type 0} (P : Reader A) (p : ℕ) (s : List ℕ) {f : Fault} {q : ℕ} → P p s ≡ refused f q → found P p s ≡ refused f q
+found-refused : {A : Type 0} (P : Reader A) (p : ℕ) (s : List ℕ) {f : Fault} {q : Spot} → P p s ≡ refused f q → found P p s ≡ refused f q
 found-refused P p s e = rw e
 
 -- what is known of a step over a section that is there: it read a and ended at the cursor, or was refused
 pub record Stepped {A : Type 0} (s : List ℕ) (P : Reader A) (p : ℕ) (t : Next) (a : A) : Type 0 where
   pub on : (c : Cursor) → t ≡ On c → (n : ℕ) × (P p (drop p s) ≡ got a n) × (p + n ≡ c .at)
-  pub off : (f : Fault) (q : ℕ) → t ≡ Off f q → P p (drop p s) ≡ refused f q
+  pub off : (f : Fault) (q : Spot) → t ≡ Off f q → P p (drop p s) ≡ refused f q
 
 pub section-runs : {A : Type 0} (s : List ℕ) (P : Reader A) (p : ℕ) (b : Bool) (d a : A) (t : Next)
     → (b ≡ true → Stepped s P p t a) → (b ≡ false → (t ≡ On (record { at = p })) × (a ≡ d))
@@ -117,7 +118,7 @@ found-runs s P p a t F = section-runs s P p true a a t (λ e. F) (λ e. absurd (
 
 pub record From {A : Type 0} (s : List ℕ) (P : Reader A) (t u : Next) (X : A → Type 0) : Type 0 where
   pub runs : (c : Cursor) → t ≡ On c → Runs s P (c .at) u X
-  pub passes : (f : Fault) (q : ℕ) → t ≡ Off f q → u ≡ Off f q
+  pub passes : (f : Fault) (q : Spot) → t ≡ Off f q → u ≡ Off f q
 
 pub then-from : {A B : Type 0} {s : List ℕ} {P : Reader A} {Q : Reader B} {t u v : Next} {X : A → Type 0} {Y : B → Type 0}
     → From s P t u X → From s Q u v Y → From s (P then Q) t v (λ w. X (w .0) × Y (w .1))

@@ -6,6 +6,7 @@ use Prim.Native.Nat.{ℕ, _+_}
 use lib.ListN.{drop}
 use Rattle.octets.specs.declared.Cursor.{Cursor}
 use Rattle.format.specs.declared.Fault.{Fault}
+use Rattle.format.specs.declared.Spot.{Spot}
 use Rattle.format.specs.declared.Place.{Place}
 use Rattle.format.specs.declared.Info.{Info}
 use Rattle.format.specs.Tests.{Outcome, got, refused, place, noPlace, Reader}
@@ -57,7 +58,7 @@ outcome-stepped {A} s P p d a t x y = go (P p (drop p s)) refl x y
 -- a step over a section that is there or not
 section-from : {A : Type 0} (s : List ℕ) (P : Reader A) (b : Bool) (d a : A) (t u : Next)
     → ((c : Cursor) → t ≡ On c → (u ≡ cond b (nextOf (c .at) (P (c .at) (drop (c .at) s))) (On c)) × (a ≡ cond b (heldOf d (P (c .at) (drop (c .at) s))) d))
-    → ((f : Fault) (q : ℕ) → t ≡ Off f q → u ≡ Off f q)
+    → ((f : Fault) (q : Spot) → t ≡ Off f q → u ≡ Off f q)
     → From s (sectionIf b d P) t u (λ c. c ≡ sectionOf b (atOf t) (atOf u) a)
 unfolding atOf
 section-from s P b d a t u F G = record {
@@ -88,12 +89,12 @@ items-from s b t =
     section-from s items b noPlace (itemsStep s b t .held) t (itemsStep s b t .next)
     (λ c e. rw e (place-on b c (items (c .at) (drop (c .at) s)))) (λ f q e. rw e)
 
-pub string-from : (s : List ℕ) (b u : Bool) (t : Next)
-    → From s (sectionIf b noPlace (string u)) t (stringStep s b u t .next) (λ c. c ≡ sectionOf b (atOf t) (atOf (stringStep s b u t .next)) (stringStep s b u t .held))
+pub string-from : (s : List ℕ) (b : Bool) (k : ℕ) (u : Bool) (t : Next)
+    → From s (sectionIf b noPlace (string k u)) t (stringStep s b k u t .next) (λ c. c ≡ sectionOf b (atOf t) (atOf (stringStep s b k u t .next)) (stringStep s b k u t .held))
 unfolding stringStep stringOn stringAt
-string-from s b u t =
-    section-from s (string u) b noPlace (stringStep s b u t .held) t (stringStep s b u t .next)
-    (λ c e. rw e (place-on b c (string u (c .at) (drop (c .at) s)))) (λ f q e. rw e)
+string-from s b k u t =
+    section-from s (string k u) b noPlace (stringStep s b k u t .held) t (stringStep s b k u t .next)
+    (λ c e. rw e (place-on b c (string k u (c .at) (drop (c .at) s)))) (λ f q e. rw e)
 
 -- ---- LinkInfo
 

@@ -1,12 +1,15 @@
 // Reading a shortcut: its sections one after another, by a cursor that goes on or has been refused.
 use format::Fault;
+use format::Faulted;
 use format::Header;
 use format::Info;
 use format::Place;
 use format::Reading;
 use format::Record;
+use format::Spot;
 use format::Taken;
 use format::Verdict;
+use format::spot_at;
 use header::HeaderTaken;
 use info::InfoTaken;
 use octets::Cursor;
@@ -15,16 +18,16 @@ ghost use Prim.Native.Nat.{_≤_};
 ghost use lib.ListN.{length};
 ghost use Rattle.format.specs.Info.{noInfo};
 ghost use Rattle.format.specs.Numbers.{Numbered};
-ghost use Rattle.format.specs.Shortcut.{shortcut, reading};
+ghost use Rattle.format.specs.Shortcut.{shortcut, faulted, reading};
 ghost use Rattle.format.specs.Tests.{noPlace};
 ghost use Rattle.blocks.specs.Steps.Walk.{noFirsts};
 ghost use Rattle.reader.specs.Steps.EachSection.{step, stepInfo, settled, itemsOn, itemsStep, stringOn, stringStep, infoOn, infoStep, stepBlocks, blocksOn, blocksStep, atOf, endsOf, outlineFrom};
-ghost use Rattle.reader.specs.Steps.Finish.{refusedAt, outlineOff, OutlineAnswer, FinishAnswer};
+ghost use Rattle.reader.specs.Steps.Finish.{faultedTrail, refusedAt, outlineOff, OutlineAnswer, FinishAnswer};
 
 // Going on from the cursor, or refused with a fault at a position.
 pub enum Next {
     On(Cursor),
-    Off(Fault, usize),
+    Off(Fault, Spot),
 }
 
 // A section of one body; zeros where it is absent or refused.
@@ -80,7 +83,7 @@ fn settle(t: Taken) -> Step
 }
 
 // A refusal goes through every later step.
-fn off(f: Fault, at: usize) -> Step
+fn off(f: Fault, at: Spot) -> Step
     ensures { λ r. ⌜ r ≡ step (Next.Off f at) noPlace ⌝ }
 {
     Step {
@@ -110,8 +113,8 @@ fn items_step(s: &[u8], present: bool, next: Next) -> Step
     }
 }
 
-fn string_on(s: &[u8], present: bool, unicode: bool, c: Cursor) -> Step
-    ensures { λ r. ⌜ r ≡ stringOn (now (s .entry)) present unicode c ⌝ }
+fn string_on(s: &[u8], present: bool, section: u32, unicode: bool, c: Cursor) -> Step
+    ensures { λ r. ⌜ r ≡ stringOn (now (s .entry)) present section unicode c ⌝ }
 {
     if !present {
         return Step {
@@ -119,19 +122,19 @@ fn string_on(s: &[u8], present: bool, unicode: bool, c: Cursor) -> Step
             held: format::NO_PLACE,
         };
     }
-    settle(single::string(s, c, unicode))
+    settle(single::string(s, c, section, unicode))
 }
 
-fn string_step(s: &[u8], present: bool, unicode: bool, next: Next) -> Step
-    ensures { λ r. ⌜ r ≡ stringStep (now (s .entry)) present unicode next ⌝ }
+fn string_step(s: &[u8], present: bool, section: u32, unicode: bool, next: Next) -> Step
+    ensures { λ r. ⌜ r ≡ stringStep (now (s .entry)) present section unicode next ⌝ }
 {
     match next {
-        Next::On(c) => string_on(s, present, unicode, c),
+        Next::On(c) => string_on(s, present, section, unicode, c),
         Next::Off(f, p) => off(f, p),
     }
 }
 
-fn info_off(f: Fault, at: usize) -> InfoStep
+fn info_off(f: Fault, at: Spot) -> InfoStep
     ensures { λ r. ⌜ r ≡ stepInfo (Next.Off f at) noInfo ⌝ }
 {
     InfoStep {
@@ -169,7 +172,7 @@ fn info_step(s: &[u8], present: bool, next: Next) -> InfoStep
     }
 }
 
-fn blocks_off(f: Fault, at: usize) -> BlocksStep
+fn blocks_off(f: Fault, at: Spot) -> BlocksStep
     ensures { λ r. ⌜ r ≡ stepBlocks (Next.Off f at) noPlace noFirsts ⌝ }
 {
     BlocksStep {
@@ -256,23 +259,23 @@ fn outline_from(s: &[u8], h: Header, c: Cursor) -> Outline
     let Step {
         next: name,
         held: b3,
-    } = string_step(s, format::name_there(f), u, info);
+    } = string_step(s, format::name_there(f), 3, u, info);
     let Step {
         next: relative,
         held: b4,
-    } = string_step(s, format::relative_there(f), u, name);
+    } = string_step(s, format::relative_there(f), 4, u, name);
     let Step {
         next: workdir,
         held: b5,
-    } = string_step(s, format::workdir_there(f), u, relative);
+    } = string_step(s, format::workdir_there(f), 5, u, relative);
     let Step {
         next: arguments,
         held: b6,
-    } = string_step(s, format::arguments_there(f), u, workdir);
+    } = string_step(s, format::arguments_there(f), 6, u, workdir);
     let Step {
         next: icon,
         held: b7,
-    } = string_step(s, format::icon_there(f), u, arguments);
+    } = string_step(s, format::icon_there(f), 7, u, arguments);
     let BlocksStep {
         next,
         held: b8,
@@ -297,7 +300,7 @@ fn outline_from(s: &[u8], h: Header, c: Cursor) -> Outline
 }
 
 // A refusal before any section after the header is looked at.
-fn outline_off(f: Fault, at: usize) -> Outline
+fn outline_off(f: Fault, at: Spot) -> Outline
     ensures { λ r. ⌜ r ≡ outlineOff f at ⌝ }
 {
     Outline {
@@ -321,7 +324,7 @@ pub fn outline_of(s: &[u8]) -> Outline
     ensures { λ r. ⌜ OutlineAnswer (now (s .entry)) r ⌝ }
 {
     if 65536 < s.len() {
-        return outline_off(Fault::Long, 65536);
+        return outline_off(Fault::Long, spot_at(0, 0, 65536));
     }
     match header::header(s) {
         HeaderTaken::Got(h, c) => outline_from(s, h, c),
@@ -353,7 +356,7 @@ pub fn finish(n: usize, next: Next, held: Record) -> Reading
             }
             refused(Fault::Trail, at)
         }
-        Next::Off(f, p) => refused(f, p),
+        Next::Off(f, p) => refused(f, p.position),
     }
 }
 
@@ -375,4 +378,43 @@ pub fn check(s: &[u8]) -> Verdict
 {
     let g = read(s);
     g.verdict
+}
+
+// Bytes after the terminal block, which ends at the cursor.
+fn trailing(c: Cursor) -> Faulted
+    requires { ⌜ 4 ≤ c .at ⌝ }
+    ensures { λ r. ⌜ r ≡ faultedTrail c ⌝ }
+{
+    let at = c.at;
+    Faulted {
+        verdict: Verdict::Refused(Fault::Trail, at),
+        section: 9,
+        start: at - 4,
+    }
+}
+
+// The verdict with the section at fault and where that starts.
+pub fn fault(s: &[u8]) -> Faulted
+    ensures { λ r. ⌜ r ≡ faulted (now (s .entry)) ⌝ }
+{
+    let o = outline_of(s);
+    let next = o.next;
+    match next {
+        Next::On(c) => {
+            let at = c.at;
+            if at == s.len() {
+                return Faulted {
+                    verdict: Verdict::Accepted(at),
+                    section: 0,
+                    start: 0,
+                };
+            }
+            trailing(c)
+        }
+        Next::Off(f, p) => Faulted {
+            verdict: Verdict::Refused(f, p.position),
+            section: p.section,
+            start: p.start,
+        },
+    }
 }

@@ -51,7 +51,7 @@ module _ (s out : List ℕ) {g : Reading} (e : g ≡ reading s) where
   unfolding rewriteAnswer rewriteOutput rewriting outputOf
   rewrite-left {f} {p} q =
       let i = refused-read s (ap (λ (x : Reading). x .verdict) (sym e) ∙ q) in
-      rewrite-call s out (q ∙ rw i) (rw i)
+      rewrite-call s out (q ∙ rw (i .is, i .told)) (rw (i .is))
       (λ r a l.
       let v : Refused f p ≡ Accepted (length s) = sym q ∙ ap (λ (x : Reading). x .verdict) (held-is a) in
       absurd (let z : _≡_ {A = ℕ} 0 1 = cc in omega arith))

@@ -2,3 +2,4 @@ pub mod PositionLaws
 pub mod CodeLaws
 pub mod FieldLaws
 pub mod OneOutcome
+pub mod SpotLaws

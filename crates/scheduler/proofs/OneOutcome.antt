@@ -8,6 +8,7 @@ use Rattle.scheduler.proofs.herringnet_key as herringnet-key
 use Rattle.scheduler.proofs.herringnet_section as herringnet-section
 use Rattle.scheduler.proofs.herringnet_read as herringnet-read
 use Rattle.scheduler.proofs.herringnet_write as herringnet-write
+use Rattle.scheduler.proofs.herringnet_fault as herringnet-fault
 
 pub herringnet-check-one-outcome : OneAnswer herringnet-check.ended herringnet-check.Reads.Post
 herringnet-check-one-outcome κs a r q s t p o = p ∙ sym o
@@ -26,3 +27,6 @@ herringnet-read-one-outcome κs a r q s t p o = (p .0 ∙ sym (o .0), p .1 ∙ s
 
 pub herringnet-write-one-outcome : OneOutcome herringnet-write.ended (λ κs s. now (s .1 .1 .0)) herringnet-write.Reads.Post
 herringnet-write-one-outcome κs a r q s t p o = (p .0 ∙ sym (o .0), p .1 .0 ∙ sym (o .1 .0))
+
+pub herringnet-fault-one-outcome : OneAnswer herringnet-fault.ended herringnet-fault.Reads.Post
+herringnet-fault-one-outcome κs a r q s t p o = p ∙ sym o

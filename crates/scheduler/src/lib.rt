@@ -3,11 +3,11 @@ use format::Verdict;
 ghost use mathlib.Core.Path.{_≡_};
 ghost use Prim.Native.Nat.{_≤_};
 ghost use Rattle.format.specs.Numbers.{answerValue};
-ghost use Rattle.format.specs.Shortcut.{reading};
+ghost use Rattle.format.specs.Shortcut.{faulted, reading};
 ghost use Rattle.format.specs.Target.{targetAnswer, targetOutput};
 ghost use Rattle.format.specs.Key.{keyAnswer, keyOutput};
 ghost use Rattle.format.specs.Listing.{sectionPlace};
-ghost use Rattle.scheduler.specs.Code.{codeOf, sectionCode};
+ghost use Rattle.scheduler.specs.Code.{codeOf, faultCode, sectionCode};
 ghost use Rattle.scheduler.specs.Records.{readCode, readFields, writeCode, writtenFields, EndsOf};
 
 fn code_of(v: Verdict) -> u64
@@ -26,6 +26,19 @@ pub extern "C" fn herringnet_check(s: &[u8]) -> u64
 {
     let v = reader::check(s);
     code_of(v)
+}
+
+#[no_mangle]
+pub extern "C" fn herringnet_fault(s: &[u8]) -> u64
+    ensures { λ r. ⌜ r ≡ faultCode (faulted (now (s .entry))) ⌝ }
+{
+    let g = reader::fault(s);
+    let v = g.verdict;
+    let Verdict::Refused(f, p) = v else {
+        return 0;
+    };
+    let spot = g.start as u64 + 65537 * (g.section as u64);
+    format::number_of(f) as u64 + 256 * (p as u64 + 65537 * spot)
 }
 
 #[no_mangle]

@@ -14,7 +14,8 @@ use Rattle.format.specs.declared.Fault.{Fault}
 use Rattle.format.specs.declared.Fault.the-variants.{Long as LONG, Trail as TRAIL}
 use Rattle.format.specs.declared.Header.{Header}
 use Rattle.format.specs.declared.Place.{Place}
-use Rattle.format.specs.Tests.{Outcome, got, refused, place, noPlace}
+use Rattle.format.specs.declared.Spot.{Spot}
+use Rattle.format.specs.Tests.{section, noSection, spotAt, Outcome, got, refused, place, noPlace}
 use Rattle.format.specs.Presence.{itemsThere, infoThere, nameBit, relativeBit, workdirBit, argumentsBit, iconBit, stringThere}
 use Rattle.format.specs.Header.{header}
 use Rattle.format.specs.Blocks.{blocks}
@@ -77,7 +78,7 @@ the-terminal p (n ∷ ns) = let z : p + n + sum ns ≡ p + (n + sum ns) = omega 
 -- ---- what the outline says of the listing
 
 data Cases (s : List ℕ) (o : Outline) : Type 0 where
-  stopped : (f : Fault) (q : ℕ) → o .next ≡ Off f q → shortcut s ≡ refused f q → Cases s o
+  stopped : (f : Fault) (q : Spot) → o .next ≡ Off f q → shortcut s ≡ refused f q → Cases s o
   went : (h : Header) → length s ≤ most → header 0 s ≡ got h 76 → o ≡ outline s h → Cases s o
 
 cases : (s : List ℕ) (o : Outline) → o ≡ outlineOf s → Cases s o
@@ -85,18 +86,18 @@ unfolding outlineOf outlineOff
 cases s o e = go (leb (length s) most) refl e
   where
     after : length s ≤ most → (t : HeaderTaken) → t ≡ headerAt s → o ≡ outlineAfter s t → Cases s o
-    after k (Got h c) i x = let g = header-got s i refl in went h k (g .is) (x ∙ ap (outlineFrom s h) (g .at))
+    after k (Got h c) i x = let g = header-got s i refl in went h k (g .is) (x ∙ ap (outlineFrom s h) (g .cursor))
     after k (Refused f q) i x = stopped f q (ap (λ (y : Outline). y .next) x) (header-refused-shortcut s k (header-refused s i refl))
 
-    go : (b : Bool) → leb (length s) most ≡ b → o ≡ cond b (outlineAfter s (headerAt s)) (outlineOff LONG 65536) → Cases s o
+    go : (b : Bool) → leb (length s) most ≡ b → o ≡ cond b (outlineAfter s (headerAt s)) (outlineOff LONG (spotAt noSection most)) → Cases s o
     go true k x = after (leb-true (length s) most k) (headerAt s) refl x
-    go false k x = stopped LONG 65536 (ap (λ (y : Outline). y .next) x) (long-shortcut s (leb-false (length s) most k))
+    go false k x = stopped LONG (spotAt noSection most) (ap (λ (y : Outline). y .next) x) (long-shortcut s (leb-false (length s) most k))
 
-refused-listing : (s : List ℕ) {f : Fault} {q : ℕ} → shortcut s ≡ refused f q → listing s ≡ []
+refused-listing : (s : List ℕ) {f : Fault} {q : Spot} → shortcut s ≡ refused f q → listing s ≡ []
 unfolding listing
 refused-listing s e = rw e
 
-pub off-listing : (s : List ℕ) (o : Outline) {f : Fault} {q : ℕ} → o ≡ outlineOf s → o .next ≡ Off f q → listing s ≡ []
+pub off-listing : (s : List ℕ) (o : Outline) {f : Fault} {q : Spot} → o ≡ outlineOf s → o .next ≡ Off f q → listing s ≡ []
 off-listing s o {f} {q} e k = go (cases s o e)
   where
     go : Cases s o → listing s ≡ []
@@ -111,7 +112,7 @@ trail-listing s o c e k d = go (cases s o e)
     go (went h l i x) =
         let r = (outline-runs s h) .on c (ap (λ (y : Outline). y .next) (sym x) ∙ k) in
         let n : 76 + r .count ≡ c .at = r .ends in
-        let z : shortcut s ≡ refused TRAIL (c .at) = shortcut-ends s l (sections-got s h i (r .is)) ∙ rw (n, ne-eqb (c .at) (length s) d) in
+        let z : shortcut s ≡ refused TRAIL (spotAt (section 9 (c .at - 4)) 4) = shortcut-ends s l (sections-got s h i (r .is)) ∙ rw (n, ne-eqb (c .at) (length s) d) in
         refused-listing s z
 
 -- the rows of an accepted shortcut

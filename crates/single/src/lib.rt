@@ -2,6 +2,7 @@
 use format::Fault;
 use format::Place;
 use format::Taken;
+use format::spot_at;
 use octets::Cursor;
 use octets::Skipped;
 use octets::Took;
@@ -19,15 +20,16 @@ fn bytes_of(unicode: bool, count: u32) -> usize
     count as usize
 }
 
-pub fn string(s: &[u8], c: Cursor, unicode: bool) -> Taken
-    ensures { λ r. ⌜ StringAnswer unicode (now (s .entry)) (c .at) r ⌝ }
+// The section is the string's number in the listing.
+pub fn string(s: &[u8], c: Cursor, section: u32, unicode: bool) -> Taken
+    ensures { λ r. ⌜ StringAnswer section unicode (now (s .entry)) (c .at) r ⌝ }
 {
     let Took::Number(count, body) = c.take_u16(s) else {
-        return Taken::Refused(Fault::Cut, c.at);
+        return Taken::Refused(Fault::Cut, spot_at(section, c.at, 0));
     };
     let n = bytes_of(unicode, count);
     let Skipped::To(next) = body.skip(s, n) else {
-        return Taken::Refused(Fault::Cut, c.at);
+        return Taken::Refused(Fault::Cut, spot_at(section, c.at, 0));
     };
     let at = body.at;
     Taken::Got(Place { at, len: n }, next)
@@ -38,16 +40,17 @@ pub fn items(s: &[u8], c: Cursor) -> Taken
     ensures { λ r. ⌜ ItemsAnswer (now (s .entry)) (c .at) r ⌝ }
 {
     let Took::Number(size, body) = c.take_u16(s) else {
-        return Taken::Refused(Fault::Cut, c.at);
+        return Taken::Refused(Fault::Cut, spot_at(1, c.at, 0));
     };
     let n = size as usize;
     let Skipped::To(next) = body.skip(s, n) else {
-        return Taken::Refused(Fault::Cut, c.at);
+        return Taken::Refused(Fault::Cut, spot_at(1, c.at, 0));
     };
     let at = body.at;
     let end = next.at;
-    if !items::item_list(&s[at..end]) {
-        return Taken::Refused(Fault::Items, c.at);
+    let wrong = items::items_wrong(&s[at..end], 2);
+    if wrong != 0 {
+        return Taken::Refused(Fault::Items, spot_at(1, c.at, wrong));
     }
     Taken::Got(Place { at, len: n - 2 }, next)
 }

@@ -18,7 +18,7 @@ use Rattle.format.specs.declared.Fault.{Fault}
 use Rattle.format.specs.declared.Fault.the-variants.{Room as ROOM, NoTarget as NOTARGET}
 use Rattle.format.specs.declared.Verdict.{Verdict}
 use Rattle.format.specs.declared.Verdict.the-variants.{Accepted, Refused}
-use Rattle.format.specs.Tests.{got, refused, _else_, tests}
+use Rattle.format.specs.Tests.{nowhere, got, refused}
 use Rattle.format.specs.Numbers.{Numbered}
 use Rattle.format.specs.Presence.{localThere}
 use Rattle.format.specs.Shortcut.{reading}
@@ -137,7 +137,7 @@ module _ (s out : List ℕ) {g : Reading} (e : g ≡ reading s) where
   -- leaving with the refusal
   pub target-left : {f : Fault} {p : ℕ} → g .verdict ≡ Refused f p → TargetCall s out (g .verdict) out
   unfolding targetAnswer targetOutput target outputOf
-  target-left q = let i = refused-read s (ap (λ (x : Reading). x .verdict) (sym e) ∙ q) in target-call s out (q ∙ rw i) (rw i)
+  target-left q = let i = refused-read s (ap (λ (x : Reading). x .verdict) (sym e) ∙ q) in target-call s out (q ∙ rw (i .is, i .told)) (rw (i .is))
 
   module _ {n : ℕ} (q : g .verdict ≡ Accepted n) where
     accepted : reading s ≡ record { verdict = Accepted n; held = g .held }
@@ -155,7 +155,7 @@ module _ (s out : List ℕ) {g : Reading} (e : g ≡ reading s) where
     found is = rw is (record { stands = texts-stand s (g .held) n accepted; small = inside .small })
 
     -- the target of what was read
-    target-is : target s (length out) ≡ tests 0 (hasTarget (g .held) else NOTARGET ∷ leb (length (targetText s (g .held))) (length out) else ROOM ∷ []) (got (targetText s (g .held)) (length (targetText s (g .held))))
+    target-is : target s (length out) ≡ cond (hasTarget (g .held)) (cond (leb (length (targetText s (g .held))) (length out)) (got (targetText s (g .held)) (length (targetText s (g .held)))) (refused ROOM nowhere)) (refused NOTARGET nowhere)
     unfolding target
     target-is = let x = accepted-read s (g .held) n accepted in rw (x .is, x .held)
 
@@ -163,7 +163,7 @@ module _ (s out : List ℕ) {g : Reading} (e : g ≡ reading s) where
       pub target-none : not k ≡ true → TargetCall s out (Refused NOTARGET 0) out
       unfolding targetAnswer targetOutput outputOf
       target-none t =
-          let z : target s (length out) ≡ refused NOTARGET 0 = target-is ∙ rw (sym h ∙ not-true k t) in
+          let z : target s (length out) ≡ refused NOTARGET nowhere = target-is ∙ rw (sym h ∙ not-true k t) in
           target-call s out (rw z) (rw z)
 
       module _ (has : not k ≡ false) {t : Texts} {m : ℕ} (is : t ≡ textsOf s (g .held)) (sum : m ≡ textsLength t) where
@@ -176,7 +176,7 @@ module _ (s out : List ℕ) {g : Reading} (e : g ≡ reading s) where
         pub target-room : length out < m → TargetCall s out (Refused ROOM 0) out
         unfolding targetAnswer targetOutput outputOf
         target-room o =
-            let z : target s (length out) ≡ refused ROOM 0
+            let z : target s (length out) ≡ refused ROOM nowhere
             = target-is ∙ rw (target-text, long, sym h ∙ not-false k has, lt-leb m (length out) o) in
             target-call s out (rw z) (rw z)
 

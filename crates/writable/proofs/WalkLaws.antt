@@ -1,23 +1,28 @@
 -- Bodies that are walked to their end: items and blocks, each with what a written file has after them.
 use mathlib.Core.Path.{_≡_, refl, sym, ap, _∙_}
 use mathlib.Core.List.{List, [], _∷_, _++_}
-use mathlib.Core.Bool.{Bool, false}
+use mathlib.Core.Bool.{Bool, true, false}
 use Prim.Native.Nat.{ℕ, _+_, _-_, _≤_, _<_}
 use native.Mathlib.Omega.{arith}
 use lib.ListN.{length, take, drop, length-append, length-drop}
 use lib.Seq.{take-length, take-append-seam, take-append-le, drop-append-le, drop-at}
 use lib.Dec.{eqb}
-use borrow.Author.Tests.{ne-eqb, leb-true, le-leb, lt-ltb, le-ltb}
+use borrow.Author.Tests.{eqb-true, eq-eqb, ne-eqb, leb-true, le-leb, lt-ltb, le-ltb}
 use Rattle.octets.specs.Numbers.{number, numberAt, little, u16At, u32At}
 use Rattle.octets.proofs.NumberLaws.{number-same, number-drop, length-little}
-use Rattle.format.specs.Tests.{Outcome, got, refused}
-use Rattle.format.specs.Blocks.{blockRules, blockSize, blockTests, aBlock, blockStep, blocks}
+use Rattle.format.specs.declared.Fault.the-variants.{Items as ITEMS}
+use Rattle.format.specs.Tests.{all, Outcome, got, refused}
+use Rattle.format.specs.Items.{itemTests, itemList}
+use Rattle.format.specs.Blocks.{blockRules, blockSize, blockTests, aBlock, block, blockStep, blocks}
+use Rattle.format.specs.Steps.Wrong.{wrong}
 use Rattle.format.specs.Shortcut.{sum}
 use Rattle.format.specs.Writing.{writableItems, takes, writableBlocks}
-use Rattle.format.proofs.Bools.{by-order}
-use Rattle.format.proofs.Chains.{Pass, pass, no-value}
+use Rattle.format.proofs.Bools.{and-no, same-truth, by-order}
+use Rattle.format.proofs.Chains.{Pass, pass, all-pass, pass-all, no-value}
+use Rattle.format.proofs.WrongLaws.{none-wrong, pass-none}
+use Rattle.format.proofs.ItemsLaws.{tests-walk, item-faults}
 use Rattle.format.proofs.BlockLaws.{the-end, step-elim, blocks-walked}
-use Rattle.items.proofs.Laws.{itemsAt, items-start, items-cut, items-end, items-small, items-more}
+use Rattle.items.proofs.Laws.{Come, come-start, items-end, items-lack, items-stop, items-more}
 use Rattle.blocks.specs.Steps.Walk.{NoBlock, after, Passed}
 use Rattle.writable.proofs.TestLaws.{same-test}
 
@@ -38,56 +43,85 @@ zero-item : u16At (0 ∷ 0 ∷ []) 0 ≡ 0
 unfolding numberAt number
 zero-item = refl
 
--- the items from the place p on; kept closed, so that a citation need not name x and p
-unfoldable pub onItems : List ℕ → ℕ → Bool
-onItems x p = itemsAt (x ++ 0 ∷ 0 ∷ []) p
+-- a list is one where no place is wrong
+list-none : (l : List ℕ) → eqb (wrong (itemTests ITEMS 2 0 l)) 0 ≡ itemList l
+list-none l =
+    let ts = itemTests ITEMS 2 0 l in
+    let moved : all ts ≡ itemList l = tests-walk ITEMS 2 0 l ∙ sym (tests-walk ITEMS 0 0 l) in
+    same-truth (eqb (wrong ts) 0) (itemList l)
+    (λ e. sym moved ∙ pass-all ts (none-wrong ITEMS ts (item-faults ITEMS 2 0 l (omega arith)) (eqb-true (wrong ts) 0 e)))
+    (λ e. eq-eqb (wrong ts) 0 (pass-none ts (all-pass ts (moved ∙ e))))
+
+-- the walk over the body and the two zero bytes after it has come to p
+pub record OnItems (x : List ℕ) (p : ℕ) : Type 0 where
+  pub short : length x ≤ 65533
+  pub item : ℕ
+  pub come : Come (x ++ 0 ∷ 0 ∷ []) 2 item p (wrong (itemTests ITEMS 2 0 (x ++ 0 ∷ 0 ∷ [])))
 
 module _ (x : List ℕ) where
   pub items-long : 65533 < length x → false ≡ writableItems x
   items-long h = rw (le-ltb (length x + 2) 65536 (omega arith))
 
-  pub items-begin : length x ≤ 65533 → onItems x 0 ≡ writableItems x
-  unfolding onItems
-  items-begin h = rw (lt-ltb (length x + 2) 65536 (omega arith)) (items-start (x ++ 0 ∷ 0 ∷ []))
+  pub items-begin : length x ≤ 65533 → OnItems x 0
+  items-begin h = record { short = h; item = 0; come = come-start (x ++ 0 ∷ 0 ∷ []) 2 0 }
 
-  -- every step keeps r, the answer of the whole walk
-  module _ (p : ℕ) {r : Bool} (inv : onItems x p ≡ r) where
-    whole : length (x ++ 0 ∷ 0 ∷ []) ≡ length x + 2
+  module _ (p : ℕ) (o : OnItems x p) where
+    abbrev s : List ℕ
+    s = x ++ 0 ∷ 0 ∷ []
+
+    abbrev found : ℕ
+    found = wrong (itemTests ITEMS 2 0 s)
+
+    whole : length s ≡ length x + 2
     whole = length-append x (0 ∷ 0 ∷ [])
 
+    answer : eqb found 0 ≡ writableItems x
+    answer = rw (lt-ltb (length x + 2) 65536 (omega (arith, o .short))) (list-none s)
+
+    -- a place is wrong
+    refuses : (j : ℕ) → 2 + j ≡ found → false ≡ writableItems x
+    refuses j e = sym (ne-eqb found 0 (λ z. omega arith)) ∙ answer
+
+    -- no size is left where one is due
+    lacks : {q j : ℕ} → Come s 2 q j found → length s < j + 2 → false ≡ writableItems x
+    lacks {q} {j} c h = by-order j (length s) (λ k. refuses j (items-lack s c h k)) (λ k. refuses q (items-end s c h k))
+
     module _ {n : ℕ} (fits : p + 2 ≤ length x) (e : n ≡ u16At x p) where
-      size : n ≡ u16At (x ++ 0 ∷ 0 ∷ []) p
+      size : n ≡ u16At s p
       size = e ∙ number-front x (0 ∷ 0 ∷ []) 2 p fits
 
-      pub on-small-item : n < 2 → false ≡ r
-      unfolding onItems
+      pub on-small-item : n < 2 → false ≡ writableItems x
       on-small-item h =
           let w = whole in
-          by-order n 0
-          (λ z. sym (ne-eqb (length (x ++ 0 ∷ 0 ∷ []) - p) 2 (λ q. omega arith)) ∙ items-end (x ++ 0 ∷ 0 ∷ []) p inv (omega arith) size (omega arith))
-          (λ z. items-small (x ++ 0 ∷ 0 ∷ []) p inv (omega arith) size (omega arith))
+          let no : eqb p (length x) ≡ false = ne-eqb p (length x) (λ q. omega arith) in
+          refuses p (rw (no, and-no) at (items-stop s (o .come) (omega arith) size h (length x) (omega arith)))
 
-      pub on-more-items : 2 ≤ n → onItems x (p + n) ≡ r
-      unfolding onItems
-      on-more-items h = let w = whole in items-more (x ++ 0 ∷ 0 ∷ []) p inv (omega arith) size h
+      pub on-more-items : 2 ≤ n → OnItems x (p + n)
+      on-more-items h = let w = whole in record { short = o .short; item = p; come = items-more s (o .come) (omega arith) size h }
 
-    -- one byte left over is no item
-    pub on-last-item : length x < p + 2 → eqb p (length x) ≡ r
-    unfolding onItems
+    -- where the body ends, its two zero bytes stand; one byte left over is no item
+    pub on-last-item : length x < p + 2 → eqb p (length x) ≡ writableItems x
     on-last-item h =
         let w = whole in
-        let s : List ℕ = x ++ 0 ∷ 0 ∷ [] in
         by-order p (length x)
-        (λ g.
-        by-order (u16At s p) 0
-        (λ z. same-test p (length x) (length s - p) 2 (λ q. omega arith) (λ q. omega arith) ∙ items-end s p inv (omega arith) refl (omega arith))
-        (λ z.
-        let no : p ≡ length x → ⊥ = λ q. omega (arith, number-end x (0 ∷ 0 ∷ []) 2 p q, zero-item) in
-        ne-eqb p (length x) no
-        ∙ by-order 2 (u16At s p)
-        (λ k. items-cut s (p + u16At s p) (items-more s p inv (omega arith) refl k) (omega arith))
-        (λ k. items-small s p inv (omega arith) refl (omega arith))))
-        (λ g. ne-eqb p (length x) (λ q. omega arith) ∙ items-cut s p inv (omega arith))
+        (λ g. by-order 2 (u16At s p) (λ k. more g k) (λ k. stop g k (eqb p (length x)) refl))
+        (λ g. ne-eqb p (length x) (λ q. omega arith) ∙ lacks (o .come) (omega arith))
+      where
+        more : p ≤ length x → 2 ≤ u16At s p → eqb p (length x) ≡ writableItems x
+        more g k =
+            let w = whole in
+            let no : p ≡ length x → ⊥ = λ q. omega (arith, number-end x (0 ∷ 0 ∷ []) 2 p q, zero-item) in
+            ne-eqb p (length x) no ∙ lacks (items-more s (o .come) (omega arith) refl k) (omega arith)
+
+        stop : p ≤ length x → u16At s p < 2 → (b : Bool) → eqb p (length x) ≡ b → b ≡ writableItems x
+        stop g k true e =
+            let w = whole in
+            let z : u16At s p ≡ 0 = number-end x (0 ∷ 0 ∷ []) 2 p (eqb-true p (length x) e) ∙ zero-item in
+            let f : 0 ≡ found = rw (z, e) at (items-stop s (o .come) (omega arith) refl k (length x) (omega arith)) in
+            sym (eq-eqb found 0 (sym f)) ∙ answer
+        stop g k false e =
+            let w = whole in
+            refuses p (rw (e, and-no) at (items-stop s (o .come) (omega arith) refl k (length x) (omega arith)))
 
 -- ---- blocks
 
@@ -97,7 +131,7 @@ zero-block = refl
 
 -- the tests of a block pass: so it stands there
 block-stands : (p : ℕ) (s : List ℕ) → 4 ≤ length s → 8 ≤ blockSize s → Pass (blockTests s) → blockStep p s ≡ got aBlock (blockSize s)
-block-stands p s h b c = rw (le-leb 4 (length s) h, le-ltb (blockSize s) 4 (omega arith)) (pass p (blockTests s) (got aBlock (blockSize s)) c)
+block-stands p s h b c = rw (le-leb 4 (length s) h, le-ltb (blockSize s) 4 (omega arith)) (pass (block p) (blockTests s) (got aBlock (blockSize s)) c)
 
 -- a walk over the body that has come to p, where no block of the body stands: the terminal block is written there, or the body cannot be
 module _ (x : List ℕ) {p : ℕ} {row : List ℕ} (P : Passed x 0 p row) (none : NoBlock x p) where

@@ -13,7 +13,7 @@ use Rattle.format.specs.declared.Record.{Record}
 use Rattle.format.specs.declared.Fault.the-variants.{Place as PLACE, Unwritable as UNWRITABLE, Room as ROOM}
 use Rattle.format.specs.declared.Verdict.{Verdict}
 use Rattle.format.specs.declared.Verdict.the-variants.{Accepted, Refused}
-use Rattle.format.specs.Tests.{got, refused, _else_, tests}
+use Rattle.format.specs.Tests.{noSection, nowhere, got, refused, _else_at_, tests}
 use Rattle.format.specs.Numbers.{Numbered}
 use Rattle.format.specs.Bodies.{bodies, allInside}
 use Rattle.format.specs.Steps.Lengths.{writtenLength}
@@ -44,7 +44,7 @@ module _ (r : Record) (d out : List ℕ) {q : Record} (e : q ≡ present r) wher
   w = canonical (bodiesOf d q)
 
   writing-is : writing r d (length out)
-      ≡ tests 0 (allInside (length d) (bodies q) else PLACE ∷ writable (bodiesOf d q) else UNWRITABLE ∷ leb (length (canonical (bodiesOf d q))) (length out) else ROOM ∷ [])
+      ≡ tests noSection (allInside (length d) (bodies q) else PLACE at 0 ∷ writable (bodiesOf d q) else UNWRITABLE at 0 ∷ leb (length (canonical (bodiesOf d q))) (length out) else ROOM at 0 ∷ [])
       (got (canonical (bodiesOf d q)) (length (canonical (bodiesOf d q))))
   unfolding writing contents
   writing-is = rw (placed-present r (length d), e)
@@ -53,7 +53,7 @@ module _ (r : Record) (d out : List ℕ) {q : Record} (e : q ≡ present r) wher
     pub write-outside : not p ≡ true → (Refused PLACE 0 ≡ writeAnswer r d out) × (out ≡ writeOutput r d out)
     unfolding writeAnswer writeOutput outputOf
     write-outside t =
-        let z : writing r d (length out) ≡ refused PLACE 0 = writing-is ∙ rw (sym i ∙ not-true p t) in
+        let z : writing r d (length out) ≡ refused PLACE nowhere = writing-is ∙ rw (sym i ∙ not-true p t) in
         (rw z, rw z)
 
     module _ (inside : not p ≡ false) where
@@ -64,7 +64,7 @@ module _ (r : Record) (d out : List ℕ) {q : Record} (e : q ≡ present r) wher
         pub write-unwritable : not b ≡ true → (Refused UNWRITABLE 0 ≡ writeAnswer r d out) × (out ≡ writeOutput r d out)
         unfolding writeAnswer writeOutput outputOf
         write-unwritable t =
-            let z : writing r d (length out) ≡ refused UNWRITABLE 0 = writing-is ∙ rw (all-placed, sym j ∙ not-true b t) in
+            let z : writing r d (length out) ≡ refused UNWRITABLE nowhere = writing-is ∙ rw (all-placed, sym j ∙ not-true b t) in
             (rw z, rw z)
 
         module _ (can : not b ≡ false) {n : ℕ} (count : n ≡ capped (writtenLength q)) where
@@ -78,7 +78,7 @@ module _ (r : Record) (d out : List ℕ) {q : Record} (e : q ≡ present r) wher
           unfolding writeAnswer writeOutput outputOf
           write-room h =
               let k : leb (length (canonical (bodiesOf d q))) (length out) ≡ false = lt-leb (length (canonical (bodiesOf d q))) (length out) (omega (arith, long)) in
-              let z : writing r d (length out) ≡ refused ROOM 0 = writing-is ∙ rw (all-placed, is-writable, k) in
+              let z : writing r d (length out) ≡ refused ROOM nowhere = writing-is ∙ rw (all-placed, is-writable, k) in
               (rw z, rw z)
 
           pub write-fits : n ≤ length out → RoomFor d out q

@@ -3,9 +3,10 @@ use super::command::Command;
 use super::input::Input;
 use herringnet::json::Json;
 use herringnet::show::field::{members, text_json, Field};
-use herringnet::show::text::{Bytes, Hex};
+use herringnet::show::text::{Bytes, Hex, Spaced};
 use herringnet::show::{lines, shown};
-use herringnet::{check, key, listed, sections, target, Refusal, Section, Text};
+use herringnet::{check, fault, key, listed, sections, target, Refusal, Section, Spot, Text, WrongField};
+use std::ops::Range;
 
 /// The answer to a command.
 pub enum Answer<'a> {
@@ -20,15 +21,16 @@ pub enum Answer<'a> {
 
 impl<'a> Answer<'a> {
     /// Asks the library; `None` for a command that prints no answer.
-    pub fn to(command: Command, shortcut: &'a [u8]) -> Option<Result<Answer<'a>, Refusal>> {
-        Some(match command {
+    pub fn to(command: Command, shortcut: &'a [u8]) -> Option<Result<Answer<'a>, Refused<'a>>> {
+        let answer = match command {
             Command::Check => check(shortcut).map(Answer::Accepted),
             Command::List => sections(shortcut).map(Answer::Listing),
             Command::Target => target(shortcut).map(Answer::Target),
             Command::Key => key(shortcut).map(Answer::Key),
             Command::Show => shown(shortcut).map(Answer::Fields),
             Command::Rewrite => return None,
-        })
+        };
+        Some(answer.map_err(|refusal| Refused::new(command, shortcut, refusal)))
     }
 
     /// The lines, without the last line feed.
@@ -68,10 +70,10 @@ fn section_json(section: &Section) -> Json {
 }
 
 /// The JSON object of an input that was read.
-pub fn object(input: &Input, answer: &Result<Answer, Refusal>) -> Json {
+pub fn object(input: &Input, answer: &Result<Answer, Refused>) -> Json {
     match answer {
         Ok(answer) => with_status(input, "ok", answer.members()),
-        Err(refusal) => with_status(input, "refused", vec![("refusal".to_string(), refusal_json(refusal))]),
+        Err(refused) => with_status(input, "refused", vec![("refusal".to_string(), refused.json())]),
     }
 }
 
@@ -86,11 +88,80 @@ fn with_status(input: &Input, status: &str, mut members: Vec<(String, Json)>) ->
     Json::Object(all)
 }
 
-fn refusal_json(refusal: &Refusal) -> Json {
+/// A refusal, and what `check` says beside it.
+pub struct Refused<'a> {
+    pub refusal: Refusal,
+    shortcut: &'a [u8],
+    /// The section at fault, if the command says it.
+    spot: Option<Spot>,
+}
+
+impl<'a> Refused<'a> {
+    fn new(command: Command, shortcut: &'a [u8], refusal: Refusal) -> Refused<'a> {
+        let spot = if command == Command::Check { fault(shortcut) } else { None };
+        Refused { refusal, shortcut, spot }
+    }
+
+    /// The words of a line.
+    pub fn text(&self) -> String {
+        match &self.spot {
+            Some(spot) => {
+                let Refusal { fault, position, .. } = self.refusal;
+                format!("refused {} at {}: {}", fault, position, spot.explained(self.shortcut))
+            }
+            None => self.refusal.to_string(),
+        }
+    }
+
+    /// The field with sixteen bytes before it and after it, as lines; those of the field begin with `>`.
+    pub fn dump(&self) -> String {
+        let field = self.spot.and_then(|spot| spot.field(self.shortcut)).map(|field| field.place);
+        let length = self.shortcut.len();
+        let position = self.refusal.position.min(length);
+        let field = field.unwrap_or(position..length.min(position + ROW));
+        let before = rows(' ', field.start.saturating_sub(ROW)..field.start, self.shortcut);
+        let after = rows(' ', field.end..length.min(field.end + ROW), self.shortcut);
+        let marked = match field.is_empty() {
+            true => format!("\n> {:04X}", field.start),
+            false => rows('>', field, self.shortcut),
+        };
+        [before, marked, after].concat()
+    }
+
+    fn json(&self) -> Json {
+        let refusal = &self.refusal;
+        let mut members = vec![
+            ("number", Json::number(refusal.number())),
+            ("name", Json::string(refusal.name())),
+            ("position", Json::number(refusal.position as u64)),
+            ("reason", Json::string(refusal.fault.reason())),
+        ];
+        if let Some(spot) = &self.spot {
+            members.push(("section", Json::string(spot.section)));
+            members.push(("start", Json::number(spot.start as u64)));
+            let field = spot.field(self.shortcut);
+            members.push(("field", field.map_or(Json::Null, |field| field_json(&field, self.shortcut))));
+        }
+        Json::Object(members.into_iter().map(|(name, value)| (name.to_string(), value)).collect())
+    }
+}
+
+/// The bytes of a row of a dump.
+const ROW: usize = 16;
+
+/// Rows of a dump, each with a mark, the place in hex and the bytes, after a line feed.
+fn rows(mark: char, places: Range<usize>, shortcut: &[u8]) -> String {
+    let starts = places.clone().step_by(ROW);
+    let bytes = shortcut.get(places).unwrap_or(&[]).chunks(ROW);
+    starts.zip(bytes).map(|(start, row)| format!("\n{} {:04X}  {}", mark, start, Spaced(row))).collect()
+}
+
+fn field_json(field: &WrongField, shortcut: &[u8]) -> Json {
     Json::object([
-        ("number", Json::number(refusal.number())),
-        ("name", Json::string(refusal.name())),
-        ("position", Json::number(refusal.position as u64)),
-        ("reason", Json::string(refusal.fault.reason())),
+        ("structure", Json::string(field.structure)),
+        ("start", Json::number(field.start as u64)),
+        ("name", Json::string(field.name)),
+        ("bytes", Json::string(Hex(shortcut.get(field.place.clone()).unwrap_or(&[])))),
+        ("wrong", Json::string(&field.wrong)),
     ])
 }

@@ -83,6 +83,7 @@ struct Given {
     zero: bool,
     json: bool,
     raw: bool,
+    hex: bool,
     files_only: bool,
 }
 
@@ -115,6 +116,7 @@ impl Given {
             Asks::Zero => self.zero = true,
             Asks::Json => self.json = true,
             Asks::Raw => self.raw = true,
+            Asks::Hex => self.hex = true,
             Asks::InPlace => self.outputs.push(Output::InPlace),
             Asks::Suffix => self.outputs.push(Output::Suffix(suffix(value)?)),
             Asks::Output => self.outputs.push(match Input::of(value) {
@@ -143,6 +145,7 @@ impl Given {
             zero: self.zero,
             json: self.json,
             raw: self.raw,
+            hex: self.hex,
             output: self.outputs.pop().unwrap_or(Output::Standard),
             several,
         }))
@@ -162,6 +165,7 @@ impl Given {
             (self.all_files && !self.recursive, "--all-files goes with -r"),
             (self.raw && (self.json || self.zero), "--raw excludes --json and -0"),
             (self.raw && several, "--raw takes one input"),
+            (self.hex && self.json, "--hex excludes --json"),
             (several && to_one_file, "-o takes one input"),
             (
                 command == Command::Rewrite && several && !beside,

@@ -24,11 +24,15 @@ struct Page {
 const PAGES: [Page; 6] = [
     Page {
         word: "check",
-        line: "say of each shortcut whether it is accepted, and why not",
+        line: "say of each shortcut whether it is accepted, or which field is wrong, and why",
         usage: &["[FILE].."],
         text: "\
 Prints a line for each shortcut: FILE: ok and its length, or FILE: refused with the number,
-the name, the position and the reason.
+the name, the position, the section, the field, its value and what is wrong with it:
+  x.lnk: refused 7 PIECE at 100: LinkInfo (at 76), CommonPathSuffixOffset is 0x1B, before the
+         end of the head at 0x1C
+Fields have their names from MS-SHLLINK. A structure inside the section is named after it, and
+offsets in hex count from the start of what is named last.
 ",
     },
     Page {

@@ -12,7 +12,8 @@ One file's fault does not keep the others from being done.
 
 /// How names and refusals are printed.
 pub const PRINTED: &str = "\
-A refusal has a number, a name, the position in the file and a reason:
+A refusal has a number, a name, the position in the file, which is that of the field found
+wrong, and a reason, for which check gives the field itself:
   refused 2 CUT at 76: it is cut off inside a field or a part
 
 A plain name is printed as it is. A byte that is no UTF-8 stands as <E9>, a character without

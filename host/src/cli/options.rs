@@ -10,6 +10,7 @@ pub enum Asks {
     Zero,
     Json,
     Raw,
+    Hex,
     Output,
     InPlace,
     Suffix,
@@ -32,7 +33,7 @@ const PRINTING: &[Command] = &[Command::Check, Command::List, Command::Target, C
 const REWRITE: &[Command] = &[Command::Rewrite];
 
 /// All options, in the order of help.
-pub const CHOICES: [Choice; 10] = [
+pub const CHOICES: [Choice; 11] = [
     Choice {
         asks: Asks::Recursive,
         words: &["-r", "--recursive"],
@@ -84,6 +85,16 @@ pub const CHOICES: [Choice; 10] = [
         value: None,
         commands: &[Command::Target],
         lines: &["print the bytes as they stand in the file, and no line feed; for one FILE"],
+    },
+    Choice {
+        asks: Asks::Hex,
+        words: &["--hex"],
+        value: None,
+        commands: &[Command::Check],
+        lines: &[
+            "after a refusal, print the field's bytes with the sixteen before and after",
+            "it, each line with its place in hex; lines of the field begin with >",
+        ],
     },
     Choice {
         asks: Asks::Output,

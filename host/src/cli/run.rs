@@ -1,11 +1,11 @@
 //! Doing what the command line asks for, input by input.
-use super::answer::{failed, object, Answer};
+use super::answer::{failed, object, Answer, Refused};
 use super::command::Command;
 use super::console::{Console, Outcome};
 use super::files::{replace, with_suffix, write_new};
 use super::input::{reason, Input};
 use super::walk::Walk;
-use herringnet::{Record, Refusal};
+use herringnet::Record;
 use std::ffi::OsString;
 use std::io;
 use std::path::PathBuf;
@@ -29,6 +29,7 @@ pub struct Run {
     pub zero: bool,
     pub json: bool,
     pub raw: bool,
+    pub hex: bool,
     pub output: Output,
     /// Whether names stand beside the answers: always, if the number of inputs is not known from the words.
     pub several: bool,
@@ -102,7 +103,7 @@ impl Run {
         }
     }
 
-    fn answer(&self, input: &Input, answer: Result<Answer, Refusal>, console: &mut Console) {
+    fn answer(&self, input: &Input, answer: Result<Answer, Refused>, console: &mut Console) {
         if answer.is_err() {
             console.note(Outcome::Refused);
         }
@@ -110,18 +111,19 @@ impl Run {
             answer if self.json => console.record(object(input, &answer).to_string().into_bytes()),
             Ok(Answer::Target(text)) if self.raw => console.write(&text),
             Ok(answer) => self.print(input, &answer.text(), console),
-            Err(refusal) if self.command.answers_refusals() => {
-                self.print(input, &self.refused(&refusal), console);
+            Err(refused) if self.command.answers_refusals() => {
+                self.print(input, &self.refused(&refused), console);
             }
-            Err(refusal) => console.say(format!("{}: {}", input, refusal)),
+            Err(refused) => console.say(format!("{}: {}", input, refused.text())),
         }
     }
 
     /// A refusal as an answer: `list` says it in the words of the listing.
-    fn refused(&self, refusal: &Refusal) -> String {
+    fn refused(&self, refused: &Refused) -> String {
         match self.command {
-            Command::List => format!("refused {} {}", refusal.number(), refusal.position),
-            _ => refusal.to_string(),
+            Command::List => format!("refused {} {}", refused.refusal.number(), refused.refusal.position),
+            _ if self.hex => format!("{}{}", refused.text(), refused.dump()),
+            _ => refused.text(),
         }
     }
 

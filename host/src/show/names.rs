@@ -131,6 +131,11 @@ fn key_name(low: u8) -> Option<String> {
     }
 }
 
+/// Whether a row of LowByte has this key.
+pub fn is_key(low: u8) -> bool {
+    key_name(low).is_some()
+}
+
 #[cfg(test)]
 mod tests {
     use super::*;

@@ -28,6 +28,18 @@ impl fmt::Display for Hex<'_> {
     }
 }
 
+/// Bytes as a hex viewer shows them: two digits for each, and spaces between them.
+#[derive(Clone, Copy, Debug)]
+pub struct Spaced<'a>(pub &'a [u8]);
+
+impl fmt::Display for Spaced<'_> {
+    fn fmt(&self, f: &mut fmt::Formatter<'_>) -> fmt::Result {
+        let mut bytes = self.0.iter();
+        bytes.next().map_or(Ok(()), |first| write!(f, "{:02X}", first))?;
+        bytes.try_for_each(|byte| write!(f, " {:02X}", byte))
+    }
+}
+
 /// A text of 16-bit units, little-endian: characters as they are, except controls, characters without a shape of
 /// their own, units that are no character and `<`, which stand as `<U+200B>`. A last odd byte stands as `<E9>`.
 #[derive(Clone, Copy, Debug)]

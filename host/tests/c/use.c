@@ -16,6 +16,24 @@ static void section(const uint8_t *s, size_t n, uint32_t name, size_t block)
     printf("section %" PRIu32 " %zu: %zu %zu\n", name, block, HERRINGNET_START(a), HERRINGNET_LENGTH(a));
 }
 
+static void fault(const char *what, uint64_t a)
+{
+    printf("%s %u %zu in %u at %zu\n", what, HERRINGNET_NUMBER(a), HERRINGNET_FAULT_POSITION(a),
+           HERRINGNET_FAULT_SECTION(a), HERRINGNET_FAULT_START(a));
+}
+
+/* LinkInfoFlags are made wrong, and right again. */
+static void faults(uint8_t *s, size_t n)
+{
+    fault("fault", herringnet_fault(s, n));
+    fault("fault one less", herringnet_fault(s, n - 1));
+    fault("fault nothing", herringnet_fault(NULL, 0));
+    s[275] ^= 4;
+    fault("fault in info", herringnet_fault(s, n));
+    s[275] ^= 4;
+    fault("fault long", herringnet_fault(s, HERRINGNET_LONGEST + 1));
+}
+
 static void sections(const uint8_t *s, size_t n)
 {
     for (uint32_t name = HERRINGNET_SECTION_HEADER; name <= HERRINGNET_SECTION_END; name++)
@@ -87,6 +105,7 @@ int main(void)
     answer("check", herringnet_check(s, n));
     answer("check one less", herringnet_check(s, n - 1));
     answer("check nothing", herringnet_check(NULL, 0));
+    faults(s, n);
     sections(s, n);
     targets(s, n);
     keys(s, n);

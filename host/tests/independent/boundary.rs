@@ -16,6 +16,17 @@ pub fn boundary_check(shortcut: &[u8]) -> u64 {
     answer(check(shortcut))
 }
 
+/// The verdict with the section at fault.
+pub fn boundary_fault(shortcut: &[u8]) -> u64 {
+    match check(shortcut) {
+        Ok(_) => 0,
+        Err(refusal) => {
+            let section = refusal.start as u64 + 65_537 * u64::from(refusal.section);
+            u64::from(refusal.number) + 256 * (refusal.position as u64 + 65_537 * section)
+        }
+    }
+}
+
 pub fn boundary_target(shortcut: &[u8], out: &mut [u8]) -> u64 {
     answer(target(shortcut, out))
 }

@@ -1,10 +1,10 @@
 //! LinkInfo, given as a part of the file.
 
-use super::{u32_at, Body, Info, LabelKind, Network, Volume, CUT, INFO, PIECE};
+use super::{u32_at, Body, Info, LabelKind, Network, Part, Volume, Why, Wrong, CUT, INFO, PIECE};
 
-/// A part of the file: offsets count from its start, places from the file's.
+/// Bytes of the file: offsets count from their start, places from the file's.
 #[derive(Clone, Copy)]
-struct Part<'a> {
+struct Stretch<'a> {
     bytes: &'a [u8],
     place: usize,
 }
@@ -26,7 +26,7 @@ impl Span {
     }
 }
 
-impl<'a> Part<'a> {
+impl<'a> Stretch<'a> {
     fn number(self, at: usize) -> usize {
         u32_at(self.bytes, at) as usize
     }
@@ -35,31 +35,31 @@ impl<'a> Part<'a> {
         Span { start: self.place, end: self.place + self.bytes.len() }
     }
 
-    /// The bytes from a piece's offset on; None if it starts inside the head.
-    fn after_head(self, head: usize, offset: usize) -> Option<&'a [u8]> {
+    /// The bytes from a piece's offset on.
+    fn after_head(self, head: usize, offset: usize) -> Result<&'a [u8], Why> {
         if offset < head {
-            return None;
+            return Err(Why::Small);
         }
-        self.bytes.get(offset..)
+        self.bytes.get(offset..).filter(|rest| !rest.is_empty()).ok_or(Why::Past)
     }
 
     /// A structure with its size in its first four bytes.
-    fn structure(self, head: usize, offset: usize) -> Option<Part<'a>> {
+    fn structure(self, head: usize, offset: usize) -> Result<Stretch<'a>, Why> {
         let rest = self.after_head(head, offset)?;
-        let size = u32_at(rest.get(..4)?, 0) as usize;
-        Some(Part { bytes: rest.get(..size)?, place: self.place + offset })
+        let size = u32_at(rest.get(..4).ok_or(Why::Past)?, 0) as usize;
+        Ok(Stretch { bytes: rest.get(..size).ok_or(Why::Long)?, place: self.place + offset })
     }
 
-    fn text(self, head: usize, offset: usize) -> Option<Body> {
+    fn text(self, head: usize, offset: usize) -> Result<Body, Why> {
         let rest = self.after_head(head, offset)?;
-        let length = rest.iter().position(|&byte| byte == 0)?;
-        Some(Body::new(self.place + offset, length))
+        let length = rest.iter().position(|&byte| byte == 0).ok_or(Why::Unended)?;
+        Ok(Body::new(self.place + offset, length))
     }
 
-    fn unicode_text(self, head: usize, offset: usize) -> Option<Body> {
+    fn unicode_text(self, head: usize, offset: usize) -> Result<Body, Why> {
         let rest = self.after_head(head, offset)?;
-        let units = rest.chunks_exact(2).position(|unit| unit == [0, 0])?;
-        Some(Body::new(self.place + offset, 2 * units))
+        let units = rest.chunks_exact(2).position(|unit| unit == [0, 0]).ok_or(Why::Unended)?;
+        Ok(Body::new(self.place + offset, 2 * units))
     }
 }
 
@@ -76,22 +76,24 @@ struct Head {
 }
 
 /// LinkInfo at the start of the rest, which stands at this place; with its length.
-pub(super) fn read(rest: &[u8], place: usize) -> Result<(Info, usize), u8> {
-    let size = u32_at(rest.get(..4).ok_or(CUT)?, 0) as usize;
+pub(super) fn read(rest: &[u8], place: usize) -> Result<(Info, usize), Wrong> {
+    let size_is = |number, why| Wrong::new(number, Part::Info, 0, why);
+    let size = u32_at(rest.get(..4).ok_or(size_is(CUT, Why::Cut))?, 0) as usize;
     if size < 0x1C {
-        return Err(INFO);
+        return Err(size_is(INFO, Why::Small));
     }
-    let part = Part { bytes: rest.get(..size).ok_or(CUT)?, place };
-    let head = read_head(part).ok_or(INFO)?;
-    let info = read_pieces(part, &head).ok_or(PIECE)?;
-    Ok((info, size))
+    let bytes = rest.get(..size).ok_or(size_is(CUT, Why::Past))?;
+    let info = Stretch { bytes, place };
+    let head = read_head(info)?;
+    Ok((read_pieces(info, &head)?, size))
 }
 
-fn read_head(part: Part) -> Option<Head> {
+fn read_head(part: Stretch) -> Result<Head, Wrong> {
+    let wrong = |field, why| Err(Wrong::new(INFO, Part::Info, field, why));
     let size = part.number(4);
     let long = size != 0x1C;
     if long && !(0x24..=part.bytes.len()).contains(&size) {
-        return None;
+        return wrong(4, Why::Value);
     }
     let head = Head {
         size,
@@ -104,88 +106,127 @@ fn read_head(part: Part) -> Option<Head> {
         unicode_local_path: if long { part.number(28) } else { 0 },
         unicode_suffix: if long { part.number(32) } else { 0 },
     };
-    let local = head.volume | head.local_path | head.unicode_local_path;
-    let absent_are_zero = (head.flags & 1 != 0 || local == 0) && (head.flags & 2 != 0 || head.network == 0);
-    (head.flags <= 3 && absent_are_zero).then_some(head)
+    if head.flags > 3 {
+        return wrong(8, Why::Value);
+    }
+    let (local, network) = (head.flags & 1 != 0, head.flags & 2 != 0);
+    let offsets = [
+        (12, local, head.volume),
+        (16, local, head.local_path),
+        (20, network, head.network),
+        (28, local, head.unicode_local_path),
+    ];
+    match offsets.iter().find(|(_, present, offset)| !present && *offset != 0) {
+        Some(&(field, ..)) => wrong(field, Why::Absent),
+        None => Ok(head),
+    }
 }
 
-fn read_pieces(part: Part, head: &Head) -> Option<Info> {
+fn read_pieces(part: Stretch, head: &Head) -> Result<Info, Wrong> {
+    let wrong = |field| move |why| Wrong::new(PIECE, Part::Info, field, why);
     let mut info = Info { flags: head.flags, long_head: head.long, ..Info::default() };
     let mut spans = [Span::default(); 6];
     if head.flags & 1 != 0 {
-        let volume = part.structure(head.size, head.volume)?;
-        info.volume = read_volume(volume)?;
+        let volume = part.structure(head.size, head.volume).map_err(wrong(12))?;
+        info.volume = read_volume(volume).map_err(|wrong| wrong.inside(head.volume))?;
         spans[0] = volume.span();
-        info.local_path = part.text(head.size, head.local_path)?;
+        info.local_path = part.text(head.size, head.local_path).map_err(wrong(16))?;
         spans[1] = Span::of(info.local_path, 1);
     }
     if head.flags & 2 != 0 {
-        let network = part.structure(head.size, head.network)?;
-        info.network = read_network(network)?;
+        let network = part.structure(head.size, head.network).map_err(wrong(20))?;
+        info.network = read_network(network).map_err(|wrong| wrong.inside(head.network))?;
         spans[2] = network.span();
     }
-    info.suffix = part.text(head.size, head.suffix)?;
+    info.suffix = part.text(head.size, head.suffix).map_err(wrong(24))?;
     spans[3] = Span::of(info.suffix, 1);
     if head.long {
         if head.flags & 1 != 0 {
-            info.unicode_local_path = part.unicode_text(head.size, head.unicode_local_path)?;
+            info.unicode_local_path = part.unicode_text(head.size, head.unicode_local_path).map_err(wrong(28))?;
             spans[4] = Span::of(info.unicode_local_path, 2);
         }
-        info.unicode_suffix = part.unicode_text(head.size, head.unicode_suffix)?;
+        info.unicode_suffix = part.unicode_text(head.size, head.unicode_suffix).map_err(wrong(32))?;
         spans[5] = Span::of(info.unicode_suffix, 2);
     }
-    are_apart(&spans).then_some(info)
+    match first_shared(&spans) {
+        Some(number) => Err(wrong([12, 16, 20, 24, 28, 32][number])(Why::Shared)),
+        None => Ok(info),
+    }
 }
 
-fn read_volume(part: Part) -> Option<Volume> {
+fn read_volume(part: Stretch) -> Result<Volume, Wrong> {
+    let wrong = |field| move |why| Wrong::new(PIECE, Part::Volume, field, why);
     if part.bytes.len() < 0x11 {
-        return None;
+        return Err(wrong(0)(Why::Small));
     }
     let drive_type = u32_at(part.bytes, 4);
-    let (label_kind, label) = match part.number(12) {
-        0x14 if part.bytes.len() < 0x14 => return None,
-        0x14 => (LabelKind::Unicode, part.unicode_text(0x14, part.number(16))?),
-        offset => (LabelKind::Byte, part.text(0x10, offset)?),
-    };
+    if drive_type > 6 {
+        return Err(wrong(4)(Why::Value));
+    }
     let serial = u32_at(part.bytes, 8);
-    (drive_type <= 6).then_some(Volume { drive_type, serial, label_kind, label })
+    let (label_kind, label) = match part.number(12) {
+        0x14 if part.bytes.len() < 0x14 => return Err(wrong(16)(Why::Cut)),
+        0x14 => (LabelKind::Unicode, part.unicode_text(0x14, part.number(16)).map_err(wrong(16))?),
+        offset => (LabelKind::Byte, part.text(0x10, offset).map_err(wrong(12))?),
+    };
+    Ok(Volume { drive_type, serial, label_kind, label })
 }
 
-fn read_network(part: Part) -> Option<Network> {
-    if part.bytes.len() < 0x14 {
-        return None;
-    }
-    let flags = u32_at(part.bytes, 4);
-    let unicode_names = part.number(8) > 0x14;
-    let head = if unicode_names { 0x1C } else { 0x14 };
-    if flags > 3 || part.bytes.len() < head {
-        return None;
-    }
+fn read_network(part: Stretch) -> Result<Network, Wrong> {
+    let (flags, head) = network_head(part)?;
+    let wrong = |field| move |why| Wrong::new(PIECE, Part::Network, field, why);
     let provider_type = if flags & 2 != 0 { u32_at(part.bytes, 16) } else { 0 };
+    let unicode_names = head == 0x1C;
     let mut network = Network { flags, provider_type, unicode_names, ..Network::default() };
     let mut spans = [Span::default(); 4];
     let has_device = flags & 1 != 0;
-    network.net_name = part.text(head, part.number(8))?;
+    network.net_name = part.text(head, part.number(8)).map_err(wrong(8))?;
     spans[0] = Span::of(network.net_name, 1);
     if has_device {
-        network.device_name = part.text(head, part.number(12))?;
+        network.device_name = part.text(head, part.number(12)).map_err(wrong(12))?;
         spans[1] = Span::of(network.device_name, 1);
-    } else if part.number(12) != 0 {
-        return None;
     }
     if unicode_names {
-        network.unicode_net_name = part.unicode_text(head, part.number(20))?;
+        network.unicode_net_name = part.unicode_text(head, part.number(20)).map_err(wrong(20))?;
         spans[2] = Span::of(network.unicode_net_name, 2);
         if has_device {
-            network.unicode_device_name = part.unicode_text(head, part.number(24))?;
+            network.unicode_device_name = part.unicode_text(head, part.number(24)).map_err(wrong(24))?;
             spans[3] = Span::of(network.unicode_device_name, 2);
-        } else if part.number(24) != 0 {
-            return None;
         }
     }
-    are_apart(&spans).then_some(network)
+    match first_shared(&spans) {
+        Some(number) => Err(wrong([8, 12, 20, 24][number])(Why::Shared)),
+        None => Ok(network),
+    }
 }
 
-fn are_apart(spans: &[Span]) -> bool {
-    spans.iter().enumerate().all(|(number, span)| spans[..number].iter().all(|earlier| !earlier.meets(*span)))
+/// Flags and head length of the network link, once all rules hold that stand before those of its names.
+fn network_head(part: Stretch) -> Result<(u32, usize), Wrong> {
+    let wrong = |field, why| Err(Wrong::new(PIECE, Part::Network, field, why));
+    let size = part.bytes.len();
+    if size < 0x14 {
+        return wrong(0, Why::Small);
+    }
+    let flags = u32_at(part.bytes, 4);
+    if flags > 3 {
+        return wrong(4, Why::Value);
+    }
+    let name = part.number(8);
+    if name < 0x14 {
+        return wrong(8, Why::Small);
+    }
+    let head = if name > 0x14 { 0x1C } else { 0x14 };
+    if let Some(field) = (20..head).step_by(4).find(|field| field + 4 > size) {
+        return wrong(field, Why::Cut);
+    }
+    let mut device = [12, 24].iter().copied().filter(|&field| field < head);
+    match device.find(|&field| flags & 1 == 0 && part.number(field) != 0) {
+        Some(field) => wrong(field, Why::Absent),
+        None => Ok((flags, head)),
+    }
+}
+
+/// The first span that shares a byte with one before it.
+fn first_shared(spans: &[Span]) -> Option<usize> {
+    (0..spans.len()).find(|&number| spans[..number].iter().any(|earlier| earlier.meets(spans[number])))
 }

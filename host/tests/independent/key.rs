@@ -58,7 +58,7 @@ pub fn key(shortcut: &[u8], out: &mut [u8]) -> Result<usize, Refusal> {
     let target_length = target.as_ref().map_or(0, Target::length);
     let other_lengths = others.map(|part| part.map_or(0, <[u8]>::len));
     let length = 1 + 4 * PART_HEAD + target_length + other_lengths.iter().sum::<usize>();
-    let room = out.get_mut(..length).ok_or_else(|| Refusal::at(0)(ROOM))?;
+    let room = out.get_mut(..length).ok_or_else(|| Refusal::nowhere(ROOM))?;
     room[0] = (parts.texts.link_flags >> 7 & 1) as u8;
     let (place, mut rest) = put_head(&mut room[1..], target.is_some(), target_length);
     if let Some(target) = target {

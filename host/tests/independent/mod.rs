@@ -9,6 +9,7 @@ mod key;
 mod record;
 mod texts;
 mod writer;
+mod wrong;
 
 // Not every test calls this side as the boundary is called.
 #[allow(unused_imports)]
@@ -18,6 +19,7 @@ pub use record::*;
 #[allow(unused_imports)]
 pub use texts::*;
 pub use writer::write;
+pub use wrong::*;
 
 pub const LIMIT: usize = 65_536;
 pub const HEADER_LENGTH: usize = 76;
@@ -48,18 +50,6 @@ pub const SECTION_END: u8 = 9;
 
 /// Header size and class identifier.
 const MAGIC_BYTES: [u8; 20] = [0x4C, 0, 0, 0, 0x01, 0x14, 0x02, 0, 0, 0, 0, 0, 0xC0, 0, 0, 0, 0, 0, 0, 0x46];
-
-#[derive(Clone, Copy, PartialEq, Eq, Debug)]
-pub struct Refusal {
-    pub number: u8,
-    pub position: usize,
-}
-
-impl Refusal {
-    fn at(position: usize) -> impl Fn(u8) -> Refusal {
-        move |number| Refusal { number, position }
-    }
-}
 
 /// What a walk over a shortcut passes by, in file order.
 trait Visit {
@@ -211,11 +201,10 @@ fn is_parted(first: &[u8], suffix: &[u8]) -> bool {
 pub fn target(shortcut: &[u8], out: &mut [u8]) -> Result<usize, Refusal> {
     let mut texts = Texts::default();
     walk(shortcut, &mut texts)?;
-    let refuse = Refusal::at(0);
-    let texts = texts.found.ok_or_else(|| refuse(NOTARGET))?;
+    let texts = texts.found.ok_or_else(|| Refusal::nowhere(NOTARGET))?;
     let target = Target::of(shortcut, texts);
     let length = target.length();
-    let room = out.get_mut(..length).ok_or_else(|| refuse(ROOM))?;
+    let room = out.get_mut(..length).ok_or_else(|| Refusal::nowhere(ROOM))?;
     target.put(room);
     Ok(length)
 }
@@ -230,20 +219,20 @@ pub fn window(show_command: u32) -> u32 {
 
 fn walk<V: Visit>(shortcut: &[u8], visit: &mut V) -> Result<usize, Refusal> {
     if shortcut.len() > LIMIT {
-        return Err(Refusal { number: LONG, position: LIMIT });
+        return Err(Refusal { position: LIMIT, ..Refusal::nowhere(LONG) });
     }
-    let header = read_header(shortcut).map_err(Refusal::at(0))?;
+    let header = read_header(shortcut).map_err(Refusal::in_section(SECTION_HEADER, 0))?;
     visit.header(&header);
     visit.section(SECTION_HEADER, 0, HEADER_LENGTH);
     let flags = header.link_flags;
     let mut at = HEADER_LENGTH;
     if flags & 1 != 0 {
-        let length = item_list(&shortcut[at..]).map_err(Refusal::at(at))?;
+        let length = item_list(&shortcut[at..]).map_err(Refusal::in_section(SECTION_ITEMS, at))?;
         visit.section(SECTION_ITEMS, at, length);
         at += length;
     }
     if flags & 2 != 0 {
-        let (info, length) = info::read(&shortcut[at..], at).map_err(Refusal::at(at))?;
+        let (info, length) = info::read(&shortcut[at..], at).map_err(Refusal::in_section(SECTION_INFO, at))?;
         visit.section(SECTION_INFO, at, length);
         visit.info(&info);
         at += length;
@@ -251,7 +240,7 @@ fn walk<V: Visit>(shortcut: &[u8], visit: &mut V) -> Result<usize, Refusal> {
     let width = if flags & 0x80 != 0 { 2 } else { 1 };
     for name in SECTION_NAME..=SECTION_ICON {
         if flags >> (name - 1) & 1 != 0 {
-            let length = string(&shortcut[at..], width).map_err(Refusal::at(at))?;
+            let length = string(&shortcut[at..], width).map_err(Refusal::in_section(name, at))?;
             visit.section(name, at, length);
             at += length;
         }
@@ -259,10 +248,14 @@ fn walk<V: Visit>(shortcut: &[u8], visit: &mut V) -> Result<usize, Refusal> {
     walk_blocks(shortcut, at, visit)
 }
 
-fn read_header(shortcut: &[u8]) -> Result<Header, u8> {
-    let bytes = shortcut.get(..HEADER_LENGTH).ok_or(CUT)?;
-    if bytes[..20] != MAGIC_BYTES {
-        return Err(MAGIC);
+fn read_header(shortcut: &[u8]) -> Result<Header, Wrong> {
+    let wrong = |number| move |field| Wrong::new(number, Part::Header, field, Why::Value);
+    let bytes = shortcut.get(..HEADER_LENGTH).ok_or(Wrong::new(CUT, Part::Header, 0, Why::Cut))?;
+    if bytes[..4] != MAGIC_BYTES[..4] {
+        return Err(wrong(MAGIC)(0));
+    }
+    if bytes[4..20] != MAGIC_BYTES[4..] {
+        return Err(wrong(MAGIC)(4));
     }
     let header = Header {
         link_flags: u32_at(bytes, 20),
@@ -275,27 +268,34 @@ fn read_header(shortcut: &[u8]) -> Result<Header, u8> {
         show_command: u32_at(bytes, 60),
         hot_key: u16_at(bytes, 64),
     };
-    if header.follows_rules() && bytes[66..] == [0; 10] {
-        Ok(header)
-    } else {
-        Err(HEAD)
-    }
+    let reserved = (bytes[66..] != [0; 10]).then_some(66);
+    header.wrong_field().or(reserved).map_or(Ok(header), |field| Err(wrong(HEAD)(field)))
 }
 
 /// The length of an item list with its size field.
-fn item_list(rest: &[u8]) -> Result<usize, u8> {
-    let size = usize::from(u16_at(rest.get(..2).ok_or(CUT)?, 0));
-    let list = rest.get(2..2 + size).ok_or(CUT)?;
-    if ends_items(list) {
-        Ok(2 + size)
-    } else {
-        Err(ITEMS)
+fn item_list(rest: &[u8]) -> Result<usize, Wrong> {
+    let cut = |why| Wrong::new(CUT, Part::Items, 0, why);
+    let size = usize::from(u16_at(rest.get(..2).ok_or(cut(Why::Cut))?, 0));
+    let list = rest.get(2..2 + size).ok_or(cut(Why::Past))?;
+    match wrong_item(list) {
+        None => Ok(2 + size),
+        Some((at, why)) => Err(Wrong::new(ITEMS, Part::Items, 2 + at, why)),
     }
 }
 
-/// Items, with two zero bytes after the last.
-fn ends_items(list: &[u8]) -> bool {
-    list.ends_with(&[0, 0]) && are_items(&list[..list.len() - 2])
+/// Where a list goes wrong that should have items, and two zero bytes after the last.
+fn wrong_item(list: &[u8]) -> Option<(usize, Why)> {
+    let mut at = 0;
+    while let [low, high, ref after @ ..] = list[at..] {
+        match usize::from(u16::from_le_bytes([low, high])) {
+            0 if after.is_empty() => return None,
+            0 => return Some((at, Why::Zero)),
+            1 => return Some((at, Why::Small)),
+            size if size > 2 + after.len() => return Some((at, Why::Past)),
+            size => at += size,
+        }
+    }
+    Some((at, Why::Lacking))
 }
 
 fn are_items(body: &[u8]) -> bool {
@@ -314,31 +314,36 @@ fn are_items(body: &[u8]) -> bool {
 }
 
 /// The length of a string with its count.
-fn string(rest: &[u8], width: usize) -> Result<usize, u8> {
-    let count = usize::from(u16_at(rest.get(..2).ok_or(CUT)?, 0));
+fn string(rest: &[u8], width: usize) -> Result<usize, Wrong> {
+    let cut = |why| Wrong::new(CUT, Part::String, 0, why);
+    let count = usize::from(u16_at(rest.get(..2).ok_or(cut(Why::Cut))?, 0));
     let length = 2 + count * width;
     if length > rest.len() {
-        return Err(CUT);
+        return Err(cut(Why::Past));
     }
     Ok(length)
 }
 
 fn walk_blocks<V: Visit>(shortcut: &[u8], start: usize, visit: &mut V) -> Result<usize, Refusal> {
     let mut at = start;
+    let wrong_end = |at, number, field, why| {
+        let wrong = Wrong::new(number, Part::End, field, why);
+        Refusal::in_section(SECTION_END, at)(wrong)
+    };
     loop {
         let rest = &shortcut[at..];
-        let size = u32_at(rest.get(..4).ok_or_else(|| Refusal::at(at)(CUT))?, 0) as usize;
+        let size = u32_at(rest.get(..4).ok_or_else(|| wrong_end(at, CUT, 0, Why::Cut))?, 0) as usize;
         if size < 4 {
             break;
         }
-        let signature = judge_block(rest, size).map_err(Refusal::at(at))?;
+        let signature = judge_block(rest, size).map_err(Refusal::in_section(SECTION_BLOCK, at))?;
         visit.section(SECTION_BLOCK, at, size);
         visit.block(at, signature);
         at += size;
     }
     let end = at + 4;
     if end < shortcut.len() {
-        return Err(Refusal { number: TRAIL, position: end });
+        return Err(wrong_end(at, TRAIL, 4, Why::Value));
     }
     visit.blocks(Body::new(start, at - start));
     visit.section(SECTION_END, at, 4);
@@ -347,24 +352,25 @@ fn walk_blocks<V: Visit>(shortcut: &[u8], start: usize, visit: &mut V) -> Result
 
 /// The signature of a block of this size, not the terminal one, at the start of the rest.
 #[inline(always)]
-fn judge_block(rest: &[u8], size: usize) -> Result<u32, u8> {
+fn judge_block(rest: &[u8], size: usize) -> Result<u32, Wrong> {
     if size < 8 {
-        return Err(BLOCK);
+        return Err(Wrong::new(BLOCK, Part::Block, 0, Why::Small));
     }
-    let block = rest.get(..size).ok_or(CUT)?;
+    let block = rest.get(..size).ok_or(Wrong::new(CUT, Part::Block, 0, Why::Past))?;
     let signature = u32_at(block, 4);
-    if fits_signature(block, signature) {
-        Ok(signature)
-    } else {
-        Err(BLOCK)
+    if !fits_signature(size, signature) {
+        return Err(Wrong::new(BLOCK, Part::Block, 0, Why::Value));
+    }
+    match wrong_inside(block, signature) {
+        None => Ok(signature),
+        Some((at, why)) => Err(Wrong::new(BLOCK, Part::Block, at, why)),
     }
 }
 
 #[inline(always)]
-fn fits_signature(block: &[u8], signature: u32) -> bool {
-    let size = block.len();
+fn fits_signature(size: usize, signature: u32) -> bool {
     match signature {
-        0xA000_0001 | 0xA000_0006 | 0xA000_0007 => size == 0x314 && texts_end(block),
+        0xA000_0001 | 0xA000_0006 | 0xA000_0007 => size == 0x314,
         0xA000_0002 => size == 0xCC,
         0xA000_0003 => size == 0x60,
         0xA000_0004 => size == 0x0C,
@@ -372,13 +378,28 @@ fn fits_signature(block: &[u8], signature: u32) -> bool {
         0xA000_0008 => size >= 0x88,
         0xA000_0009 => size >= 0x0C,
         0xA000_000B => size == 0x1C,
-        0xA000_000C => size >= 0x0A && ends_items(&block[8..]),
+        0xA000_000C => size >= 0x0A,
         _ => true,
     }
 }
 
-fn texts_end(block: &[u8]) -> bool {
-    block[8..268].contains(&0) && block[268..788].chunks_exact(2).any(|unit| unit == [0, 0])
+/// Where a block whose size fits its signature goes wrong after these two.
+#[inline(always)]
+fn wrong_inside(block: &[u8], signature: u32) -> Option<(usize, Why)> {
+    match signature {
+        0xA000_0001 | 0xA000_0006 | 0xA000_0007 => endless_text(block).map(|at| (at, Why::Unended)),
+        0xA000_000C => wrong_item(&block[8..]).map(|(at, why)| (8 + at, why)),
+        _ => None,
+    }
+}
+
+/// Where the first text of a block of 0x314 bytes stands that has no zero.
+fn endless_text(block: &[u8]) -> Option<usize> {
+    if !block[8..268].contains(&0) {
+        return Some(8);
+    }
+    let ends = block[268..788].chunks_exact(2).any(|unit| unit == [0, 0]);
+    (!ends).then_some(268)
 }
 
 /// Blocks end to end, none of them terminal.

@@ -35,7 +35,17 @@ pub struct Header {
 
 impl Header {
     pub fn follows_rules(&self) -> bool {
-        self.link_flags & 0xF800_0000 == 0 && self.file_attributes & 0xFFFF_8048 == 0 && is_hot_key(self.hot_key)
+        self.wrong_field().is_none()
+    }
+
+    /// The first field against its rule, by its place in the header.
+    pub fn wrong_field(&self) -> Option<usize> {
+        let rules = [
+            (self.link_flags & 0xF800_0000 == 0, 20),
+            (self.file_attributes & 0xFFFF_8048 == 0, 24),
+            (is_hot_key(self.hot_key), 64),
+        ];
+        rules.iter().find(|(holds, _)| !holds).map(|&(_, field)| field)
     }
 }
 

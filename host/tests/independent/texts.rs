@@ -9,7 +9,8 @@ fn refused(refusal: Refusal) -> Vec<u8> {
 }
 
 pub fn listing_text(shortcut: &[u8]) -> Vec<u8> {
-    let line = |(name, start, length): (u8, usize, usize)| format!("{} {} {}\n", NAMES[usize::from(name)], start, length);
+    let line =
+        |(name, start, length): (u8, usize, usize)| format!("{} {} {}\n", NAMES[usize::from(name)], start, length);
     let accepted = |rows: Vec<_>| format!("ok {}\n", shortcut.len()) + &rows.into_iter().map(line).collect::<String>();
     sections(shortcut).map(|rows| accepted(rows).into_bytes()).unwrap_or_else(refused)
 }
@@ -17,7 +18,9 @@ pub fn listing_text(shortcut: &[u8]) -> Vec<u8> {
 pub fn key_text(shortcut: &[u8]) -> Vec<u8> {
     let mut out = vec![0; LIMIT];
     match key(shortcut, &mut out) {
-        Ok(length) => (out[..length].iter().map(|byte| format!("{:02x}", byte)).collect::<String>() + "\n").into_bytes(),
+        Ok(length) => {
+            (out[..length].iter().map(|byte| format!("{:02x}", byte)).collect::<String>() + "\n").into_bytes()
+        }
         Err(refusal) => refused(refusal),
     }
 }

@@ -48,7 +48,7 @@ struct NetworkContents<'a> {
 }
 
 pub fn write(record: &Record, body: &[u8], out: &mut [u8]) -> Result<usize, Refusal> {
-    let refuse = Refusal::at(0);
+    let refuse = Refusal::nowhere;
     let mut contents = Contents::default();
     contents.gather(record, body).ok_or_else(|| refuse(PLACE))?;
     let length = contents.length();

@@ -504,7 +504,9 @@ impl Draft {
         for byte in &mut self.bytes[start + 8..start + 788] {
             *byte |= 1;
         }
-        let slips = [self.slip(random), self.slip(random)];
+        let mut slips = [self.slip(random), self.slip(random)];
+        // Often both, so that it is seen which text is tested first.
+        slips[1] |= slips[0] && random.chance(40);
         let byte = random.pick(&[0, 1, 9, 100, 259, 259]);
         let unit = random.pick(&[0, 100, 259, 259]);
         if !slips[0] {

@@ -17,12 +17,41 @@ pub fn damage(draft: &mut Draft, random: &mut Random) {
     }
 }
 
+/// Two or three faults in one section, so that the order of its tests is seen.
+pub fn several(draft: &mut Draft, random: &mut Random) {
+    let in_info = !draft.pieces.is_empty() && random.chance(75);
+    for _ in 0..random.from_to(2, 3) {
+        match in_info {
+            true => info(draft, random),
+            false => header(draft, random),
+        }
+    }
+}
+
+/// A fault in LinkInfo, whose pieces there are.
+fn info(draft: &mut Draft, random: &mut Random) {
+    let from = draft.pieces.iter().map(|piece| piece.base).min().unwrap_or(0);
+    let to = draft.pieces.iter().map(|piece| piece.end).max().unwrap_or(0);
+    match random.below(100) {
+        0..=54 => edge_between(draft, random, from, to),
+        55..=74 => overlap(draft, random),
+        75..=89 => text(draft, random),
+        _ => absent_offset(draft, random),
+    }
+}
+
 /// A size, count, offset or flag field at one of its edges.
 fn edge(draft: &mut Draft, random: &mut Random) {
-    if draft.fields.is_empty() {
+    edge_between(draft, random, 0, draft.bytes.len());
+}
+
+/// The same for a field between two places.
+fn edge_between(draft: &mut Draft, random: &mut Random, from: usize, to: usize) {
+    let fields: Vec<Field> = draft.fields.iter().copied().filter(|field| (from..to).contains(&field.at)).collect();
+    if fields.is_empty() {
         return flip(draft, random);
     }
-    let field = random.pick(&draft.fields);
+    let field = random.pick(&fields);
     let now = number_at(draft, field.at, field.width);
     let values = [
         now.wrapping_sub(1),

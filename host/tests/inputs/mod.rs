@@ -25,7 +25,11 @@ pub fn input(number: u64) -> Vec<u8> {
     let mut draft = Draft::build(&mut random);
     let percent = if draft.bytes.len() > 60_000 { 25 } else { 60 };
     if random.chance(percent) {
-        damage::damage(&mut draft, &mut random);
+        if random.chance(15) {
+            damage::several(&mut draft, &mut random);
+        } else {
+            damage::damage(&mut draft, &mut random);
+        }
         if random.chance(8) && draft.forget_lost_notes() {
             damage::damage(&mut draft, &mut random);
         }

@@ -54,10 +54,14 @@ fn imported(module: &str, names: &str) -> Vec<(String, Name)> {
     pairs.filter_map(|(name, here)| owner.map(|owner| (here.to_string(), whole(owner, name)))).collect()
 }
 
-/// The names that a text uses, of those that are at hand; an operator is used without its underscores.
+/// The names that a text uses, of those that are at hand; an operator is used without its underscores, one of several parts by its first.
 pub fn used(text: &str, at_hand: &BTreeMap<String, Name>) -> Vec<Name> {
-    let both = words(text).flat_map(|word| [word.to_string(), format!("_{}_", word)]);
-    both.filter_map(|word| at_hand.get(&word).cloned()).collect()
+    let several = |word: &str| {
+        let begins = format!("_{}_", word);
+        at_hand.keys().find(|name| name.len() > begins.len() && name.starts_with(&begins)).cloned()
+    };
+    let all = words(text).flat_map(|word| [Some(word.to_string()), Some(format!("_{}_", word)), several(word)]);
+    all.flatten().filter_map(|word| at_hand.get(&word).cloned()).collect()
 }
 
 /// The name that a line begins to define, if it does.

@@ -1,15 +1,21 @@
 -- The walk passes all blocks and stops where none stands; what stands there, told by one more step, is the answer.
+use mathlib.Core.Path.{sym}
+use native.Mathlib.Omega.{arith}
+use lib.Seq.{length-take-le}
 use Rattle.blocks.proofs.StepLaws.{tail-part, by-block, by-end, by-fault}
-use Rattle.blocks.proofs.WalkLaws.{read-nowhere, read-end, read-stopped, read-wrong}
+use Rattle.blocks.proofs.WalkLaws.{read-nowhere, read-end, read-stopped, rule-there, wrong-near, read-wrong}
 use borrow.Author.Needs.{needs}
 use Rattle.blocks.proofs.blocks.Statement.{statement}
 use Rattle.blocks.proofs.blocks.Tie as tie
+
+size-spot-requires : tie.Need-size-spot-requires
+size-spot-requires c κs = search needs
 
 stopped-requires : tie.Need-stopped-requires
 stopped-requires c κs = search needs
 
 returns : tie.Need-returns
-returns c = rw (c .stopped .ensures) (read-nowhere _ _ (c .before .if1 .taken))
+returns c = rw (c .stopped .ensures, c .before .size-spot .ensures) (read-nowhere _ _ (c .before .before .if1 .taken))
 
 no-firsts-requires : tie.Need-no-firsts-requires
 no-firsts-requires c κs = search needs
@@ -17,14 +23,14 @@ no-firsts-requires c κs = search needs
 run-requires : tie.Need-run-requires
 run-requires c κs = search needs
 
-sub-step : tie.Need-sub-step
-sub-step c = search needs
+sub-rest : tie.Need-sub-rest
+sub-rest c = search needs
 
-part-step-start : tie.Need-part-step-start
-part-step-start c = search needs
+part-rest-start : tie.Need-part-rest-start
+part-rest-start c = search needs
 
-part-step-end : tie.Need-part-step-end
-part-step-end c = search needs
+part-rest-end : tie.Need-part-rest-end
+part-rest-end c = search needs
 
 step-requires : tie.Need-step-requires
 step-requires c κs = search needs
@@ -38,11 +44,36 @@ read-to-requires c κs = search needs
 enum-known-f : tie.Need-enum-known-f
 enum-known-f c = search needs
 
+size-spot-requires-2 : tie.Need-size-spot-requires-2
+size-spot-requires-2 c κs = search needs
+
 stopped-requires-2 : tie.Need-stopped-requires-2
 stopped-requires-2 c κs = search needs
 
-enum-told-2 : tie.Need-enum-told-2
-enum-told-2 c = search needs
+enum-known-n : tie.Need-enum-known-n
+enum-known-n c = search needs
+
+slice-aggregate-held-wrong : tie.Need-slice-aggregate-held-wrong
+slice-aggregate-held-wrong c =
+    let after-n = c .before .before in
+    let z = by-block _ (after-n .before .before .step .ensures) (after-n .n .given .1) in
+    sym (length-take-le _ _ (z .inside))
+
+held-wrong-requires : tie.Need-held-wrong-requires
+held-wrong-requires c κs =
+    let after-n = c .before .before in
+    let after-step = after-n .before .before in
+    let r = after-step .before .before .run .ensures in
+    let z = by-block _ (after-step .step .ensures) (after-n .n .given .1) in
+    rw (length-take-le _ _ (z .inside)) (rule-there _ _ (r .0) (rw tail-part at z) (r .1), z .fits)
+
+spot-at-requires : tie.Need-spot-at-requires
+spot-at-requires c κs =
+    let after-n = c .before .before .before in
+    let after-step = after-n .before .before in
+    let r = after-step .before .before .run .ensures in
+    let z = by-block _ (rw tail-part at (after-step .step .ensures)) (after-n .n .given .1) in
+    omega (arith, wrong-near _ _ (r .0) z (rw tail-part at (c .held-wrong .ensures)))
 
 stopped-requires-3 : tie.Need-stopped-requires-3
 stopped-requires-3 c κs = search needs
@@ -58,33 +89,43 @@ returns-2 c =
 
 returns-3 : tie.Need-returns-3
 returns-3 c =
-    let after-step = c .before .before .before .before in
+    let after-f = c .before .before .before in
+    let after-step = after-f .before .before in
     let r = after-step .before .before .run .ensures in
-    rw (c .stopped2 .ensures) (read-stopped _ _ (r .0) (by-fault _ (rw tail-part at (after-step .step .ensures)) (c .before .before .f .given .1)))
+    let h = by-fault _ (rw tail-part at (after-step .step .ensures)) (after-f .f .given .1) _ in
+    rw (c .stopped2 .ensures, rw tail-part at (c .before .size-spot2 .ensures)) (read-stopped _ _ (r .0) h)
 
 returns-4 : tie.Need-returns-4
 returns-4 c =
-    let after-step = c .before .before .before in
+    let after-held = c .before .before in
+    let after-n = after-held .before .before .before in
+    let after-step = after-n .before .before in
     let r = after-step .before .before .run .ensures in
-    rw (c .stopped3 .ensures) (read-wrong _ _ (r .0) (r .1) (by-block _ (rw tail-part at (after-step .step .ensures)) (c .before .enum-told2 .given .1)))
+    let z = by-block _ (rw tail-part at (after-step .step .ensures)) (after-n .n .given .1) in
+    rw (c .stopped3 .ensures, c .before .spot-at .ensures) (read-wrong _ _ (r .0) z (rw tail-part at (after-held .held-wrong .ensures)) (r .1))
 
 pub blocks-spec : {M : Type 1} → statement M
 blocks-spec =
     tie.close
     (tie.spec
+    size-spot-requires
     stopped-requires
     returns
     no-firsts-requires
     run-requires
-    sub-step
-    part-step-start
-    part-step-end
+    sub-rest
+    part-rest-start
+    part-rest-end
     step-requires
     enum-told
     read-to-requires
     enum-known-f
+    size-spot-requires-2
     stopped-requires-2
-    enum-told-2
+    enum-known-n
+    slice-aggregate-held-wrong
+    held-wrong-requires
+    spot-at-requires
     stopped-requires-3
     returns-2
     returns-3

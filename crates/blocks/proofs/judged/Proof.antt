@@ -12,18 +12,18 @@ step-requires c κs = search needs
 enum-known-n : tie.Need-enum-known-n
 enum-known-n c = search needs
 
-slice-aggregate-inside-ok : tie.Need-slice-aggregate-inside-ok
-slice-aggregate-inside-ok c = let z = by-block _ (c .before .before .before .before .step .ensures) (c .before .before .n .given .1) in sym (length-take-le _ _ (z .inside))
+slice-aggregate-inside-wrong : tie.Need-slice-aggregate-inside-wrong
+slice-aggregate-inside-wrong c = let z = by-block _ (c .before .before .before .before .step .ensures) (c .before .before .n .given .1) in sym (length-take-le _ _ (z .inside))
 
-inside-ok-requires : tie.Need-inside-ok-requires
-inside-ok-requires c κs = let z = by-block _ (c .before .before .before .before .step .ensures) (c .before .before .n .given .1) in rw (length-take-le _ _ (z .inside)) (z .fits)
+inside-wrong-requires : tie.Need-inside-wrong-requires
+inside-wrong-requires c κs = let z = by-block _ (c .before .before .before .before .step .ensures) (c .before .before .n .given .1) in rw (length-take-le _ _ (z .inside)) (z .fits)
 
 returns : tie.Need-returns
 returns c =
-    let after-inside-ok = c .before in
-    let after-n = after-inside-ok .before .before .before in
+    let after-inside-wrong = c .before in
+    let after-n = after-inside-wrong .before .before .before in
     let after-step = after-n .before .before in
-    let z = by-block _ (after-step .step .ensures) (after-n .n .given .1) in (z, holds-right _ z (after-inside-ok .inside-ok .ensures) (c .if1 .taken))
+    let z = by-block _ (after-step .step .ensures) (after-n .n .given .1) in (z, holds-right _ z (after-inside-wrong .inside-wrong .ensures) (c .if1 .taken))
 
 enum-told : tie.Need-enum-told
 enum-told c = search needs
@@ -33,16 +33,16 @@ enum-known-f c = search needs
 
 returns-2 : tie.Need-returns-2
 returns-2 c =
-    let after-inside-ok = c .before in
-    let after-n = after-inside-ok .before .before .before in
+    let after-inside-wrong = c .before in
+    let after-n = after-inside-wrong .before .before .before in
     let after-step = after-n .before .before in
-    let z = by-block _ (after-step .step .ensures) (after-n .n .given .1) in holds-wrong _ z (after-inside-ok .inside-ok .ensures) (c .if1 .left)
+    let z = by-block _ (after-step .step .ensures) (after-n .n .given .1) in λ p. (_, holds-wrong _ z (after-inside-wrong .inside-wrong .ensures) (c .if1 .left) p)
 
 returns-3 : tie.Need-returns-3
 returns-3 c = by-end _ (c .before .before .step .ensures) (c .enum-told .given .1)
 
 returns-4 : tie.Need-returns-4
-returns-4 c = by-fault _ (c .before .before .before .step .ensures) (c .before .f .given .1)
+returns-4 c = λ p. (_, by-fault _ (c .before .before .before .step .ensures) (c .before .f .given .1) p)
 
 pub judged-spec : {M : Type 1} → statement M
 judged-spec =
@@ -50,8 +50,8 @@ judged-spec =
     (tie.spec
     step-requires
     enum-known-n
-    slice-aggregate-inside-ok
-    inside-ok-requires
+    slice-aggregate-inside-wrong
+    inside-wrong-requires
     returns
     enum-told
     enum-known-f

@@ -2,15 +2,16 @@
 use Prim.Native.Nat.{ℕ, zero, suc, _+_, _-_, _≤_}
 use mathlib.Core.Path.{_≡_}
 use mathlib.Core.List.{List, [], _∷_, _++_}
-use mathlib.Core.Bool.{true, cond}
+use mathlib.Core.Bool.{Bool, true, _||_, cond}
 use lib.ListN.{length, drop, getD, set}
 use lib.Dec.{eqb, leb, ltb}
 use Rattle.octets.specs.Numbers.{u32At}
 use Rattle.format.specs.declared.Fault.{Fault}
 use Rattle.format.specs.declared.Fault.the-variants.{Cut as CUT, Block as BLOCK}
 use Rattle.format.specs.declared.Place.{Place}
-use Rattle.format.specs.Tests.{_else_, tests, Outcome, got, refused, andThen, place, noPlace}
-use Rattle.format.specs.Blocks.{slotOf, sizeFits, slotAt, blockSize, Standing, aBlock, aTerminal, blockStep, blocks}
+use Rattle.format.specs.declared.Spot.{Spot}
+use Rattle.format.specs.Tests.{_else_at_, Site, spotAt, tests, Outcome, got, refused, andThen, place, noPlace}
+use Rattle.format.specs.Blocks.{slotOf, sizeFits, slotAt, blockSize, Standing, aBlock, aTerminal, block, terminal, blockStep, blocks}
 use Rattle.format.specs.Numbers.{numberOf}
 use Rattle.format.specs.Steps.Firsts.{firsts}
 use Rattle.format.specs.Steps.Answers.{Answers, takenNumber, takenValue}
@@ -20,6 +21,10 @@ use Rattle.blocks.specs.declared.BlockStep.the-variants.{Block, Terminal
 use Rattle.format.specs.declared.Taken.{Taken}
 use Rattle.format.specs.declared.Taken.the-variants.{Got, Refused}
 use Rattle.blocks.specs.declared.BlocksRead.{BlocksRead}
+
+-- the slots of blocks that have a rule for what they hold: two texts, or items
+abbrev pub hasRule : ℕ → Bool
+hasRule slot = eqb slot 0 || eqb slot 5 || eqb slot 6 || eqb slot 10
 
 -- ---- the step, at the start of s
 
@@ -40,8 +45,8 @@ stepOf slot (refused f q) = NotOne f
 abbrev pub sizeStep : List ℕ → Outcome Standing
 sizeStep s =
     let n = blockSize s in
-    tests 0 (leb 4 (length s) else CUT ∷ [])
-    (cond (ltb n 4) (got aTerminal 4) (tests 0 (leb 8 n else BLOCK ∷ leb n (length s) else CUT ∷ sizeFits (slotAt s) n else BLOCK ∷ []) (got aBlock n)))
+    tests (terminal 0) (leb 4 (length s) else CUT at 0 ∷ [])
+    (cond (ltb n 4) (got aTerminal 4) (tests (block 0) (leb 8 n else BLOCK at 0 ∷ leb n (length s) else CUT at 0 ∷ sizeFits (slotAt s) n else BLOCK at 0 ∷ []) (got aBlock n)))
 
 unfoldable pub bySize : List ℕ → BlockStep
 bySize s = stepOf (slotAt s) (sizeStep s)
@@ -60,16 +65,21 @@ stepValue (NotOne f) = 0
 abbrev pub StepAnswer : List ℕ → BlockStep → Type 0
 StepAnswer s t = Answers stepNumber stepValue 0 (sizeStep s) (bySize s) t
 
+-- the section whose size is wrong: where not even a size is left, the terminal
+abbrev pub stepSite : ℕ → ℕ → Site
+stepSite p left = cond (leb 4 left) (block p) (terminal p)
+
 -- what reading says of that step
 abbrev pub Told : List ℕ → BlockStep → Type 0
 Told s (Block n k) = Sized s n k
 Told s Terminal = (p : ℕ) → blockStep p s ≡ got aTerminal 4
-Told s (NotOne f) = (p : ℕ) → blockStep p s ≡ refused f p
+Told s (NotOne f) = (p : ℕ) → blockStep p s ≡ refused f (spotAt (stepSite p (length s)) 0)
 
+-- what stands here; where a refusal stands is not told
 abbrev pub Stands : List ℕ → BlockStep → Type 0
 Stands s (Block n k) = Sized s n k × ((p : ℕ) → blockStep p s ≡ got aBlock n)
 Stands s Terminal = (p : ℕ) → blockStep p s ≡ got aTerminal 4
-Stands s (NotOne f) = (p : ℕ) → blockStep p s ≡ refused f p
+Stands s (NotOne f) = (p : ℕ) → (q : Spot) × (blockStep p s ≡ refused f q)
 
 abbrev pub NoBlock : List ℕ → ℕ → Type 0
 NoBlock s p = (n : ℕ) → blockStep p (drop p s) ≡ got aBlock n → ⊥
@@ -135,8 +145,8 @@ BlocksAnswer s p r = Answers (λ (b : BlocksRead). takenNumber (b .taken)) (λ (
 abbrev pub readTo : ℕ → ℕ → List ℕ → BlocksRead
 readTo a p row = record { taken = Got (place a (p - a)) (record { at = p + 4 }); firsts = row }
 
-abbrev pub stoppedAt : Fault → ℕ → BlocksRead
-stoppedAt f p = record { taken = Refused f p; firsts = noFirsts }
+abbrev pub stoppedAt : Fault → Spot → BlocksRead
+stoppedAt f q = record { taken = Refused f q; firsts = noFirsts }
 
 -- ---- one of the blocks
 

@@ -9,7 +9,7 @@ use Rattle.format.specs.Numbers.{numberOf, outcomeNumber}
 -- where a reading from p on ends, or the position of its refusal
 abbrev pub outcomeEnd : {A : Type 0} → ℕ → Outcome A → ℕ
 outcomeEnd p (got a n) = p + n
-outcomeEnd p (refused f q) = q
+outcomeEnd p (refused f q) = q .position
 
 -- r is e, the outcome o of reading from p on; its type says what the number and the value of each of its cases are
 pub record Answers {R A : Type 0} (numberIn valueIn : R → ℕ) (p : ℕ) (o : Outcome A) (e r : R) : Type 0 where
@@ -24,4 +24,4 @@ takenNumber (Refused f q) = numberOf f
 -- where the section ends, or the position of a refusal
 unfoldable pub takenValue : Taken → ℕ
 takenValue (Got b c) = c .at
-takenValue (Refused f q) = q
+takenValue (Refused f q) = q .position

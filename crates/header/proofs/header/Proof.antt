@@ -8,8 +8,12 @@ use borrow.Author.Needs.{needs}
 use Rattle.header.proofs.header.Statement.{statement}
 use Rattle.header.proofs.header.Tie as tie
 
+spot-at-requires : tie.Need-spot-at-requires
+spot-at-requires c κs = search needs
+
 returns : tie.Need-returns
-returns c = header-cut _ (omega arith)
+returns c =
+    header-cut _ (omega arith) (c .spot-at .ensures)
 
 slice-aggregate-l : tie.Need-slice-aggregate-l
 slice-aggregate-l c = sym (length-take-le 76 (c .before .before .before .args .s .now) (omega arith))
@@ -20,26 +24,39 @@ u32-at-requires c κs = simp length-take (omega arith)
 header-size-ok-requires : tie.Need-header-size-ok-requires
 header-size-ok-requires c κs = search needs
 
+spot-at-requires-2 : tie.Need-spot-at-requires-2
+spot-at-requires-2 c κs = search needs
+
 returns-2 : tie.Need-returns-2
-returns-2 c = header-size _ (omega arith) (c .before .before .u32-at .ensures) (c .before .header-size-ok .ensures) (c .if2 .taken)
+returns-2 c =
+    let then = c .before in
+    header-size _ (omega arith) (then .before .before .u32-at .ensures) (then .before .header-size-ok .ensures) (then .if2 .taken) (c .spot-at2 .ensures)
 
 identifier-ok-requires : tie.Need-identifier-ok-requires
 identifier-ok-requires c κs = simp length-take (omega arith)
 
+spot-at-requires-3 : tie.Need-spot-at-requires-3
+spot-at-requires-3 c κs = search needs
+
 returns-3 : tie.Need-returns-3
 returns-3 c =
-    let size = c .before .before in
-    header-identifier _ (omega arith) (size .before .before .u32-at .ensures) (size .before .header-size-ok .ensures) (size .if2 .left) (c .before .identifier-ok .ensures) (c .if3 .taken)
+    let then = c .before in
+    let size = then .before .before in
+    header-identifier _ (omega arith) (size .before .before .u32-at .ensures) (size .before .header-size-ok .ensures) (size .if2 .left) (then .before .identifier-ok .ensures) (then .if3 .taken) (c .spot-at3 .ensures)
 
-head-ok-requires : tie.Need-head-ok-requires
-head-ok-requires c κs = simp length-take (omega arith)
+head-wrong-requires : tie.Need-head-wrong-requires
+head-wrong-requires c κs = simp length-take (omega arith)
+
+spot-at-requires-4 : tie.Need-spot-at-requires-4
+spot-at-requires-4 c κs = search needs
 
 returns-4 : tie.Need-returns-4
 returns-4 c =
-    let identifier = c .before .before in
+    let then = c .before in
+    let identifier = then .before .before in
     let size = identifier .before .before in
     header-head _ (omega arith) (size .before .before .u32-at .ensures) (size .before .header-size-ok .ensures) (size .if2 .left) (identifier .before .identifier-ok .ensures) (identifier .if3 .left)
-    (c .before .head-ok .ensures) (c .if4 .taken)
+    (then .before .head-wrong .ensures) (then .if4 .taken) (c .spot-at4 .ensures)
 
 header-fields-requires : tie.Need-header-fields-requires
 header-fields-requires c κs = simp length-take (omega arith)
@@ -50,20 +67,24 @@ returns-5 c =
     let identifier = head .before .before in
     let size = identifier .before .before in
     header-got _ (omega arith) (size .before .before .u32-at .ensures) (size .before .header-size-ok .ensures) (size .if2 .left) (identifier .before .identifier-ok .ensures) (identifier .if3 .left)
-    (head .before .head-ok .ensures) (head .if4 .left) (c .header-fields .ensures)
+    (head .before .head-wrong .ensures) (head .if4 .left) (c .header-fields .ensures)
 
 pub header-spec : {M : Type 1} → statement M
 header-spec =
     tie.close
     (tie.spec
+    spot-at-requires
     returns
     slice-aggregate-l
     u32-at-requires
     header-size-ok-requires
+    spot-at-requires-2
     returns-2
     identifier-ok-requires
+    spot-at-requires-3
     returns-3
-    head-ok-requires
+    head-wrong-requires
+    spot-at-requires-4
     returns-4
     header-fields-requires
     returns-5)

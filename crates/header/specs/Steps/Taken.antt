@@ -23,7 +23,7 @@ headerNumber (Refused f q) = numberOf f
 -- where the header ends, or the position of a refusal
 unfoldable pub headerValue : HeaderTaken → ℕ
 headerValue (Got h c) = c .at
-headerValue (Refused f q) = q
+headerValue (Refused f q) = q .position
 
 abbrev pub HeaderAnswer : List ℕ → HeaderTaken → Type 0
 HeaderAnswer s r = Answers headerNumber headerValue 0 (header 0 s) (headerAt s) r

@@ -15,9 +15,8 @@ add-if1-2 c = search needs
 
 returns : tie.Need-returns
 returns c =
-    let four = c .before .before .before in
-    let z = four .before .args in
-    six-as-four (z .a) (z .b) (z .c) (z .d) (z .e) (z .f) (four .apart-four .ensures) (c .if1 .taken)
+    let after-apart-four = c .before .before .before in
+    six-as-four (after-apart-four .before .args .a) (after-apart-four .before .args .b) (after-apart-four .before .args .c) (after-apart-four .before .args .d) (after-apart-four .before .args .e) (after-apart-four .before .args .f) (after-apart-four .apart-four .ensures) (c .if1 .taken)
 
 apart-requires : tie.Need-apart-requires
 apart-requires c κs = search needs
@@ -46,15 +45,31 @@ apart-requires-8 c κs = search needs
 apart-requires-9 : tie.Need-apart-requires-9
 apart-requires-9 c κs = search needs
 
+unless-requires : tie.Need-unless-requires
+unless-requires c κs = search needs
+
+unless-requires-2 : tie.Need-unless-requires-2
+unless-requires-2 c κs = search needs
+
+first-requires : tie.Need-first-requires
+first-requires c κs = search needs
+
 returns-2 : tie.Need-returns-2
 returns-2 c =
-    let fifth = c .before .before .before .before in
-    let first = fifth .before .before .before .before in
-    let four = first .before .before .before .before in
-    let z = four .before .args in
-    six-apart (z .a) (z .b) (z .c) (z .d) (z .e) (z .f) (four .apart-four .ensures) (first .apart .ensures) (fifth .before .before .before .apart2 .ensures)
-    (fifth .before .before .apart3 .ensures) (fifth .before .apart4 .ensures) (fifth .apart5 .ensures) (c .before .before .before .apart6 .ensures)
-    (c .before .before .apart7 .ensures) (c .before .apart8 .ensures) (c .apart9 .ensures)
+    let after-unless = c .before .before in
+    let after-apart9 = after-unless .before in
+    let after-apart8 = after-apart9 .before in
+    let after-apart7 = after-apart8 .before in
+    let after-apart6 = after-apart7 .before in
+    let after-apart5 = after-apart6 .before in
+    let after-apart4 = after-apart5 .before in
+    let after-apart3 = after-apart4 .before in
+    let after-apart2 = after-apart3 .before in
+    let after-apart = after-apart2 .before in
+    let after-apart-four = after-apart .before .before .before .before in
+    six-apart (after-apart-four .before .args .a) (after-apart-four .before .args .b) (after-apart-four .before .args .c) (after-apart-four .before .args .d) (after-apart-four .before .args .e) (after-apart-four .before .args .f)
+    (after-apart-four .apart-four .ensures) (after-apart .apart .ensures) (after-apart2 .apart2 .ensures) (after-apart3 .apart3 .ensures) (after-apart4 .apart4 .ensures) (after-apart5 .apart5 .ensures) (after-apart6 .apart6 .ensures) (after-apart7 .apart7 .ensures) (after-apart8 .apart8 .ensures) (after-apart9 .apart9 .ensures)
+    (after-unless .unless .ensures) (c .before .unless2 .ensures) (c .first .ensures)
 
 pub apart-six-spec : {M : Type 1} → statement M
 apart-six-spec =
@@ -73,4 +88,7 @@ apart-six-spec =
     apart-requires-7
     apart-requires-8
     apart-requires-9
+    unless-requires
+    unless-requires-2
+    first-requires
     returns-2)

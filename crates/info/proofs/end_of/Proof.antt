@@ -7,7 +7,7 @@ use Rattle.info.proofs.end_of.Statement.{statement}
 use Rattle.info.proofs.end_of.Tie as tie
 
 returns : tie.Need-returns
-returns c = end-low _ _ _ _ (omega arith)
+returns c = end-low _ _ _ _ _ (omega arith)
 
 take-u32-requires : tie.Need-take-u32-requires
 take-u32-requires c κs = search needs
@@ -19,7 +19,9 @@ enum-told : tie.Need-enum-told
 enum-told c = search needs
 
 returns-2 : tie.Need-returns-2
-returns-2 c = end-cut _ _ _ _ (omega arith) (take-lost _ _ _ (c .before .before .take-u32 .ensures) (c .enum-told .given .1))
+returns-2 c =
+    let after-take-u32 = c .before .before in
+    end-cut _ _ _ _ _ (omega arith) (take-lost _ _ _ (after-take-u32 .take-u32 .ensures) (c .enum-told .given .1))
 
 cast-skip : tie.Need-cast-skip
 cast-skip c = search needs
@@ -35,23 +37,31 @@ enum-told-2 c = search needs
 
 returns-3 : tie.Need-returns-3
 returns-3 c =
-    let after-size = c .before .before .before .before in
-    let t = take-got _ _ _ (after-size .before .before .take-u32 .ensures) (after-size .size .given .1) in
-    end-past _ _ _ _ (omega arith) (t .0) (t .1) (skip-lost _ _ _ (c .before .before .skip .ensures) (c .enum-told2 .given .1))
+    let after-skip = c .before .before in
+    let after-size = after-skip .before .before in
+    let after-take-u32 = after-size .before .before in
+    let t = take-got _ _ _ (after-take-u32 .take-u32 .ensures) (after-size .size .given .1) in
+    end-past _ _ _ _ _ (omega arith) (t .0) (t .1) (skip-lost _ _ _ (after-skip .skip .ensures) (c .enum-told2 .given .1))
 
 returns-4 : tie.Need-returns-4
 returns-4 c =
-    let after-skip = c .before .before .before .before in
-    let t = take-got _ _ _ (after-skip .before .before .before .before .take-u32 .ensures) (after-skip .before .before .size .given .1) in
-    let u = skip-got _ _ _ (after-skip .skip .ensures) (c .before .before .next .given .1) in
-    end-small _ _ _ _ (omega arith) (t .0) (t .1) (u .0) (omega arith)
+    let after-next = c .before .before in
+    let after-skip = after-next .before .before in
+    let after-size = after-skip .before .before in
+    let after-take-u32 = after-size .before .before in
+    let t = take-got _ _ _ (after-take-u32 .take-u32 .ensures) (after-size .size .given .1) in
+    let u = skip-got _ _ _ (after-skip .skip .ensures) (after-next .next .given .1) in
+    end-small _ _ _ _ _ (omega arith) (t .0) (t .1) (u .0) (omega arith)
 
 returns-5 : tie.Need-returns-5
 returns-5 c =
-    let after-skip = c .before .before .before .before in
-    let t = take-got _ _ _ (after-skip .before .before .before .before .take-u32 .ensures) (after-skip .before .before .size .given .1) in
-    let u = skip-got _ _ _ (after-skip .skip .ensures) (c .before .before .next .given .1) in
-    end-at _ _ _ _ (omega arith) (t .0) (t .1) (u .0) (omega arith) (u .1)
+    let after-next = c .before .before in
+    let after-skip = after-next .before .before in
+    let after-size = after-skip .before .before in
+    let after-take-u32 = after-size .before .before in
+    let t = take-got _ _ _ (after-take-u32 .take-u32 .ensures) (after-size .size .given .1) in
+    let u = skip-got _ _ _ (after-skip .skip .ensures) (after-next .next .given .1) in
+    end-at _ _ _ _ _ (omega arith) (t .0) (t .1) (u .0) (omega arith) (u .1)
 
 pub end-of-spec : {M : Type 1} → statement M
 end-of-spec =

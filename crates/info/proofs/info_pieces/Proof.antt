@@ -5,14 +5,6 @@ use borrow.Author.Needs.{needs}
 use Rattle.info.proofs.info_pieces.Statement.{statement}
 use Rattle.info.proofs.info_pieces.Tie as tie
 
--- The head was read before the network link was looked for.
-abbrev head-read : tie.After-network → tie.After-u32-at
-head-read c =
-    let after-local = c .before .before .before in
-    let after-volume = after-local .before .before in
-    let after-both = after-volume .before .before in
-    after-both .before .before .before
-
 u32-at-requires : tie.Need-u32-at-requires
 u32-at-requires c κs = search needs
 
@@ -28,17 +20,11 @@ local-there-requires c κs = search needs
 local-unicode-there-requires : tie.Need-local-unicode-there-requires
 local-unicode-there-requires c κs = search needs
 
-u32-at-requires-3 : tie.Need-u32-at-requires-3
-u32-at-requires-3 c κs = search needs
-
-cast-volume : tie.Need-cast-volume
-cast-volume c = search needs
-
 volume-requires : tie.Need-volume-requires
 volume-requires c κs = search needs
 
-u32-at-requires-4 : tie.Need-u32-at-requires-4
-u32-at-requires-4 c κs = search needs
+u32-at-requires-3 : tie.Need-u32-at-requires-3
+u32-at-requires-3 c κs = search needs
 
 cast-text-at : tie.Need-cast-text-at
 cast-text-at c = search needs
@@ -49,78 +35,109 @@ text-at-requires c κs = search needs
 network-there-requires : tie.Need-network-there-requires
 network-there-requires c κs = search needs
 
-u32-at-requires-5 : tie.Need-u32-at-requires-5
-u32-at-requires-5 c κs = search needs
-
-cast-network : tie.Need-cast-network
-cast-network c = search needs
-
 network-requires : tie.Need-network-requires
 network-requires c κs = search needs
 
-u32-at-requires-6 : tie.Need-u32-at-requires-6
-u32-at-requires-6 c κs = head-read c .before .before .pre .0
+u32-at-requires-4 : tie.Need-u32-at-requires-4
+u32-at-requires-4 c κs =
+    let after-volume = c .before .before .before .before in
+    let after-u32-at = after-volume .before .before .before .before in
+    after-u32-at .before .before .pre .0
 
 cast-text-at-2 : tie.Need-cast-text-at-2
 cast-text-at-2 c = search needs
 
 text-at-requires-2 : tie.Need-text-at-requires-2
-text-at-requires-2 c κs = head-read (c .before) .before .before .pre .1
+text-at-requires-2 c κs =
+    let after-u32-at3 = c .before .before .before .before in
+    let after-u32-at2 = after-u32-at3 .before .before .before .before in
+    after-u32-at2 .before .before .before .pre .1
 
 field-requires : tie.Need-field-requires
 field-requires c κs =
-    let after-head = head-read (c .before .before) in
-    λ e. omega (arith, passed-room _ (after-head .u32-at .ensures) (after-head .before .before .pre .2) e)
+    let after-text-at = c .before .before .before .before in
+    let after-local-there = after-text-at .before .before .before .before in
+    let after-u32-at = after-local-there .before .before in
+    λ e. omega (arith, passed-room _ (after-u32-at .before .before .pre .2) (after-u32-at .u32-at .ensures) e)
 
 text-at-requires-3 : tie.Need-text-at-requires-3
-text-at-requires-3 c κs = head-read (c .before .before .before) .before .before .pre .1
+text-at-requires-3 c κs =
+    let after-network-there = c .before .before .before .before in
+    let after-local-unicode-there = after-network-there .before .before .before .before in
+    let after-shared-slice-known = after-local-unicode-there .before .before .before .before in
+    after-shared-slice-known .before .pre .1
 
 field-requires-2 : tie.Need-field-requires-2
 field-requires-2 c κs =
-    let after-head = head-read (c .before .before .before .before) in
-    passed-room _ (after-head .u32-at .ensures) (after-head .before .before .pre .2)
+    let after-network = c .before .before .before .before in
+    let after-volume = after-network .before .before .before .before in
+    let after-u32-at = after-volume .before .before .before .before in
+    passed-room _ (after-u32-at .before .before .pre .2) (after-u32-at .u32-at .ensures)
 
 text-at-requires-4 : tie.Need-text-at-requires-4
 text-at-requires-4 c κs =
-    let after-local-unicode = c .before in
-    head-read (after-local-unicode .before .before .before .before) .before .before .pre .1
+    let after-u32-at4 = c .before .before .before .before in
+    let after-u32-at3 = after-u32-at4 .before .before .before .before in
+    let after-u32-at2 = after-u32-at3 .before .before .before .before in
+    after-u32-at2 .before .before .before .pre .1
 
 apart-six-requires : tie.Need-apart-six-requires
 apart-six-requires c κs =
-    let after-known-2 = c .before .before .before .before in
-    let after-suffix-unicode = after-known-2 .before .before in
-    let after-local-unicode = after-suffix-unicode .before .before in
-    let after-suffix = after-local-unicode .before .before in
-    let after-network = after-suffix .before .before in
-    let after-local = after-network .before .before .before in
-    let after-volume = after-local .before .before in
-    (after-volume .volume .ensures .1, after-local .text-at .ensures .1, after-network .network .ensures .1, after-suffix .text-at2 .ensures .1, after-local-unicode .text-at3 .ensures .1, after-suffix-unicode .text-at4 .ensures .1)
+    let after-text-at3 = c .before .before in
+    let after-text-at2 = after-text-at3 .before .before in
+    let after-network = after-text-at2 .before .before in
+    let after-text-at = after-network .before .before in
+    let after-volume = after-text-at .before .before in
+    (after-volume .volume .ensures .1, after-text-at .text-at .ensures .1, after-network .network .ensures .1, after-text-at2 .text-at2 .ensures .1, after-text-at3 .text-at3 .ensures .1, c .text-at4 .ensures .1)
+
+unless-requires : tie.Need-unless-requires
+unless-requires c κs = search needs
+
+unless-requires-2 : tie.Need-unless-requires-2
+unless-requires-2 c κs = search needs
+
+unless-requires-3 : tie.Need-unless-requires-3
+unless-requires-3 c κs = search needs
+
+first-requires : tie.Need-first-requires
+first-requires c κs = search needs
+
+unless-requires-4 : tie.Need-unless-requires-4
+unless-requires-4 c κs = search needs
+
+first-requires-2 : tie.Need-first-requires-2
+first-requires-2 c κs = search needs
 
 returns : tie.Need-returns
 returns c =
-    let after-bodies = c .before .before .before .before in
-    let after-apart = after-bodies .before .before in
-    let after-known-3 = after-apart .before .before .before .before in
-    let after-suffix-unicode = after-known-3 .before .before .before in
-    let after-local-unicode = after-suffix-unicode .before .before in
-    let after-suffix = after-local-unicode .before .before in
-    let after-network = after-suffix .before .before in
-    let after-network-there = after-network .before .before in
-    let after-local = after-network-there .before in
-    let after-volume = after-local .before .before in
-    let after-both = after-volume .before .before in
-    let after-local-there = after-both .before in
-    let after-flags = after-local-there .before in
-    let after-head = after-flags .before in
-    let S = six _ _ (after-head .u32-at .ensures) (after-flags .u32-at2 .ensures)
-    (after-local-there .local-there .ensures) (after-both .local-unicode-there .ensures) (after-network-there .network-there .ensures)
-    (after-volume .before .u32-at3 .ensures) (after-volume .volume .ensures .0)
-    (after-local .before .u32-at4 .ensures) (after-local .text-at .ensures .0)
-    (after-network .before .u32-at5 .ensures) (after-network .network .ensures .0)
-    (after-suffix .before .u32-at6 .ensures) (after-suffix .text-at2 .ensures .0)
-    (after-local-unicode .before .field .ensures) (after-local-unicode .text-at3 .ensures .0)
-    (after-suffix-unicode .before .field2 .ensures) (after-suffix-unicode .text-at4 .ensures .0) in
-    pieces-are _ _ S (after-apart .apart-six .ensures) (after-flags .u32-at2 .ensures) (after-head .u32-at .ensures)
+    let after-local = c .before .before .before .before in
+    let after-first2 = after-local .before .before in
+    let after-unless4 = after-first2 .before in
+    let after-first = after-unless4 .before in
+    let after-unless3 = after-first .before in
+    let after-unless2 = after-unless3 .before in
+    let after-unless = after-unless2 .before in
+    let after-apart-six = after-unless .before in
+    let after-text-at4 = after-apart-six .before in
+    let after-field2 = after-text-at4 .before in
+    let after-text-at3 = after-field2 .before in
+    let after-field = after-text-at3 .before in
+    let after-text-at2 = after-field .before in
+    let after-u32-at4 = after-text-at2 .before in
+    let after-network = after-u32-at4 .before in
+    let after-network-there = after-network .before in
+    let after-text-at = after-network-there .before in
+    let after-u32-at3 = after-text-at .before in
+    let after-volume = after-u32-at3 .before in
+    let after-local-unicode-there = after-volume .before in
+    let after-local-there = after-local-unicode-there .before in
+    let after-u32-at2 = after-local-there .before in
+    let after-u32-at = after-u32-at2 .before in
+    let S = six _ _ (after-u32-at .u32-at .ensures) (after-u32-at2 .u32-at2 .ensures) (after-local-there .local-there .ensures) (after-local-unicode-there .local-unicode-there .ensures)
+    (after-network-there .network-there .ensures) (after-volume .volume .ensures .0) (after-u32-at3 .u32-at3 .ensures) (after-text-at .text-at .ensures .0) (after-network .network .ensures .0)
+    (after-u32-at4 .u32-at4 .ensures) (after-text-at2 .text-at2 .ensures .0) (after-field .field .ensures) (after-text-at3 .text-at3 .ensures .0) (after-field2 .field2 .ensures) (after-text-at4 .text-at4 .ensures .0) in
+    pieces-are _ _ (after-u32-at .before .before .pre .2) S (after-apart-six .apart-six .ensures) (after-unless .unless .ensures) (after-unless2 .unless2 .ensures) (after-unless3 .unless3 .ensures)
+    (after-first .first .ensures) (after-unless4 .unless4 .ensures) (after-first2 .first2 .ensures) (after-u32-at2 .u32-at2 .ensures) (after-u32-at .u32-at .ensures)
 
 pub info-pieces-spec : {M : Type 1} → statement M
 info-pieces-spec =
@@ -131,17 +148,13 @@ info-pieces-spec =
     u32-at-requires-2
     local-there-requires
     local-unicode-there-requires
-    u32-at-requires-3
-    cast-volume
     volume-requires
-    u32-at-requires-4
+    u32-at-requires-3
     cast-text-at
     text-at-requires
     network-there-requires
-    u32-at-requires-5
-    cast-network
     network-requires
-    u32-at-requires-6
+    u32-at-requires-4
     cast-text-at-2
     text-at-requires-2
     field-requires
@@ -149,4 +162,10 @@ info-pieces-spec =
     field-requires-2
     text-at-requires-4
     apart-six-requires
+    unless-requires
+    unless-requires-2
+    unless-requires-3
+    first-requires
+    unless-requires-4
+    first-requires-2
     returns)

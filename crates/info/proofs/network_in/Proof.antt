@@ -5,20 +5,11 @@ use borrow.Author.Needs.{needs}
 use Rattle.info.proofs.network_in.Statement.{statement}
 use Rattle.info.proofs.network_in.Tie as tie
 
-network-head-ok-requires : tie.Need-network-head-ok-requires
-network-head-ok-requires c κs = search needs
+network-head-wrong-requires : tie.Need-network-head-wrong-requires
+network-head-wrong-requires c κs = search needs
 
 returns : tie.Need-returns
-returns c = network-fails _ _ (c .before .network-head-ok .ensures) (c .if1 .taken)
-
--- The head was tested, and its first fields read, before the net name was looked for.
-abbrev name-read : tie.After-text-at → tie.After-u32-at2
-name-read c = c .before .before .before .before
-
-abbrev entry : tie.After-text-at → tie.Start
-entry c =
-    let after-test = name-read c .before .before in
-    after-test .before .before .before
+returns c = network-fails _ _ (c .before .network-head-wrong .ensures) (c .if1 .taken)
 
 u32-at-requires : tie.Need-u32-at-requires
 u32-at-requires c κs = search needs
@@ -52,41 +43,59 @@ text-at-requires-2 c κs = search needs
 
 field-requires : tie.Need-field-requires
 field-requires c κs =
-    let after-name = name-read (c .before .before) in
-    let after-test = after-name .before .before in
-    λ e. omega (arith, network-room _ (after-test .before .network-head-ok .ensures) (after-test .if1 .left) (after-name .u32-at2 .ensures) e)
+    let after-device-unicode-there = c .before .before .before .before in
+    let after-u32-at2 = after-device-unicode-there .before .before in
+    let after-if1 = after-u32-at2 .before .before in
+    let after-network-head-wrong = after-if1 .before in
+    λ e. omega (arith, network-room _ (after-network-head-wrong .network-head-wrong .ensures) (after-if1 .if1 .left) (after-u32-at2 .u32-at2 .ensures) e)
 
 text-at-requires-3 : tie.Need-text-at-requires-3
-text-at-requires-3 c κs = entry (c .before .before .before) .pre .1
+text-at-requires-3 c κs =
+    let after-network-head = c .before .before .before .before in
+    let after-u32-at = after-network-head .before .before .before .before in
+    after-u32-at .before .before .before .before .pre .1
 
 field-requires-2 : tie.Need-field-requires-2
 field-requires-2 c κs =
-    let after-name = name-read (c .before .before .before .before) in
-    let after-test = after-name .before .before in
-    network-room _ (after-test .before .network-head-ok .ensures) (after-test .if1 .left) (after-name .u32-at2 .ensures)
+    let after-text-at = c .before .before .before .before in
+    let after-u32-at2 = after-text-at .before .before .before .before in
+    let after-if1 = after-u32-at2 .before .before in
+    let after-network-head-wrong = after-if1 .before in
+    network-room _ (after-network-head-wrong .network-head-wrong .ensures) (after-if1 .if1 .left) (after-u32-at2 .u32-at2 .ensures)
 
 text-at-requires-4 : tie.Need-text-at-requires-4
 text-at-requires-4 c κs =
-    let after-net-unicode = c .before in
-    entry (after-net-unicode .before .before .before .before) .pre .1
+    let after-u32-at3 = c .before .before .before .before in
+    let after-device-there = after-u32-at3 .before .before .before .before in
+    let after-network-head-wrong = after-device-there .before .before .before .before in
+    after-network-head-wrong .before .before .pre .1
 
 apart-four-requires : tie.Need-apart-four-requires
-apart-four-requires c κs =
-    let after-device-unicode = c .before .before .before .before in
-    let after-net-unicode = after-device-unicode .before .before in
-    let after-device = after-net-unicode .before .before in
-    let after-net = after-device .before .before in
-    (after-net .text-at .ensures .1, after-device .text-at2 .ensures .1, after-net-unicode .text-at3 .ensures .1, after-device-unicode .text-at4 .ensures .1)
+apart-four-requires c κs = search needs
+
+unless-requires : tie.Need-unless-requires
+unless-requires c κs = search needs
+
+unless-requires-2 : tie.Need-unless-requires-2
+unless-requires-2 c κs = search needs
+
+unless-requires-3 : tie.Need-unless-requires-3
+unless-requires-3 c κs = search needs
+
+unless-requires-4 : tie.Need-unless-requires-4
+unless-requires-4 c κs = search needs
 
 provider-there-requires : tie.Need-provider-there-requires
 provider-there-requires c κs = search needs
 
 u32-at-requires-4 : tie.Need-u32-at-requires-4
 u32-at-requires-4 c κs =
-    let after-apart = c .before in
-    let after-known = after-apart .before .before .before .before in
-    let after-net-unicode = after-known .before .before .before in
-    entry (after-net-unicode .before .before .before .before) .pre .0
+    let after-unless = c .before .before .before .before in
+    let after-text-at3 = after-unless .before .before .before .before in
+    let after-text-at = after-text-at3 .before .before .before .before in
+    let after-u32-at2 = after-text-at .before .before .before .before in
+    let after-shared-slice-known = after-u32-at2 .before .before .before .before in
+    after-shared-slice-known .before .pre .0
 
 number-if-requires : tie.Need-number-if-requires
 number-if-requires c κs = search needs
@@ -96,38 +105,41 @@ network-if-requires c κs = search needs
 
 returns-2 : tie.Need-returns-2
 returns-2 c =
-    let after-bodies = c .before .before .before .before in
-    let after-provider = after-bodies .before in
-    let after-provider-field = after-provider .before in
-    let after-provider-there = after-provider-field .before in
-    let after-apart = after-provider-there .before in
-    let after-known = after-apart .before .before .before .before in
-    let after-device-unicode = after-known .before in
-    let after-net-unicode = after-device-unicode .before .before in
-    let after-device = after-net-unicode .before .before in
-    let after-net = after-device .before .before in
-    let after-head = after-net .before in
-    let after-both = after-head .before in
-    let after-device-there = after-both .before in
-    let after-name = after-device-there .before in
-    let after-flags = after-name .before in
-    let after-test = after-flags .before in
-    let f = four _ _ (after-flags .u32-at .ensures) (after-name .u32-at2 .ensures)
-    (after-device-there .device-there .ensures) (after-both .device-unicode-there .ensures)
-    (after-head .network-head .ensures) (after-net .text-at .ensures .0)
-    (after-device .before .u32-at3 .ensures) (after-device .text-at2 .ensures .0)
-    (after-net-unicode .before .field .ensures) (after-net-unicode .text-at3 .ensures .0)
-    (after-device-unicode .before .field2 .ensures) (after-device-unicode .text-at4 .ensures .0) in
-    network-read _ _ (after-test .before .network-head-ok .ensures) (after-test .if1 .left) f (after-apart .apart-four .ensures)
-    (after-flags .u32-at .ensures) (after-name .u32-at2 .ensures)
-    (after-provider-there .provider-there .ensures) (after-provider-field .u32-at4 .ensures) (after-provider .number-if .ensures)
-    (c .network-if .ensures .is)
+    let after-net = c .before .before .before .before in
+    let after-number-if = after-net .before in
+    let after-u32-at4 = after-number-if .before in
+    let after-provider-there = after-u32-at4 .before in
+    let after-unless4 = after-provider-there .before in
+    let after-unless3 = after-unless4 .before in
+    let after-unless2 = after-unless3 .before in
+    let after-unless = after-unless2 .before in
+    let after-apart-four = after-unless .before in
+    let after-text-at4 = after-apart-four .before in
+    let after-field2 = after-text-at4 .before in
+    let after-text-at3 = after-field2 .before in
+    let after-field = after-text-at3 .before in
+    let after-text-at2 = after-field .before in
+    let after-u32-at3 = after-text-at2 .before in
+    let after-text-at = after-u32-at3 .before in
+    let after-network-head = after-text-at .before in
+    let after-device-unicode-there = after-network-head .before in
+    let after-device-there = after-device-unicode-there .before in
+    let after-u32-at2 = after-device-there .before in
+    let after-u32-at = after-u32-at2 .before in
+    let after-if1 = after-u32-at .before in
+    let after-network-head-wrong = after-if1 .before in
+    let f = four _ _ (after-u32-at .u32-at .ensures) (after-u32-at2 .u32-at2 .ensures) (after-device-there .device-there .ensures) (after-device-unicode-there .device-unicode-there .ensures)
+    (after-network-head .network-head .ensures) (after-text-at .text-at .ensures .0) (after-u32-at3 .u32-at3 .ensures) (after-text-at2 .text-at2 .ensures .0)
+    (after-field .field .ensures) (after-text-at3 .text-at3 .ensures .0) (after-field2 .field2 .ensures) (after-text-at4 .text-at4 .ensures .0) in
+    network-read _ _ (after-network-head-wrong .network-head-wrong .ensures) (after-if1 .if1 .left) f (after-apart-four .apart-four .ensures)
+    (after-unless .unless .ensures) (after-unless2 .unless2 .ensures) (after-unless3 .unless3 .ensures) (after-unless4 .unless4 .ensures)
+    (after-u32-at .u32-at .ensures) (after-u32-at2 .u32-at2 .ensures) (after-provider-there .provider-there .ensures) (after-u32-at4 .u32-at4 .ensures) (after-number-if .number-if .ensures) (c .network-if .ensures)
 
 pub network-in-spec : {M : Type 1} → statement M
 network-in-spec =
     tie.close
     (tie.spec
-    network-head-ok-requires
+    network-head-wrong-requires
     returns
     u32-at-requires
     u32-at-requires-2
@@ -144,6 +156,10 @@ network-in-spec =
     field-requires-2
     text-at-requires-4
     apart-four-requires
+    unless-requires
+    unless-requires-2
+    unless-requires-3
+    unless-requires-4
     provider-there-requires
     u32-at-requires-4
     number-if-requires

@@ -1,19 +1,17 @@
 -- What the functions of this crate find: format's definitions, with zeros where a test fails.
 use Prim.Native.Nat.{ℕ, _+_, _≤_}
-use mathlib.Core.Path.{_≡_}
-use mathlib.Core.List.{List, []}
-use mathlib.Core.Bool.{Bool, true, false, _&&_, cond}
+use mathlib.Core.List.{List, [], _∷_}
+use mathlib.Core.Bool.{Bool, true, false, cond}
 use lib.ListN.{drop}
-use lib.Dec.{leb}
+use lib.Dec.{leb, eqb}
 use Rattle.octets.specs.Numbers.{u32At}
-use Rattle.format.specs.declared.Fault.the-variants.{Piece as PIECE}
 use Rattle.format.specs.declared.Place.{Place}
 use Rattle.format.specs.declared.Volume.{Volume}
 use Rattle.format.specs.declared.Network.{Network}
-use Rattle.format.specs.Tests.{noPlace}
-use Rattle.format.specs.Numbers.{numberOf}
-use Rattle.format.specs.Steps.AllTests.{all}
+use Rattle.format.specs.declared.Fault.the-variants.{Piece as PIECE}
+use Rattle.format.specs.Tests.{Test, _else_at_, all, noPlace}
 use Rattle.format.specs.Pieces.{Piece, textPiece, textPlace, structTests, testsOf, span, pieceTests}
+use Rattle.format.specs.Steps.Wrong.{wrong}
 use Rattle.format.specs.Volume.{volumePiece, volumeAt, volumeRules, volumeFields, noVolume}
 use Rattle.format.specs.Network.{networkRules, networkPiece, networkFields, networkAt, noNetwork}
 use Rattle.format.specs.Info.{infoHead, longHead, infoFlags, hasLocal, hasNetwork, infoPieces, hasLocalUnicode}
@@ -45,101 +43,65 @@ pieceOk head x = all (testsOf head x)
 abbrev pub foundSpan : ℕ → Piece → Place
 foundSpan head x = cond (pieceOk head x) (span x) noPlace
 
--- whether it passes its tests, its bytes, and what it says, a, or d where it fails
-abbrev pub pieceFound : {A R : Type 0} → (Bool → Place → A → R) → ℕ → Piece → A → A → R
-pieceFound make head x a d = make (pieceOk head x) (foundSpan head x) (cond (pieceOk head x) a d)
+abbrev pub pieceWrong : ℕ → Piece → ℕ
+pieceWrong head x = wrong (testsOf head x)
+
+-- its first field at fault, its bytes, and what it says, a, or d where it fails
+abbrev pub pieceFound : {A R : Type 0} → (ℕ → Place → A → R) → ℕ → Piece → A → A → R
+pieceFound make head x a d = make (pieceWrong head x) (foundSpan head x) (cond (pieceOk head x) a d)
 
 abbrev pub makeText : Bool → Place → Place → Text
 makeText ok x b = record { ok = ok; span = x; body = b }
 
-abbrev pub makeVolume : Bool → Place → Volume → VolumeFound
-makeVolume ok x v = record { ok = ok; span = x; volume = v }
+abbrev pub makeVolume : ℕ → Place → Volume → VolumeFound
+makeVolume i x v = record { wrong = i; span = x; volume = v }
 
-abbrev pub makeNetwork : Bool → Place → Network → NetworkFound
-makeNetwork ok x n = record { ok = ok; span = x; network = n }
+abbrev pub makeNetwork : ℕ → Place → Network → NetworkFound
+makeNetwork i x n = record { wrong = i; span = x; network = n }
 
+-- the string at the offset o: whether it passes its tests is the same whichever field leads there
 unfoldable pub textFound : Bool → Bool → List ℕ → ℕ → ℕ → ℕ → Text
-textFound present unicode l start head o = pieceFound makeText head (textPiece present unicode l o) (textPlace present unicode start l o) noPlace
+textFound present unicode l start head o =
+    makeText (pieceOk head (textPiece present unicode l 0 o)) (foundSpan head (textPiece present unicode l 0 o))
+    (cond (pieceOk head (textPiece present unicode l 0 o)) (textPlace present unicode start l o) noPlace)
 
-unfoldable pub volumeFound : Bool → List ℕ → ℕ → ℕ → ℕ → VolumeFound
-volumeFound present l start head o = pieceFound makeVolume head (volumePiece present l o) (volumeAt present start l o) noVolume
+unfoldable pub volumeFound : Bool → List ℕ → ℕ → ℕ → VolumeFound
+volumeFound present l start head = pieceFound makeVolume head (volumePiece present l 12 (u32At l 12)) (volumeAt present start l (u32At l 12)) noVolume
 
-unfoldable pub networkFound : Bool → List ℕ → ℕ → ℕ → ℕ → NetworkFound
-networkFound present l start head o = pieceFound makeNetwork head (networkPiece present l o) (networkAt present start l o) noNetwork
+unfoldable pub networkFound : Bool → List ℕ → ℕ → ℕ → NetworkFound
+networkFound present l start head = pieceFound makeNetwork head (networkPiece present l 20 (u32At l 20)) (networkAt present start l (u32At l 20)) noNetwork
 
 -- ---- structures
 
--- the structure at the offset o starts after the head and its size is right
-abbrev pub endsRight : List ℕ → ℕ → ℕ → ℕ → Bool
-endsRight l head least o = leb head o && all (structTests least (λ v. []) (drop o l))
+-- that a structure starts after the head and its size is right, before its own rules
+abbrev pub frameTests : List ℕ → ℕ → ℕ → ℕ → ℕ → List Test
+frameTests l head least i o = leb head o else PIECE at i ∷ structTests i o least (λ v. []) (drop o l)
 
--- where it ends then
-unfoldable pub endAt : List ℕ → ℕ → ℕ → ℕ → StructEnd
-endAt l head least o = cond (endsRight l head least o) (At (o + u32At (drop o l) 0)) Outside
-
-abbrev pub labelAt : List ℕ → Bool → ℕ
-labelAt v unicode = cond unicode (u32At v 16) (u32At v 12)
+-- where the structure at the offset o ends, to which the field at i leads
+unfoldable pub endAt : List ℕ → ℕ → ℕ → ℕ → ℕ → StructEnd
+endAt l head least i o = cond (all (frameTests l head least i o)) (At (o + u32At (drop o l) 0)) (Outside (wrong (frameTests l head least i o)))
 
 unfoldable pub volumeIn : ℕ → List ℕ → VolumeRead
-volumeIn p v = cond (all (volumeRules v)) (GoodVolume (volumeFields p v)) BadVolume
+volumeIn p v = cond (all (volumeRules v)) (GoodVolume (volumeFields p v)) (BadVolume (wrong (volumeRules v)))
 
-abbrev pub networkIf : Bool → Network → NetworkRead
-networkIf ok n = cond ok (GoodNetwork n) BadNetwork
+abbrev pub networkIf : ℕ → Network → NetworkRead
+networkIf i n = cond (eqb i 0) (GoodNetwork n) (BadNetwork i)
 
 unfoldable pub networkIn : ℕ → List ℕ → NetworkRead
-networkIn p v = networkIf (all (networkRules v)) (networkFields p v)
-
--- ---- numbers and values of the answers
-
--- 0 OK or 7 PIECE
-abbrev pub okOrPiece : Bool → ℕ
-okOrPiece ok = cond ok 0 (numberOf PIECE)
-
-unfoldable pub endNumber : StructEnd → ℕ
-endNumber (At e) = 0
-endNumber Outside = numberOf PIECE
-
--- where the structure ends
-unfoldable pub endValue : StructEnd → ℕ
-endValue (At e) = e
-endValue Outside = 0
-
-unfoldable pub volumeNumber : VolumeRead → ℕ
-volumeNumber (GoodVolume v) = 0
-volumeNumber BadVolume = numberOf PIECE
-
-unfoldable pub networkNumber : NetworkRead → ℕ
-networkNumber (GoodNetwork n) = 0
-networkNumber BadNetwork = numberOf PIECE
-
--- r is e, whose number says whether all is right
-pub record PieceAnswers {R : Type 0} (numberIn : R → ℕ) (ok : Bool) (e r : R) : Type 0 where
-  pub is : r ≡ e
-  pub number : numberIn r ≡ okOrPiece ok
-
-abbrev pub VolumeAnswer : ℕ → List ℕ → VolumeRead → Type 0
-VolumeAnswer p v r = PieceAnswers volumeNumber (all (volumeRules v)) (volumeIn p v) r
-
-abbrev pub NetworkAnswer : ℕ → List ℕ → NetworkRead → Type 0
-NetworkAnswer p v r = PieceAnswers networkNumber (all (networkRules v)) (networkIn p v) r
-
-pub record EndAnswer (l : List ℕ) (head least o : ℕ) (r : StructEnd) : Type 0 where
-  pub is : r ≡ endAt l head least o
-  pub number : endNumber r ≡ okOrPiece (endsRight l head least o)
-  pub value : endValue r ≡ cond (endsRight l head least o) (o + u32At (drop o l) 0) 0
+networkIn p v = cond (all (networkRules v)) (GoodNetwork (networkFields p v)) (BadNetwork (wrong (networkRules v)))
 
 -- ---- LinkInfo
 
--- whether every piece passes, and what each says that passes
+-- the first field at fault, and what each piece says that passes
 unfoldable pub piecesFound : ℕ → List ℕ → Pieces
 piecesFound start l = record {
-  ok = all (pieceTests (infoHead l) (infoPieces l));
+  wrong = wrong (pieceTests (infoHead l) (infoPieces l));
   info = record {
     flags = infoFlags l;
     long = longHead l;
-    volume = volumeFound (hasLocal l) l start (infoHead l) (u32At l 12) .volume;
+    volume = volumeFound (hasLocal l) l start (infoHead l) .volume;
     local = textFound (hasLocal l) false l start (infoHead l) (u32At l 16) .body;
-    network = networkFound (hasNetwork l) l start (infoHead l) (u32At l 20) .network;
+    network = networkFound (hasNetwork l) l start (infoHead l) .network;
     suffix = textFound true false l start (infoHead l) (u32At l 24) .body;
     «local_unicode» = textFound (hasLocalUnicode l) true l start (infoHead l) (u32At l 28) .body;
     «suffix_unicode» = textFound (longHead l) true l start (infoHead l) (u32At l 32) .body;

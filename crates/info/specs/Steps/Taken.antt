@@ -25,7 +25,7 @@ infoNumber (Refused f q) = numberOf f
 -- where LinkInfo ends, or the position of a refusal
 unfoldable pub infoValue : InfoTaken → ℕ
 infoValue (Got i c) = c .at
-infoValue (Refused f q) = q
+infoValue (Refused f q) = q .position
 
 abbrev pub InfoAnswer : List ℕ → ℕ → InfoTaken → Type 0
 InfoAnswer s p r = Answers infoNumber infoValue p (info p (drop p s)) (infoAt s p) r

@@ -5,11 +5,14 @@ use borrow.Author.Needs.{needs}
 use Rattle.reader.proofs.outline_of.Statement.{statement}
 use Rattle.reader.proofs.outline_of.Tie as tie
 
+spot-at-requires : tie.Need-spot-at-requires
+spot-at-requires c κs = search needs
+
 outline-off-requires : tie.Need-outline-off-requires
 outline-off-requires c κs = search needs
 
 returns : tie.Need-returns
-returns c = outline-long _ (omega arith) (c .outline-off .ensures)
+returns c = outline-long _ (omega arith) (rw (c .before .spot-at .ensures) at (c .outline-off .ensures))
 
 header-requires : tie.Need-header-requires
 header-requires c κs = search needs
@@ -38,6 +41,7 @@ pub outline-of-spec : {M : Type 1} → statement M
 outline-of-spec =
     tie.close
     (tie.spec
+    spot-at-requires
     outline-off-requires
     returns
     header-requires

@@ -1,5 +1,5 @@
 -- The steps that the reader takes: each section from where the one before it ended, unless that was refused.
-use Prim.Native.Nat.{ℕ}
+use Prim.Native.Nat.{ℕ, _+_}
 use mathlib.Core.List.{List}
 use mathlib.Core.Bool.{Bool, cond}
 use Rattle.octets.specs.declared.Cursor.{Cursor}
@@ -59,13 +59,14 @@ unfoldable pub itemsStep : List ℕ → Bool → Next → Step
 unfolding itemsOn
 itemsStep s present next = onwards next (itemsOn s present)
 
-unfoldable pub stringOn : List ℕ → Bool → Bool → Cursor → Step
+-- k is the string's number in the listing
+unfoldable pub stringOn : List ℕ → Bool → ℕ → Bool → Cursor → Step
 unfolding settled
-stringOn s present unicode c = cond present (settled (stringAt unicode s (c .at))) (step (On c) noPlace)
+stringOn s present k unicode c = cond present (settled (stringAt k unicode s (c .at))) (step (On c) noPlace)
 
-unfoldable pub stringStep : List ℕ → Bool → Bool → Next → Step
+unfoldable pub stringStep : List ℕ → Bool → ℕ → Bool → Next → Step
 unfolding stringOn
-stringStep s present unicode next = onwards next (stringOn s present unicode)
+stringStep s present k unicode next = onwards next (stringOn s present k unicode)
 
 unfoldable pub settledInfo : InfoTaken → InfoStep
 settledInfo (GotInfo i c) = stepInfo (On c) i
@@ -116,11 +117,11 @@ outlineFrom s h c =
     let u = stringsUnicode f in
     let items = itemsStep s (itemsThere f) (On c) in
     let info = infoStep s (infoThere f) (items .next) in
-    let name = stringStep s (stringThere nameBit f) u (info .next) in
-    let relative = stringStep s (stringThere relativeBit f) u (name .next) in
-    let workdir = stringStep s (stringThere workdirBit f) u (relative .next) in
-    let arguments = stringStep s (stringThere argumentsBit f) u (workdir .next) in
-    let icon = stringStep s (stringThere iconBit f) u (arguments .next) in
+    let name = stringStep s (stringThere nameBit f) (nameBit + 1) u (info .next) in
+    let relative = stringStep s (stringThere relativeBit f) (relativeBit + 1) u (name .next) in
+    let workdir = stringStep s (stringThere workdirBit f) (workdirBit + 1) u (relative .next) in
+    let arguments = stringStep s (stringThere argumentsBit f) (argumentsBit + 1) u (workdir .next) in
+    let icon = stringStep s (stringThere iconBit f) (iconBit + 1) u (arguments .next) in
     let blocks = blocksStep s (icon .next) in
     record {
       next = blocks .next;

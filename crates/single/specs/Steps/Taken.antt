@@ -16,14 +16,15 @@ abbrev pub placeTaken : ℕ → Outcome Place → Taken
 placeTaken p (got b n) = Got b (record { at = p + n })
 placeTaken p (refused f q) = Refused f q
 
-unfoldable pub stringAt : Bool → List ℕ → ℕ → Taken
-stringAt unicode s p = placeTaken p (string unicode p (drop p s))
+-- k is the string's number in the listing
+unfoldable pub stringAt : ℕ → Bool → List ℕ → ℕ → Taken
+stringAt k unicode s p = placeTaken p (string k unicode p (drop p s))
 
 unfoldable pub itemsAt : List ℕ → ℕ → Taken
 itemsAt s p = placeTaken p (items p (drop p s))
 
-abbrev pub StringAnswer : Bool → List ℕ → ℕ → Taken → Type 0
-StringAnswer unicode s p r = Answers takenNumber takenValue p (string unicode p (drop p s)) (stringAt unicode s p) r
+abbrev pub StringAnswer : ℕ → Bool → List ℕ → ℕ → Taken → Type 0
+StringAnswer k unicode s p r = Answers takenNumber takenValue p (string k unicode p (drop p s)) (stringAt k unicode s p) r
 
 abbrev pub ItemsAnswer : List ℕ → ℕ → Taken → Type 0
 ItemsAnswer s p r = Answers takenNumber takenValue p (items p (drop p s)) (itemsAt s p) r

@@ -1,8 +1,6 @@
 -- The items from p on decide for the whole body, since those before p are whole; p passes the end by one item at most.
-use Rattle.writable.proofs.WalkLaws.{onItems, items-long, items-begin, on-small-item, on-more-items, on-last-item}
-use Rattle.format.specs.Writing.{writableItems}
+use Rattle.writable.proofs.WalkLaws.{OnItems, items-long, items-begin, on-small-item, on-more-items, on-last-item}
 use lib.ListN.{length}
-use mathlib.Core.Path.{_≡_}
 use Prim.Native.Nat.{_≤_, _+_, _-_}
 use borrow.Author.Needs.{needs}
 use native.Mathlib.Omega.{arith}
@@ -10,7 +8,7 @@ use Rattle.writable.proofs.items_ok.Statement.{statement}
 use Rattle.writable.proofs.items_ok.Tie as tie
 
 abbrev Inv-loop : tie.InvT-loop
-Inv-loop x n last p₀ p = (p ≤ length x + 65535) × (onItems x p ≡ writableItems x)
+Inv-loop x n last p₀ p = (p ≤ length x + 65535) × OnItems x p
 
 abbrev μ-loop : tie.MeasureT-loop
 μ-loop x n last p₀ p = length x + 65536 - p

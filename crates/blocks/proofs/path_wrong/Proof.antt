@@ -1,9 +1,7 @@
 -- Both texts lie inside 788 bytes, and each is asked for its own zero.
-use mathlib.Core.Path.{ap₂}
-use mathlib.Core.Bool.{_&&_}
 use borrow.Author.Needs.{needs}
-use Rattle.blocks.proofs.path_texts.Statement.{statement}
-use Rattle.blocks.proofs.path_texts.Tie as tie
+use Rattle.blocks.proofs.path_wrong.Statement.{statement}
+use Rattle.blocks.proofs.path_wrong.Tie as tie
 
 sub-has-zero : tie.Need-sub-has-zero
 sub-has-zero c = search needs
@@ -29,11 +27,19 @@ part-has-zero-end-2 c = search needs
 has-zero-requires-2 : tie.Need-has-zero-requires-2
 has-zero-requires-2 c κs = search needs
 
-returns : tie.Need-returns
-returns c = ap₂ _&&_ (c .before .before .has-zero .ensures) (c .has-zero2 .ensures)
+unless-requires : tie.Need-unless-requires
+unless-requires c κs = search needs
 
-pub path-texts-spec : {M : Type 1} → statement M
-path-texts-spec =
+unless-requires-2 : tie.Need-unless-requires-2
+unless-requires-2 c κs = search needs
+
+returns : tie.Need-returns
+returns c =
+    let after-texts = c .before .before in
+    rw (c .unless2 .ensures, c .before .unless .ensures, after-texts .has-zero2 .ensures, after-texts .before .before .has-zero .ensures)
+
+pub path-wrong-spec : {M : Type 1} → statement M
+path-wrong-spec =
     tie.close
     (tie.spec
     sub-has-zero
@@ -44,4 +50,6 @@ path-texts-spec =
     part-has-zero-start-2
     part-has-zero-end-2
     has-zero-requires-2
+    unless-requires
+    unless-requires-2
     returns)
