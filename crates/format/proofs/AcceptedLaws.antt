@@ -15,7 +15,7 @@ use Rattle.format.specs.declared.Fault.the-variants.{Long as LONG, Trail
 use Rattle.format.specs.declared.Verdict.{Verdict}
 use Rattle.format.specs.declared.Verdict.the-variants.{Accepted, Refused}
 use Rattle.format.specs.declared.Spot.{Spot}
-use Rattle.format.specs.Tests.{Outcome, got, refused, _else_at_, tests, andThen, section, noSection, spotAt, nowhere}
+use Rattle.format.specs.Tests.{Outcome, got, refused, _else_at_, tests, andThen, section, noSection, spotAt}
 use Rattle.format.specs.Shortcut.{Sections, most, sections, shortcut, recordOf, noRecord, verdictOf, heldBy, reading}
 use Rattle.format.specs.Bodies.{placed, bodies, allInside}
 use Rattle.format.specs.Contents.{Contents, present, bodiesOf, contents}

@@ -16,7 +16,8 @@ use Rattle.format.specs.declared.Fault.{Fault}
 use Rattle.format.specs.declared.Fault.the-variants.{Cut as CUT, Place as PLACE, Unwritable as UNWRITABLE, Room as ROOM}
 use Rattle.format.specs.declared.Verdict.{Verdict}
 use Rattle.format.specs.declared.Verdict.the-variants.{Accepted, Refused}
-use Rattle.format.specs.Tests.{Outcome, got, refused, nowhere}
+use Rattle.format.specs.Tests.{Outcome, got, refused}
+use Rattle.format.proofs.AnswerLaws.{nowhere}
 use Rattle.format.specs.Shortcut.{Sections, shortcut, recordOf, verdictOf, reading}
 use Rattle.format.specs.Bodies.{placed}
 use Rattle.format.specs.Contents.{Contents, present, contents, Same}

@@ -16,7 +16,8 @@ use Rattle.format.specs.declared.Fault.{Fault}
 use Rattle.format.specs.declared.Fault.the-variants.{Cut as CUT, Room as ROOM}
 use Rattle.format.specs.declared.Verdict.the-variants.{Accepted, Refused}
 use Rattle.format.specs.declared.Spot.{Spot}
-use Rattle.format.specs.Tests.{Outcome, got, refused, bit, section, noSection, spotAt, nowhere}
+use Rattle.format.specs.Tests.{Outcome, got, refused, bit, section, noSection, spotAt}
+use Rattle.format.proofs.AnswerLaws.{nowhere}
 use Rattle.format.specs.Presence.{workdirBit, argumentsBit, stringThere, stringsUnicode}
 use Rattle.format.specs.Shortcut.{Sections, shortcut, verdictOf}
 use Rattle.format.specs.Contents.{bytesAt}

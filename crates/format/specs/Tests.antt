@@ -24,10 +24,6 @@ noSection = section 0 0
 abbrev pub spotAt : Site → ℕ → Spot
 spotAt w i = record { section = w .number; start = w .start; position = w .start + i }
 
--- where a refusal of what is no reading stands: position 0
-abbrev pub nowhere : Spot
-nowhere = spotAt noSection 0
-
 -- what was read and how many bytes it took; or a fault and where it stands
 pub data Outcome (A : Type 0) : Type 0 where
   got : A → ℕ → Outcome A

@@ -20,10 +20,10 @@ use Rattle.info.specs.declared.Text.{Text}
 use Rattle.info.specs.declared.NetworkFound.{NetworkFound}
 use Rattle.info.specs.declared.NetworkRead.{NetworkRead}
 use Rattle.info.specs.declared.NetworkRead.the-variants.{Good, Bad}
-use Rattle.info.specs.Steps.Found.{fieldIf, pieceFound, textFound, networkIf, networkIn, makeNetwork, networkFound}
+use Rattle.info.specs.Steps.Found.{fieldIf, pieceFound, textFound, networkIf, networkIn, networkNumber, networkValue, PieceAnswers, NetworkAnswer, makeNetwork, networkFound}
 use Rattle.info.proofs.TestLaws.{uncut-room, Fields, here, fields-join, fields-told, fields-then, first-unless, unless-none, text-fields, AllFields, pieces-fields, judge, pieces-judged}
 use Rattle.info.proofs.TextLaws.{text-judged, text-body, text-field, zero-field}
-use Rattle.info.proofs.StructLaws.{Kind}
+use Rattle.info.proofs.StructLaws.{answered, Kind}
 
 -- ---- the head, field after field
 
@@ -94,6 +94,12 @@ network-room v {k} e z en u =
     let c = network-head-holds v (all-pass (networkHeadTests v) q) in
     uncut-room (networkUnicode v) 0x1C v (c .deviceUnicodeField) (rw (← en) u)
 
+-- ---- the answer, once the first field at fault is known
+
+pub network-if : (i : ℕ) (n : Network) {r : NetworkRead} → r ≡ networkIf i n → PieceAnswers networkNumber networkValue (eqb i 0) 0 i (networkIf i n) r
+unfolding networkNumber networkValue
+network-if i n = answered networkNumber networkValue (eqb i 0) refl refl refl refl
+
 -- ---- the network link's own bytes
 
 -- the fields as the code puts them together
@@ -136,11 +142,15 @@ module _ (p : ℕ) (v : List ℕ) {k : ℕ} (ek : k ≡ wrong (networkHeadTests 
   rules-pass : {n : ℕ} → wrong (networkRules v) ≡ n → all (networkRules v) ≡ eqb n 0
   rules-pass e = sym (fields-told 24 (networkRules v) (network-fields v)) ∙ ap (λ (n : ℕ). eqb n 0) e
 
-  pub network-fails : (k ≡ 0 → ⊥) → Bad k ≡ networkIn p v
+  network-answered : {r : NetworkRead} → r ≡ networkIn p v → NetworkAnswer p v r
+  unfolding networkIn networkNumber networkValue
+  network-answered = answered networkNumber networkValue (all (networkRules v)) refl refl refl refl
+
+  pub network-fails : (k ≡ 0 → ⊥) → NetworkAnswer p v (Bad k)
   unfolding networkIn
   network-fails z =
       let q : wrong (networkRules v) ≡ k = rules-wrong ∙ rw (ne-eqb k 0 z) in
-      rw (rules-pass q, q, ne-eqb k 0 z)
+      network-answered (rw (rules-pass q, q, ne-eqb k 0 z))
 
   module _ {a b c d : Text} {far m₁ m₂ m₃ m₄ : ℕ} (z : k ≡ 0) (f : Four p v a b c d) (ef : far ≡ wrong (apartTests [] ((0, a .span) ∷ (12, b .span) ∷ (20, c .span) ∷ (24, d .span) ∷ [])))
       (e₁ : m₁ ≡ cond (d .ok) far 24) (e₂ : m₂ ≡ cond (c .ok) m₁ 20) (e₃ : m₃ ≡ cond (b .ok) m₂ 12) (e₄ : m₄ ≡ cond (a .ok) m₃ 8) where
@@ -169,9 +179,9 @@ module _ (p : ℕ) (v : List ℕ) {k : ℕ} (ek : k ≡ wrong (networkHeadTests 
         rules-wrong ∙ rw z (pieces-judged 24 h (networkPieces v) (pieces-within v) fs ef ∙ m)
 
     pub network-read : {flags name kept provider : ℕ} {t : Bool} {r : NetworkRead} → flags ≡ u32At v 4 → name ≡ u32At v 8 → t ≡ providerThere flags → kept ≡ u32At v 16 → provider ≡ cond t kept 0
-        → r ≡ networkIf m₄ (fourFields flags provider (ltb 0x14 name) a b c d) → r ≡ networkIn p v
+        → r ≡ networkIf m₄ (fourFields flags provider (ltb 0x14 name) a b c d) → NetworkAnswer p v r
     unfolding networkIn
-    network-read {flags} {name} {provider = provider} eg en et ek ep er = er ∙ go (eqb m₄ 0) refl ∙ rw (rules-pass judged, judged)
+    network-read {flags} {name} {provider = provider} eg en et ek ep er = network-answered (er ∙ go (eqb m₄ 0) refl ∙ rw (rules-pass judged, judged))
       where
         go : (x : Bool) → eqb m₄ 0 ≡ x → cond x (Good (fourFields flags provider (ltb 0x14 name) a b c d)) (Bad m₄) ≡ cond x (Good (networkFields p v)) (Bad m₄)
         go true e =

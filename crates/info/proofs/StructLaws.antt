@@ -13,6 +13,8 @@ use Rattle.octets.proofs.NumberLaws.{number-drop}
 use Rattle.octets.proofs.ChoiceLaws.{cond-first, cond-second}
 use Rattle.format.specs.declared.Place.{Place}
 use Rattle.format.specs.Tests.{Test, all, inside, place, noPlace}
+use Rattle.format.specs.declared.Fault.the-variants.{Piece as PIECE}
+use Rattle.format.specs.Numbers.{numberOf}
 use Rattle.format.specs.Steps.Wrong.{wrong}
 use Rattle.format.specs.Pieces.{Piece, structTests, span}
 use Rattle.format.proofs.Chains.{all-pass, all-inside, no-true}
@@ -20,7 +22,7 @@ use Rattle.format.proofs.Holds.{struct-holds}
 use Rattle.format.proofs.PieceLaws.{pieceAt}
 use Rattle.info.specs.declared.StructEnd.{StructEnd}
 use Rattle.info.specs.declared.StructEnd.the-variants.{At, Outside}
-use Rattle.info.specs.Steps.Found.{EndSmall, pieceOk, pieceWrong, pieceFound, frameTests, endAt}
+use Rattle.info.specs.Steps.Found.{EndSmall, pieceOk, pieceWrong, pieceFound, frameTests, endAt, endNumber, endValue, PieceAnswers, EndAnswer}
 use Rattle.info.proofs.TestLaws.{Fields, here, fields-inside, fields-most, PieceFields, wrong-inside, found-absent, found-not, found-is}
 
 -- ---- a structure of LinkInfo as a piece, and what it says
@@ -32,36 +34,47 @@ structAt i least rules fields b l o = pieceAt i (λ o. structTests i o least rul
 abbrev pub structSays : {A : Type 0} → (ℕ → List ℕ → A) → A → Bool → List ℕ → ℕ → ℕ → A
 structSays fields none b l start o = cond b (fields (start + o) (take (u32At (drop o l) 0) (drop o l))) none
 
+-- ---- the number and the value of an answer
+
+pub answered : {R : Type 0} (numberIn valueIn : R → ℕ) (ok : Bool) {right fault : ℕ} {good bad : R} → numberIn good ≡ 0 → numberIn bad ≡ numberOf PIECE → valueIn good ≡ right
+    → valueIn bad ≡ fault → {r : R} → r ≡ cond ok good bad → PieceAnswers numberIn valueIn ok right fault (cond ok good bad) r
+answered numberIn valueIn true n m v w e = record { is = e; number = rw e n; value = rw e v }
+answered numberIn valueIn false n m v w e = record { is = e; number = rw e m; value = rw e w }
+
 -- ---- where a structure ends: the ways out
 
 pub first-number : (l : List ℕ) (o : ℕ) → u32At (drop o l) 0 ≡ u32At l o
 first-number l o = number-drop 4 o l 0 ∙ ap (numberAt 4 l) (add-zero o)
 
 module _ (l : List ℕ) (head least i o : ℕ) where
-  pub end-low : o < head → Outside i ≡ endAt l head least i o
+  ends : {r : StructEnd} → r ≡ endAt l head least i o → EndAnswer l head least i o r
+  unfolding endAt endNumber endValue
+  ends = answered endNumber endValue (all (frameTests l head least i o)) refl refl refl refl
+
+  pub end-low : o < head → EndAnswer l head least i o (Outside i)
   unfolding endAt
-  end-low h = rw (lt-leb head o h)
+  end-low h = ends (rw (lt-leb head o h))
 
   module _ (h : head ≤ o) where
-    pub end-cut : length l < o + 4 → Outside i ≡ endAt l head least i o
+    pub end-cut : length l < o + 4 → EndAnswer l head least i o (Outside i)
     unfolding endAt
-    end-cut k = rw (le-leb head o h, length-drop, lt-leb 4 (length l - o) (omega arith))
+    end-cut k = ends (rw (le-leb head o h, length-drop, lt-leb 4 (length l - o) (omega arith)))
 
     module _ {n : ℕ} (f : o + 4 ≤ length l) (e : n ≡ u32At l o) where
-      pub end-past : length l < o + n → Outside i ≡ endAt l head least i o
+      pub end-past : length l < o + n → EndAnswer l head least i o (Outside i)
       unfolding endAt
-      end-past k = rw (le-leb head o h, length-drop, le-leb 4 (length l - o) (omega arith), first-number l o, ← e, lt-leb n (length l - o) (omega arith))
+      end-past k = ends (rw (le-leb head o h, length-drop, le-leb 4 (length l - o) (omega arith), first-number l o, ← e, lt-leb n (length l - o) (omega arith)))
 
       module _ (k : o + n ≤ length l) where
-        pub end-small : n < least → Outside o ≡ endAt l head least i o
+        pub end-small : n < least → EndAnswer l head least i o (Outside o)
         unfolding endAt
         end-small j =
-            rw (le-leb head o h, length-drop, le-leb 4 (length l - o) (omega arith), first-number l o, ← e, le-leb n (length l - o) (omega arith), lt-leb least n j, add-zero)
+            ends (rw (le-leb head o h, length-drop, le-leb 4 (length l - o) (omega arith), first-number l o, ← e, le-leb n (length l - o) (omega arith), lt-leb least n j, add-zero))
 
-        pub end-at : least ≤ n → {m : ℕ} → m ≡ o + n → At m ≡ endAt l head least i o
+        pub end-at : least ≤ n → {m : ℕ} → m ≡ o + n → EndAnswer l head least i o (At m)
         unfolding endAt
         end-at j q =
-            rw (q, le-leb head o h, length-drop, le-leb 4 (length l - o) (omega arith), first-number l o, ← e, le-leb n (length l - o) (omega arith), le-leb least n j)
+            ends (rw (q, le-leb head o h, length-drop, le-leb 4 (length l - o) (omega arith), first-number l o, ← e, le-leb n (length l - o) (omega arith), le-leb least n j))
 
 -- ---- from the answer to the facts
 

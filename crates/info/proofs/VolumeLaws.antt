@@ -18,10 +18,10 @@ use Rattle.info.specs.declared.Text.{Text}
 use Rattle.info.specs.declared.VolumeFound.{VolumeFound}
 use Rattle.info.specs.declared.VolumeRead.{VolumeRead}
 use Rattle.info.specs.declared.VolumeRead.the-variants.{Good, Bad}
-use Rattle.info.specs.Steps.Found.{pieceWrong, pieceFound, textFound, makeVolume, volumeFound, volumeIn}
+use Rattle.info.specs.Steps.Found.{pieceWrong, pieceFound, textFound, makeVolume, volumeFound, volumeIn, volumeNumber, volumeValue, VolumeAnswer}
 use Rattle.info.proofs.TestLaws.{Fields, here, fields-told, uncut-room}
 use Rattle.info.proofs.TextLaws.{text-wrong, text-body}
-use Rattle.info.proofs.StructLaws.{Kind}
+use Rattle.info.proofs.StructLaws.{answered, Kind}
 
 -- ---- VolumeID's own bytes
 
@@ -44,17 +44,21 @@ label-room v {x} {i} u h e t = go u (uncut-room u 0x14 v (sym e ∙ not-false x 
     go false f q = omega arith
 
 module _ (p : ℕ) (v : List ℕ) {drive : ℕ} (ed : drive ≡ u32At v 4) where
-  pub volume-drive : 6 < drive → Bad 4 ≡ volumeIn p v
+  volume-answered : {r : VolumeRead} → r ≡ volumeIn p v → VolumeAnswer p v r
+  unfolding volumeIn volumeNumber volumeValue
+  volume-answered = answered volumeNumber volumeValue (all (volumeRules v)) refl refl refl refl
+
+  pub volume-drive : 6 < drive → VolumeAnswer p v (Bad 4)
   unfolding volumeIn
-  volume-drive h = rw (← ed, lt-leb drive 6 h)
+  volume-drive h = volume-answered (rw (← ed, lt-leb drive 6 h))
 
   module _ {u x : Bool} (h : drive ≤ 6) (eu : u ≡ labelUnicode v) (ex : x ≡ uncut u 0x14 v) where
     field-uncut : uncut (labelUnicode v) 0x14 v ≡ x
     field-uncut = rw (ex, eu)
 
-    pub volume-cut : not x ≡ true → Bad 16 ≡ volumeIn p v
+    pub volume-cut : not x ≡ true → VolumeAnswer p v (Bad 16)
     unfolding volumeIn
-    volume-cut t = rw (← ed, le-leb drive 6 h, field-uncut, not-true x t)
+    volume-cut t = volume-answered (rw (← ed, le-leb drive 6 h, field-uncut, not-true x t))
 
     module _ {i o least : ℕ} {t : Text} (tx : not x ≡ false) (el : least ≡ labelLeast u) (ei : i ≡ cond u 16 12) (eo : o ≡ u32At v i) (et : t ≡ textFound true u v p least o) where
       rules-wrong : wrong (volumeRules v) ≡ cond (t .ok) 0 i
@@ -69,16 +73,16 @@ module _ (p : ℕ) (v : List ℕ) {drive : ℕ} (ed : drive ≡ u32At v 4) where
           go true = refl
           go false = ne-eqb i 0 (λ e. omega (arith, label-field u .0))
 
-      pub volume-open : not (t .ok) ≡ true → Bad i ≡ volumeIn p v
+      pub volume-open : not (t .ok) ≡ true → VolumeAnswer p v (Bad i)
       unfolding volumeIn
-      volume-open q = rw (rules-pass, rules-wrong, not-true (t .ok) q)
+      volume-open q = volume-answered (rw (rules-pass, rules-wrong, not-true (t .ok) q))
 
       pub volume-good : {serial : ℕ} {label : Label} → not (t .ok) ≡ false → serial ≡ u32At v 8 → label ≡ labelOf u (t .body)
-          → Good (record { drive = drive; serial = serial; label = label }) ≡ volumeIn p v
+          → VolumeAnswer p v (Good (record { drive = drive; serial = serial; label = label }))
       unfolding volumeIn
       volume-good q es eb =
           let k : t .ok ≡ true = not-false (t .ok) q in
-          rw (rules-pass, k, ed, es, eb, text-body true u v p least o et k, eo, ei, eu)
+          volume-answered (rw (rules-pass, k, ed, es, eb, text-body true u v p least o et k, eo, ei, eu))
 
 -- ---- the piece
 

@@ -14,6 +14,7 @@ use octets::Took;
 use octets::Zero;
 ghost use mathlib.Core.Path.{_≡_};
 ghost use mathlib.Core.Bool.{true, cond};
+ghost use lib.Dec.{eqb};
 ghost use mathlib.Core.List.{[], _∷_};
 ghost use Prim.Native.Nat.{_+_, _≤_};
 ghost use lib.ListN.{length};
@@ -24,8 +25,8 @@ ghost use Rattle.format.specs.Volume.{labelLeast, noVolume};
 ghost use Rattle.format.specs.Network.{networkHead, networkHeadTests, noNetwork};
 ghost use Rattle.format.specs.Info.{infoHeadTests};
 ghost use Rattle.format.specs.Steps.Wrong.{wrong};
-ghost use Rattle.info.specs.Steps.Found.{EndSmall, fieldIf, makeText, textFound, endAt, volumeIn, makeVolume, volumeFound};
-ghost use Rattle.info.specs.Steps.Found.{networkIf, networkIn, makeNetwork, networkFound, piecesFound};
+ghost use Rattle.info.specs.Steps.Found.{EndSmall, fieldIf, makeText, textFound, EndAnswer, VolumeAnswer, makeVolume, volumeFound};
+ghost use Rattle.info.specs.Steps.Found.{networkIf, networkNumber, networkValue, PieceAnswers, NetworkAnswer, makeNetwork, networkFound, piecesFound};
 ghost use Rattle.info.specs.Steps.Taken.{InfoAnswer};
 
 // LinkInfo and the cursor after it, or why it is refused and where.
@@ -196,7 +197,7 @@ fn apart_six(a: Place, b: Place, c: Place, d: Place, e: Place, f: Place) -> usiz
 
 // A structure at the offset o, to which the field at i leads, says its size in its first four bytes.
 fn end_of(l: &[u8], head: usize, least: u32, i: usize, o: usize) -> StructEnd
-    ensures { λ r. ⌜ r ≡ endAt (now (l .entry)) head least i o ⌝ }
+    ensures { λ r. ⌜ EndAnswer (now (l .entry)) head least i o r ⌝ }
 {
     if o < head {
         return StructEnd::Outside(i);
@@ -233,7 +234,7 @@ fn label_field(unicode: bool) -> usize
 // VolumeID from its own part of the file, which starts at the place at.
 fn volume_in(v: &[u8], at: usize) -> VolumeRead
     requires { ⌜ (0x11 ≤ length (now v)) × (at + length (now v) ≤ 65536) ⌝ }
-    ensures { λ r. ⌜ r ≡ volumeIn at (now (v .entry)) ⌝ }
+    ensures { λ r. ⌜ VolumeAnswer at (now (v .entry)) r ⌝ }
 {
     let drive = octets::u32_at(v, 4);
     if 6 < drive {
@@ -334,7 +335,7 @@ fn network_head_wrong(v: &[u8]) -> usize
 }
 
 fn network_if(wrong: usize, n: Network) -> NetworkRead
-    ensures { λ r. ⌜ r ≡ networkIf wrong n ⌝ }
+    ensures { λ r. ⌜ PieceAnswers networkNumber networkValue (eqb wrong 0) 0 wrong (networkIf wrong n) r ⌝ }
 {
     if wrong == 0 {
         NetworkRead::Good(n)
@@ -346,7 +347,7 @@ fn network_if(wrong: usize, n: Network) -> NetworkRead
 // The network link from its own part of the file, which starts at the place at.
 fn network_in(v: &[u8], at: usize) -> NetworkRead
     requires { ⌜ (0x14 ≤ length (now v)) × (at + length (now v) ≤ 65536) ⌝ }
-    ensures { λ r. ⌜ r ≡ networkIn at (now (v .entry)) ⌝ }
+    ensures { λ r. ⌜ NetworkAnswer at (now (v .entry)) r ⌝ }
 {
     let wrong = network_head_wrong(v);
     if wrong != 0 {

@@ -27,7 +27,7 @@ use Rattle.format.specs.declared.Fault.{Fault}
 use Rattle.format.specs.declared.Fault.the-variants.{Room as ROOM}
 use Rattle.format.specs.declared.Verdict.{Verdict}
 use Rattle.format.specs.declared.Verdict.the-variants.{Accepted, Refused}
-use Rattle.format.specs.Tests.{nowhere, got, refused, oneOr0, place, noPlace}
+use Rattle.format.specs.Tests.{got, refused, oneOr0, place, noPlace}
 use Rattle.format.specs.Numbers.{Numbered}
 use Rattle.format.specs.Presence.{workdirBit, argumentsBit, stringThere, stringsUnicode}
 use Rattle.format.specs.Blocks.{blocks}
@@ -38,7 +38,7 @@ use Rattle.format.specs.Writing.{outputOf}
 use Rattle.format.specs.Target.{hasTarget}
 use Rattle.format.specs.Key.{noPart, somePart, partIf, Key, blockText, environment, partBytes, keyBytes, key, keyAnswer, keyOutput, keyIn}
 use Rattle.format.specs.Demands.{Accepts}
-use Rattle.format.proofs.AnswerLaws.{numbered}
+use Rattle.format.proofs.AnswerLaws.{nowhere, numbered}
 use Rattle.format.proofs.BodyLaws.{body-part}
 use Rattle.format.proofs.Chains.{drop-take}
 use Rattle.format.proofs.AcceptedLaws.{accepted-read, accepted-held, accepted-bodies, accepted-limit, refused-read}

@@ -11,7 +11,8 @@ use Rattle.octets.specs.Numbers.{Bytes}
 use Rattle.format.specs.declared.Fault.the-variants.{Place as PLACE, Unwritable as UNWRITABLE, Room as ROOM, NoTarget as NOTARGET}
 use Rattle.format.specs.declared.Record.{Record}
 use Rattle.format.specs.Numbers.{answerValue}
-use Rattle.format.specs.Tests.{_else_at_, noSection, nowhere, tests, Outcome, got, refused, andThen}
+use Rattle.format.specs.Tests.{_else_at_, noSection, tests, Outcome, got, refused, andThen}
+use Rattle.format.proofs.AnswerLaws.{nowhere}
 use Rattle.format.specs.Shortcut.{most, Sections, shortcut, recordOf, verdictOf, reading}
 use Rattle.format.specs.Bodies.{placed}
 use Rattle.format.specs.Contents.{Contents, contents}

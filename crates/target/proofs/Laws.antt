@@ -18,14 +18,14 @@ use Rattle.format.specs.declared.Fault.{Fault}
 use Rattle.format.specs.declared.Fault.the-variants.{Room as ROOM, NoTarget as NOTARGET}
 use Rattle.format.specs.declared.Verdict.{Verdict}
 use Rattle.format.specs.declared.Verdict.the-variants.{Accepted, Refused}
-use Rattle.format.specs.Tests.{nowhere, got, refused}
+use Rattle.format.specs.Tests.{got, refused}
 use Rattle.format.specs.Numbers.{Numbered}
 use Rattle.format.specs.Presence.{localThere}
 use Rattle.format.specs.Shortcut.{reading}
 use Rattle.format.specs.Contents.{bytesAt}
 use Rattle.format.specs.Writing.{outputOf}
 use Rattle.format.specs.Target.{hasTarget, separated, backslash, separator, joined, targetText, target, targetAnswer, targetOutput}
-use Rattle.format.proofs.AnswerLaws.{numbered}
+use Rattle.format.proofs.AnswerLaws.{nowhere, numbered}
 use Rattle.format.proofs.BodyLaws.{body-length, body-part, part-length}
 use Rattle.format.proofs.TargetLaws.{separator-few}
 use Rattle.format.proofs.AcceptedLaws.{accepted-read, accepted-held, refused-read, accepted-bodies, accepted-limit}

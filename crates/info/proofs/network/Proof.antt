@@ -35,17 +35,17 @@ enum-known-e c = search needs
 sub-v : tie.Need-sub-v
 sub-v c =
     let after-end-of = c .before .before .before in
-    omega (arith, ended _ _ _ _ _ (after-end-of .end-of .ensures) (c .before .e .given .1))
+    omega (arith, ended _ _ _ _ _ (after-end-of .end-of .ensures .is) (c .before .e .given .1))
 
 part-v-start : tie.Need-part-v-start
 part-v-start c =
     let after-end-of = c .before .before .before in
-    omega (arith, ended _ _ _ _ _ (after-end-of .end-of .ensures) (c .before .e .given .1))
+    omega (arith, ended _ _ _ _ _ (after-end-of .end-of .ensures .is) (c .before .e .given .1))
 
 part-v-end : tie.Need-part-v-end
 part-v-end c =
     let after-end-of = c .before .before .before in
-    omega (arith, ended _ _ _ _ _ (after-end-of .end-of .ensures) (c .before .e .given .1))
+    omega (arith, ended _ _ _ _ _ (after-end-of .end-of .ensures .is) (c .before .e .given .1))
 
 add-network-in : tie.Need-add-network-in
 add-network-in c = search needs
@@ -54,7 +54,7 @@ network-in-requires : tie.Need-network-in-requires
 network-in-requires c κs =
     let after-e = c .before .before in
     let after-end-of = after-e .before .before in
-    let w = ended _ _ _ _ _ (after-end-of .end-of .ensures) (after-e .e .given .1) in
+    let w = ended _ _ _ _ _ (after-end-of .end-of .ensures .is) (after-e .e .given .1) in
     simp (length-take, length-drop) (omega arith, omega (arith, after-end-of .before .before .before .before .pre .1))
 
 enum-known-wrong-2 : tie.Need-enum-known-wrong-2
@@ -65,8 +65,8 @@ add-no-network c =
     let after-network-in = c .before .before .before in
     let after-e = after-network-in .before .before .before in
     let after-end-of = after-e .before .before in
-    let w = ended _ _ _ _ _ (after-end-of .end-of .ensures) (after-e .e .given .1) in
-    let b = bad-small networkKind _ _ (after-network-in .network-in .ensures) (c .before .wrong2 .given .1) in
+    let w = ended _ _ _ _ _ (after-end-of .end-of .ensures .is) (after-e .e .given .1) in
+    let b = bad-small networkKind _ _ (after-network-in .network-in .ensures .is) (c .before .wrong2 .given .1) in
     omega (arith, after-end-of .before .before .before .before .pre .1)
 
 no-network-requires-3 : tie.Need-no-network-requires-3
@@ -80,7 +80,7 @@ sub-t21 c =
     let after-v = c .before .before .before .before in
     let after-e = after-v .before .before in
     let after-end-of = after-e .before .before in
-    omega (arith, ended _ _ _ _ _ (after-end-of .end-of .ensures) (after-e .e .given .1))
+    omega (arith, ended _ _ _ _ _ (after-end-of .end-of .ensures .is) (after-e .e .given .1))
 
 returns-2 : tie.Need-returns-2
 returns-2 c =
@@ -88,7 +88,7 @@ returns-2 c =
     let after-end-of = after-wrong .before .before in
     let after-u32-at = after-end-of .before in
     let after-if1 = after-u32-at .before in
-    struct-lost networkKind _ _ _ _ (after-if1 .if1 .left) (after-u32-at .u32-at .ensures) (after-end-of .end-of .ensures) (after-wrong .wrong .given .1) (c .no-network2 .ensures)
+    struct-lost networkKind _ _ _ _ (after-if1 .if1 .left) (after-u32-at .u32-at .ensures) (after-end-of .end-of .ensures .is) (after-wrong .wrong .given .1) (c .no-network2 .ensures)
 
 returns-3 : tie.Need-returns-3
 returns-3 c =
@@ -98,8 +98,8 @@ returns-3 c =
     let after-end-of = after-e .before .before in
     let after-u32-at = after-end-of .before in
     let after-if1 = after-u32-at .before in
-    struct-bad networkKind _ _ _ _ (after-if1 .if1 .left) (after-u32-at .u32-at .ensures) (after-end-of .end-of .ensures) (after-e .e .given .1)
-    (after-network-in .network-in .ensures) (after-wrong2 .wrong2 .given .1) refl (c .no-network3 .ensures)
+    struct-bad networkKind _ _ _ _ (after-if1 .if1 .left) (after-u32-at .u32-at .ensures) (after-end-of .end-of .ensures .is) (after-e .e .given .1)
+    (after-network-in .network-in .ensures .is) (after-wrong2 .wrong2 .given .1) refl (c .no-network3 .ensures)
 
 returns-4 : tie.Need-returns-4
 returns-4 c =
@@ -108,8 +108,8 @@ returns-4 c =
     let after-end-of = after-e .before .before in
     let after-u32-at = after-end-of .before in
     let after-if1 = after-u32-at .before in
-    struct-good networkKind _ _ _ _ (after-if1 .if1 .left) (after-u32-at .u32-at .ensures) (after-end-of .end-of .ensures) (after-e .e .given .1)
-    (after-network-in .network-in .ensures) (after-if1 .before .before .pre .1) (c .before .network .given .1)
+    struct-good networkKind _ _ _ _ (after-if1 .if1 .left) (after-u32-at .u32-at .ensures) (after-end-of .end-of .ensures .is) (after-e .e .given .1)
+    (after-network-in .network-in .ensures .is) (after-if1 .before .before .pre .1) (c .before .network .given .1)
 
 pub network-spec : {M : Type 1} → statement M
 network-spec =

@@ -133,7 +133,7 @@ returns-2 c =
     (after-field .field .ensures) (after-text-at3 .text-at3 .ensures .0) (after-field2 .field2 .ensures) (after-text-at4 .text-at4 .ensures .0) in
     network-read _ _ (after-network-head-wrong .network-head-wrong .ensures) (after-if1 .if1 .left) f (after-apart-four .apart-four .ensures)
     (after-unless .unless .ensures) (after-unless2 .unless2 .ensures) (after-unless3 .unless3 .ensures) (after-unless4 .unless4 .ensures)
-    (after-u32-at .u32-at .ensures) (after-u32-at2 .u32-at2 .ensures) (after-provider-there .provider-there .ensures) (after-u32-at4 .u32-at4 .ensures) (after-number-if .number-if .ensures) (c .network-if .ensures)
+    (after-u32-at .u32-at .ensures) (after-u32-at2 .u32-at2 .ensures) (after-provider-there .provider-there .ensures) (after-u32-at4 .u32-at4 .ensures) (after-number-if .number-if .ensures) (c .network-if .ensures .is)
 
 pub network-in-spec : {M : Type 1} → statement M
 network-in-spec =

@@ -1,5 +1,6 @@
 -- What the functions of this crate find: format's definitions, with zeros where a test fails.
 use Prim.Native.Nat.{ℕ, _+_, _≤_}
+use mathlib.Core.Path.{_≡_}
 use mathlib.Core.List.{List, [], _∷_}
 use mathlib.Core.Bool.{Bool, true, false, cond}
 use lib.ListN.{drop}
@@ -10,6 +11,7 @@ use Rattle.format.specs.declared.Volume.{Volume}
 use Rattle.format.specs.declared.Network.{Network}
 use Rattle.format.specs.declared.Fault.the-variants.{Piece as PIECE}
 use Rattle.format.specs.Tests.{Test, _else_at_, all, noPlace}
+use Rattle.format.specs.Numbers.{numberOf}
 use Rattle.format.specs.Pieces.{Piece, textPiece, textPlace, structTests, testsOf, span, pieceTests}
 use Rattle.format.specs.Steps.Wrong.{wrong}
 use Rattle.format.specs.Volume.{volumePiece, volumeAt, volumeRules, volumeFields, noVolume}
@@ -89,6 +91,50 @@ networkIf i n = cond (eqb i 0) (GoodNetwork n) (BadNetwork i)
 
 unfoldable pub networkIn : ℕ → List ℕ → NetworkRead
 networkIn p v = cond (all (networkRules v)) (GoodNetwork (networkFields p v)) (BadNetwork (wrong (networkRules v)))
+
+-- ---- numbers and values of the answers
+
+unfoldable pub endNumber : StructEnd → ℕ
+endNumber (At e) = 0
+endNumber (Outside i) = numberOf PIECE
+
+-- where the structure ends, or the field at fault
+unfoldable pub endValue : StructEnd → ℕ
+endValue (At e) = e
+endValue (Outside i) = i
+
+unfoldable pub volumeNumber : VolumeRead → ℕ
+volumeNumber (GoodVolume v) = 0
+volumeNumber (BadVolume i) = numberOf PIECE
+
+-- the field at fault, of these two
+unfoldable pub volumeValue : VolumeRead → ℕ
+volumeValue (GoodVolume v) = 0
+volumeValue (BadVolume i) = i
+
+unfoldable pub networkNumber : NetworkRead → ℕ
+networkNumber (GoodNetwork n) = 0
+networkNumber (BadNetwork i) = numberOf PIECE
+
+unfoldable pub networkValue : NetworkRead → ℕ
+networkValue (GoodNetwork n) = 0
+networkValue (BadNetwork i) = i
+
+-- r is e, with 0 OK and the value right, or 7 PIECE and the field at fault
+pub record PieceAnswers {R : Type 0} (numberIn valueIn : R → ℕ) (ok : Bool) (right fault : ℕ) (e r : R) : Type 0 where
+  pub is : r ≡ e
+  pub number : numberIn r ≡ cond ok 0 (numberOf PIECE)
+  pub value : valueIn r ≡ cond ok right fault
+
+abbrev pub EndAnswer : List ℕ → ℕ → ℕ → ℕ → ℕ → StructEnd → Type 0
+EndAnswer l head least i o r =
+    PieceAnswers endNumber endValue (all (frameTests l head least i o)) (o + u32At (drop o l) 0) (wrong (frameTests l head least i o)) (endAt l head least i o) r
+
+abbrev pub VolumeAnswer : ℕ → List ℕ → VolumeRead → Type 0
+VolumeAnswer p v r = PieceAnswers volumeNumber volumeValue (all (volumeRules v)) 0 (wrong (volumeRules v)) (volumeIn p v) r
+
+abbrev pub NetworkAnswer : ℕ → List ℕ → NetworkRead → Type 0
+NetworkAnswer p v r = PieceAnswers networkNumber networkValue (all (networkRules v)) 0 (wrong (networkRules v)) (networkIn p v) r
 
 -- ---- LinkInfo
 
