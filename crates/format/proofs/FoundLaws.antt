@@ -248,11 +248,11 @@ module _ (f : List ℕ) where
   blocks-lies = record {
     listed = λ p c n e.
         found-elim blocks p (drop p f) (λ c n. EndToEnd p (blockRows (c .start) (c .read)) (p + n))
-        (λ ls n i. block-rows p (p + n) ls (omega (arith, (blocks-walked p (drop p f) ls n i) .adds)))
+        (λ ls n i. block-rows p (p + n) ls (omega (arith, (blocks-walked [] p (drop p f) ls n i) .adds)))
         c n e;
     inside = λ p c n e.
         found-elim blocks p (drop p f) (λ c n. allInside (p + n) (place (c .start) (sum (c .read)) ∷ []) ≡ true)
-        (λ ls n i. one (p + n) (place p (sum ls)) (le-leb (p + sum ls) (p + n) (omega (arith, (blocks-walked p (drop p f) ls n i) .adds))))
+        (λ ls n i. one (p + n) (place p (sum ls)) (le-leb (p + sum ls) (p + n) (omega (arith, (blocks-walked [] p (drop p f) ls n i) .adds))))
         c n e;
   }
 

@@ -85,7 +85,7 @@ made s r e =
 -- the blocks' lengths add up to their body's
 pub body-long : {s : List ℕ} {r : Record} (m : Made s r) → length (contents s r .blocks) ≡ sum (m .lengths)
 body-long {s} m =
-    let w = blocks-walked (m .start) (drop (m .start) s) (m .lengths) (m .count) (m .walk) in
+    let w = blocks-walked [] (m .start) (drop (m .start) s) (m .lengths) (m .count) (m .walk) in
     ap length (m .body) ∙ length-take-le (sum (m .lengths)) (drop (m .start) s) (omega (arith, w .adds, w .inside))
 
 -- ---- how long it is

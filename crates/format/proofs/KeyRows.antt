@@ -5,7 +5,7 @@ use Prim.Native.Nat.{ℕ, _-_}
 use lib.ListN.{length}
 use Rattle.octets.specs.Numbers.{number, numberAt, little}
 use Rattle.octets.specs.Characters.{units, beforeZero}
-use Rattle.format.specs.declared.Fault.the-variants.{Cut as CUT, Room as ROOM}
+use Rattle.format.specs.declared.Fault.the-variants.{Cut as CUT, Room as ROOM, Twice as TWICE}
 use Rattle.format.specs.declared.Spot.{Spot}
 use Rattle.format.specs.Tests.{got, refused, section, noSection, spotAt}
 use Rattle.format.proofs.AnswerLaws.{nowhere}
@@ -20,11 +20,12 @@ use Rattle.format.specs.Probes.{zeros, withSection, Z, dashG1}
 abbrev environmentBlock : List ℕ → List ℕ
 environmentBlock text = little 4 788 ++ little 4 0xA0000001 ++ text ++ zeros (780 - length text)
 
--- Z; P9's arguments, and into a room one too small; arguments that are there and empty; two environment blocks, the first `a`, the second `b`; a shortcut cut short
+-- Z; P9's arguments, and into a room one too small; arguments that are there and empty; an environment block, and two of them; a shortcut cut short
 pub key-rows : key Z 21
     ∷ key (withSection 0xA0 dashG1) 27
     ∷ key (withSection 0xA0 dashG1) 26
     ∷ key (withSection 0x20 (zeros 2)) 21
+    ∷ key (withSection 0 (environmentBlock (0x61 ∷ []))) 22
     ∷ key (withSection 0 (environmentBlock (0x61 ∷ []) ++ environmentBlock (0x62 ∷ []))) 22
     ∷ key (withSection 0xA0 (0x03 ∷ 0x00 ∷ 0x2D ∷ [])) 100
     ∷ []
@@ -33,6 +34,7 @@ pub key-rows : key Z 21
     ∷ refused ROOM nowhere
     ∷ got (zeros 6 ++ 1 ∷ zeros 14) 21
     ∷ got (zeros 16 ++ 1 ∷ 1 ∷ zeros 3 ++ 0x61 ∷ []) 22
+    ∷ refused TWICE (spotAt (section 8 864) 4)
     ∷ refused CUT (spotAt (section 6 76) 0)
     ∷ []
 unfolding number numberAt little units beforeZero identifierOk signed itemTests slotOf sizeFits insideTests blocksFrom sections shortcut keyOf keyBytes key

@@ -1,6 +1,6 @@
 -- Records that are the same have the same key, so a rewritten shortcut keeps its key.
 use mathlib.Core.Path.{_≡_, refl, sym, ap, _∙_}
-use mathlib.Core.List.{List}
+use mathlib.Core.List.{List, [], _∷_}
 use mathlib.Core.Bool.{Bool, true, false, cond}
 use Prim.Native.Nat.{ℕ, zero, suc, _+_, _-_, _≤_, _<_}
 use native.Mathlib.Omega.{arith}
@@ -14,7 +14,7 @@ use Rattle.octets.proofs.NumberLaws.{number-same, number-drop}
 use Rattle.format.specs.declared.Place.{Place}
 use Rattle.format.specs.declared.Record.{Record}
 use Rattle.format.specs.Tests.{got, place}
-use Rattle.format.specs.Blocks.{blockSize, blocks, firstPlace}
+use Rattle.format.specs.Blocks.{slotAt, blockSize, blocksAfter, blocks, firstPlace}
 use Rattle.format.specs.Shortcut.{sum}
 use Rattle.format.specs.Contents.{Contents, contents, Same}
 use Rattle.format.specs.Demands.{Accepts}
@@ -27,12 +27,12 @@ use Rattle.format.proofs.KeyRoom.{keyFrom, environmentOf, made, body-lo
 lengths-told : (p q : ℕ) (s t ls ms : List ℕ) (n m : ℕ) → blocks p s ≡ got ls n → blocks q t ≡ got ms m
     → sum ls ≡ sum ms → take (sum ls) s ≡ take (sum ls) t → ls ≡ ms
 lengths-told p q s t ls ms n m e f l u =
-    let w = blocks-walked p s ls n e in
-    let v = blocks-walked q t ms m f in
+    let w = blocks-walked [] p s ls n e in
+    let v = blocks-walked [] q t ms m f in
     let a : n - 4 ≡ sum ls = omega (arith, w .adds) in
     let b : m - 4 ≡ n - 4 = omega (arith, w .adds, v .adds) in
-    let z : blockSize (drop (n - 4) t) < 4 = rw b at (ends-terminal (length t) q t ms m (omega arith) f) in
-    let i : blocks q t ≡ got ls n = blocks-same p s ls n e q t (rw a (sym u)) (omega (arith, w .adds, v .adds, v .inside)) z in
+    let z : blockSize (drop (n - 4) t) < 4 = rw b at (ends-terminal (length t) [] q t ms m (omega arith) f) in
+    let i : blocks q t ≡ got ls n = blocks-same [] p s ls n e q t (rw a (sym u)) (omega (arith, w .adds, v .adds, v .inside)) z in
     cc
 
 -- the text of this block, or of a later one
@@ -42,13 +42,13 @@ this-or-later s t p q n x y true e f = ap (λ (l : List ℕ). partIf (leb 1 n) (
 this-or-later s t p q n x y false e f = f
 
 -- and the text that a key has of them, wherever they stand
-environment-told : (k : ℕ) (s t : List ℕ) (p q : ℕ) (ls : List ℕ) (n : ℕ) → length (drop p s) ≤ k → blocks p (drop p s) ≡ got ls n
+environment-told : (k : ℕ) (before s t : List ℕ) (p q : ℕ) (ls : List ℕ) (n : ℕ) → length (drop p s) ≤ k → blocksAfter before p (drop p s) ≡ got ls n
     → take (sum ls) (drop p s) ≡ take (sum ls) (drop q t) → environmentOf s p ls ≡ environmentOf t q ls
-environment-told zero s t p q ls n l e = no-value (sym (none-left p (drop p s) (omega arith)) ∙ e)
-environment-told (suc k) s t p q ls n l e =
-    step-elim p (drop p s) (λ ls n. take (sum ls) (drop p s) ≡ take (sum ls) (drop q t) → environmentOf s p ls ≡ environmentOf t q ls)
+environment-told zero before s t p q ls n l e = no-value (sym (none-left before p (drop p s) (omega arith)) ∙ e)
+environment-told (suc k) before s t p q ls n l e =
+    step-elim before p (drop p s) (λ ls n. take (sum ls) (drop p s) ≡ take (sum ls) (drop q t) → environmentOf s p ls ≡ environmentOf t q ls)
     (λ h z u. refl)
-    (λ c ls m i u.
+    (λ c o ls m i u.
     let n : ℕ = blockSize (drop p s) in
     let b : 8 ≤ n = leb-true 8 n (c .0) in
     let f : u32At s (p + 4) ≡ u32At t (q + 4)
@@ -57,8 +57,8 @@ environment-told (suc k) s t p q ls n l e =
     = sym (take-take n (n + sum ls) (drop p s) (omega arith)) ∙ ap (take n) u ∙ take-take n (n + sum ls) (drop q t) (omega arith) in
     let y : take (sum ls) (drop n (drop p s)) ≡ take (sum ls) (drop n (drop q t))
     = sym (drop-take n (sum ls) (drop p s)) ∙ ap (drop n) u ∙ drop-take n (sum ls) (drop q t) in
-    let o : length (drop (p + n) s) ≤ k = omega (arith, length-drop p s, length-drop (p + n) s) in
-    let h = environment-told k s t (p + n) (q + n) ls m o (rw drop-drop at i) (rw (drop-drop n p s, drop-drop n q t) at y) in
+    let w : length (drop (p + n) s) ≤ k = omega (arith, length-drop p s, length-drop (p + n) s) in
+    let h = environment-told k (slotAt (drop p s) ∷ before) s t (p + n) (q + n) ls m w (rw drop-drop at i) (rw (drop-drop n p s, drop-drop n q t) at y) in
     rw f
     (this-or-later s t p q n (firstPlace s 0xA0000001 (p + n) ls) (firstPlace t 0xA0000001 (q + n) ls) (eqb (u32At t (q + 4)) 0xA0000001) x h))
     ls n e
@@ -75,5 +75,5 @@ same-record-same-key s r t q a b e =
     let d : m .lengths ≡ o .lengths
     = lengths-told (m .start) (o .start) (drop (m .start) s) (drop (o .start) t) (m .lengths) (o .lengths) (m .count) (o .count) (m .walk) (o .walk) l u in
     let v : environmentOf s (m .start) (m .lengths) ≡ environmentOf t (o .start) (o .lengths)
-    = environment-told (length (drop (m .start) s)) s t (m .start) (o .start) (m .lengths) (m .count) (omega arith) (m .walk) u ∙ ap (environmentOf t (o .start)) d in
+    = environment-told (length (drop (m .start) s)) [] s t (m .start) (o .start) (m .lengths) (m .count) (omega arith) (m .walk) u ∙ ap (environmentOf t (o .start)) d in
     m .is ∙ ap (λ (c : Contents). keyFrom c (environmentOf s (m .start) (m .lengths))) e ∙ ap (keyFrom (contents t q)) v ∙ sym (o .is)

@@ -9,7 +9,6 @@ pub mod HotkeyLaws
 pub mod HeaderLaws
 pub mod SignedLaws
 pub mod ItemsLaws
-pub mod EarlierLaws
 pub mod StringLaws
 pub mod PieceLaws
 pub mod FieldLaws

@@ -12,7 +12,7 @@ use Rattle.octets.specs.Numbers.{number, numberAt, u16At, u32At}
 use Rattle.octets.specs.Characters.{bytesOf}
 use Rattle.octets.proofs.NumberLaws.{part-inside, number-drop}
 use Rattle.format.specs.declared.Fault.{Fault}
-use Rattle.format.specs.declared.Fault.the-variants.{Cut as CUT, Items as ITEMS, Info as INFO, Piece as PIECE, Block as BLOCK}
+use Rattle.format.specs.declared.Fault.the-variants.{Cut as CUT, Items as ITEMS, Info as INFO, Piece as PIECE, Block as BLOCK, Twice as TWICE}
 use Rattle.format.specs.Tests.{Test, _else_at_, section, spotAt, tests, Outcome, got, refused, Reader, andThen, chain, _then_, place, noPlace}
 use Rattle.format.specs.Presence.{itemsThere, infoThere, nameBit, relativeBit, workdirBit, argumentsBit, iconBit, stringThere, stringsUnicode}
 use Rattle.format.specs.Header.{headerRules, headerFields, header}
@@ -22,7 +22,7 @@ use Rattle.format.specs.Volume.{volumeRules}
 use Rattle.format.specs.Network.{networkUnicode, networkRules}
 use Rattle.format.specs.Info.{infoSize, infoHead, longHead, headOk, hasLocal, infoPieces, infoHeadTests, infoRules, infoFields, noInfo, info}
 use Rattle.format.specs.Strings.{stringLength, string}
-use Rattle.format.specs.Blocks.{slotOf, slotAt, sizeFits, pathTests, insideTests, blockSize, blockTests, blocks}
+use Rattle.format.specs.Blocks.{slotOf, slotAt, sizeFits, pathTests, insideTests, blockSize, blockTests, once, blocksAfter, blocks}
 use Rattle.format.specs.Shortcut.{Section, found, sectionIf, stringSection, tail, sections}
 use Rattle.format.specs.Positions.{sizeField, sectionEnd, unended, linkStart, LinkEnds, no-section, no-item-size, no-block-item-size, no-net-name-field, no-device-name-field, InSection}
 use Rattle.format.specs.Steps.ItemWalk.{walk}
@@ -30,7 +30,7 @@ use Rattle.format.proofs.Bools.{and-true, or-true, by-order}
 use Rattle.format.proofs.Chains.{Pass, drop-take}
 use Rattle.format.proofs.Holds.{info-head-holds}
 use Rattle.format.proofs.ItemsLaws.{tests-walk}
-use Rattle.format.proofs.BlockLaws.{none-left, the-end, one-more}
+use Rattle.format.proofs.BlockLaws.{none-left, the-end, later, one-more}
 use Rattle.format.proofs.EachLaws.{unless-false, Each, each-append, each-below, each-items, PiecesIn, each-piece, each-text, each-struct, each-volume, each-network}
 
 -- ---- numbers and parts
@@ -336,32 +336,49 @@ module _ (s : List ℕ) where
       )
 
   -- k bounds what is left
-  near-walk : (k p : ℕ) → p ≤ length s → length (drop p s) ≤ k → Near p (blocks p (drop p s))
-  near-walk zero p l m = rw (none-left p (drop p s) (omega arith)) (cut 9 p l (omega arith))
-  near-walk (suc k) p l m =
+  near-walk : (k : ℕ) (before : List ℕ) (p : ℕ) → p ≤ length s → length (drop p s) ≤ k → Near p (blocksAfter before p (drop p s))
+  near-walk zero before p l m = rw (none-left before p (drop p s) (omega arith)) (cut 9 p l (omega arith))
+  near-walk (suc k) before p l m =
       by-order 4 (length (drop p s))
       (λ h.
       by-order 4 (blockSize (drop p s))
-      (λ t. rw (one-more p (drop p s) h t) (near-tests 8 p (blockTests (drop p s)) _ (block-in p l h t) (λ c. next c (λ g q. near-walk k (p + blockSize (drop p s)) g q))))
-      (λ t. rw (the-end p (drop p s) h t) (omega (arith, length-drop p s))))
-      (λ h. rw (none-left p (drop p s) h) (cut 9 p l (omega arith)))
+      (λ t. rw (one-more before p (drop p s) h t) (near-tests 8 p (blockTests (drop p s)) _ (block-in p l h t) (λ c. after (later before p n (drop p s)) (next c (λ g q. near-walk k (slotAt (drop p s) ∷ before) (p + n) g q)))))
+      (λ t. rw (the-end before p (drop p s) h t) (omega (arith, length-drop p s))))
+      (λ h. rw (none-left before p (drop p s) h) (cut 9 p l (omega arith)))
     where
-      after : (r : Outcome (List ℕ)) → Near (p + blockSize (drop p s)) r → Near {A = List ℕ} p (andThen r (λ lengths m. got (blockSize (drop p s) ∷ lengths) (blockSize (drop p s) + m)))
+      n : ℕ
+      n = blockSize (drop p s)
+
+      -- a refusal at this block, or what is read after it
+      AtOrAfter : Outcome (List ℕ) → Type 0
+      AtOrAfter (got ls m) = p + n + m ≤ length s
+      AtOrAfter (refused f w) = InSection s f w
+
+      after : (r : Outcome (List ℕ)) → AtOrAfter r → Near {A = List ℕ} p (andThen r (λ lengths m. got (n ∷ lengths) (n + m)))
       after (got ls m) h = omega arith
       after (refused f w) h = h
 
-      next : Pass (blockTests (drop p s))
-          → (p + blockSize (drop p s) ≤ length s → length (drop (p + blockSize (drop p s)) s) ≤ k → Near (p + blockSize (drop p s)) (blocks (p + blockSize (drop p s)) (drop (p + blockSize (drop p s)) s)))
-          → Near {A = List ℕ} p (andThen (blocks (p + blockSize (drop p s)) (drop (blockSize (drop p s)) (drop p s))) (λ lengths m. got (blockSize (drop p s) ∷ lengths) (blockSize (drop p s) + m)))
+      next : Pass (blockTests (drop p s)) → (p + n ≤ length s → length (drop (p + n) s) ≤ k → Near (p + n) (blocksAfter (slotAt (drop p s) ∷ before) (p + n) (drop (p + n) s)))
+          → AtOrAfter (later before p n (drop p s))
       next c f =
-          let b = leb-true 8 (blockSize (drop p s)) (c .0) in
-          let w = leb-true (blockSize (drop p s)) (length (drop p s)) (c .1 .0) in
-          rw (drop-drop (blockSize (drop p s)) p s)
-          (after (blocks (p + blockSize (drop p s)) (drop (p + blockSize (drop p s)) s))
-          (f (omega (arith, length-drop p s)) (omega (arith, length-drop p s, length-drop (p + blockSize (drop p s)) s))))
+          let b = leb-true 8 n (c .0) in
+          let w = leb-true n (length (drop p s)) (c .1 .0) in
+          let z : n ≡ u32At s p = number-first 4 p s in
+          rw (drop-drop n p s)
+          (choose (once before (slotAt (drop p s))) (blocksAfter (slotAt (drop p s) ∷ before) (p + n) (drop (p + n) s))
+          (f (omega (arith, length-drop p s)) (omega (arith, length-drop p s, length-drop (p + n) s)))
+          (strict 8 p TWICE 4 (omega (arith, length-drop p s))))
+        where
+          rest : (r : Outcome (List ℕ)) → Near (p + n) r → AtOrAfter r
+          rest (got ls m) h = h
+          rest (refused f w) h = h
+
+          choose : (b : Bool) (r : Outcome (List ℕ)) → Near (p + n) r → Stands 8 p TWICE 4 → AtOrAfter (cond b r (refused TWICE (spotAt (section 8 p) 4)))
+          choose true r h t = rest r h
+          choose false r h t = t
 
   near-blocks : NearBy (found blocks)
-  near-blocks = record { near = λ p l. near-found blocks p (near-walk (length (drop p s)) p l (omega arith)) }
+  near-blocks = record { near = λ p l. near-found blocks p (near-walk (length (drop p s)) [] p l (omega arith)) }
 
   -- ---- all of them
 

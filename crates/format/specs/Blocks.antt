@@ -1,12 +1,12 @@
 -- FORMAT: Blocks.
 use Prim.Native.Nat.{ℕ, zero, suc, _+_, _-_}
 use mathlib.Core.List.{List, [], _∷_}
-use mathlib.Core.Bool.{Bool, true, false, _&&_, _||_, cond}
+use mathlib.Core.Bool.{Bool, true, false, not, _&&_, _||_, cond}
 use lib.ListN.{length, take, drop}
 use lib.Dec.{leb, ltb, eqb}
 use Rattle.octets.specs.Numbers.{u32At}
 use Rattle.format.specs.declared.Place.{Place}
-use Rattle.format.specs.declared.Fault.the-variants.{Cut as CUT, Block as BLOCK}
+use Rattle.format.specs.declared.Fault.the-variants.{Cut as CUT, Block as BLOCK, Twice as TWICE}
 use Rattle.format.specs.Tests.{Test, _else_at_, Site, section, spotAt, tests, Outcome, got, refused, Reader, andThen, place, noPlace}
 use Rattle.format.specs.Items.{itemTests}
 use Rattle.format.specs.Pieces.{textEnds}
@@ -108,6 +108,24 @@ blockStep p s =
     tests (terminal p) (leb 4 (length s) else CUT at 0 ∷ [])
     (cond (ltb (blockSize s) 4) (got aTerminal 4) (tests (block p) (blockTests s) (got aBlock (blockSize s))))
 
+-- ---- a known signature stands once
+
+-- the slots of the table's rows
+abbrev pub known : ℕ → Bool
+known slot = ltb slot 11
+
+abbrev pub isAmong : ℕ → List ℕ → Bool
+isAmong x [] = false
+isAmong x (y ∷ ys) = eqb x y || isAmong x ys
+
+-- `before` has the slots of the blocks before this one; signatures that are not known repeat freely
+abbrev pub once : List ℕ → ℕ → Bool
+once before slot = not (known slot && isAmong slot before)
+
+-- tested when the block has passed all of its own tests; the field is its signature
+abbrev pub onceTests : List ℕ → ℕ → List Test
+onceTests before slot = once before slot else TWICE at 4 ∷ []
+
 -- ---- the walk: the lengths of the blocks before the terminal
 
 -- a step, and what is read after it if it is a block
@@ -117,17 +135,22 @@ follow (got aBlock n) rest = andThen rest (λ lengths m. got (n ∷ lengths) (n 
 follow (refused f q) rest = refused f q
 
 -- p is where the next block starts; k bytes of the one before it are still to come
-unfoldable pub blocksFrom : ℕ → ℕ → List ℕ → Outcome (List ℕ)
-blocksFrom p zero [] = refused CUT (spotAt (terminal p) 0)
-blocksFrom p zero (a ∷ l) =
+unfoldable pub blocksFrom : List ℕ → ℕ → ℕ → List ℕ → Outcome (List ℕ)
+blocksFrom before p zero [] = refused CUT (spotAt (terminal p) 0)
+blocksFrom before p zero (a ∷ l) =
     let n = blockSize (a ∷ l) in
-    follow (blockStep p (a ∷ l)) (blocksFrom (p + n) (n - 1) l)
+    let slot = slotAt (a ∷ l) in
+    follow (blockStep p (a ∷ l)) (tests (block p) (onceTests before slot) (blocksFrom (slot ∷ before) (p + n) (n - 1) l))
 -- never met: a block's size was tested against what is left
-blocksFrom p (suc k) [] = refused CUT (spotAt (terminal p) 0)
-blocksFrom p (suc k) (a ∷ l) = blocksFrom p k l
+blocksFrom before p (suc k) [] = refused CUT (spotAt (terminal p) 0)
+blocksFrom before p (suc k) (a ∷ l) = blocksFrom before p k l
+
+-- the blocks that stand after others, of these slots
+abbrev pub blocksAfter : List ℕ → Reader (List ℕ)
+blocksAfter before p s = blocksFrom before p 0 s
 
 abbrev pub blocks : Reader (List ℕ)
-blocks p s = blocksFrom p 0 s
+blocks = blocksAfter []
 
 -- ---- the first block of each kind
 

@@ -4,4 +4,3 @@ pub mod Lengths
 pub mod ItemWalk
 pub mod Wrong
 pub mod Answers
-pub mod Earlier

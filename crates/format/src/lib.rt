@@ -91,6 +91,7 @@ pub enum Fault {
     Unwritable,
     Room,
     NoTarget,
+    Twice,
 }
 
 // Accepted with the length, or refused with the fault and its position.
@@ -198,6 +199,7 @@ pub fn number_of(f: Fault) -> u8
         Fault::Unwritable => 11,
         Fault::Room => 12,
         Fault::NoTarget => 13,
+        Fault::Twice => 14,
     }
 }
 
