@@ -16,6 +16,7 @@ pub mod VolumeLaws
 pub mod NetworkLaws
 pub mod InfoLaws
 pub mod BlockLaws
+pub mod RepeatLaws
 pub mod EachLaws
 pub mod PositionLaws
 pub mod WholeLaws
@@ -24,6 +25,8 @@ pub mod ReadingLaws
 pub mod FoundLaws
 pub mod TypedLaws
 pub mod AcceptedLaws
+pub mod OnceLaws
+pub mod OnceRows
 pub mod FitsLaws
 pub mod BodyLaws
 pub mod TableLaws

@@ -4,3 +4,4 @@ pub mod Lengths
 pub mod ItemWalk
 pub mod Wrong
 pub mod Answers
+pub mod Repeats
