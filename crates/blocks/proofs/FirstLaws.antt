@@ -11,7 +11,7 @@ use borrow.Author.Tests.{leb-true, ltb-false, ne-eqb, eqb-true, le-ltb, not-true
 use Rattle.octets.specs.Numbers.{u32At}
 use Rattle.octets.proofs.NumberLaws.{number-drop}
 use Rattle.format.specs.Tests.{got}
-use Rattle.format.specs.Blocks.{SizeRule, signatures, slotIn, slotOf, blockSize, blocks, firstPlace}
+use Rattle.format.specs.Blocks.{SizeRule, signatures, slotIn, slotOf, slotAt, blockSize, blocksAfter, blocks, firstPlace}
 use Rattle.format.specs.Steps.Firsts.{firstField, firstsIn, firsts}
 use Rattle.format.specs.Shortcut.{sum}
 use Rattle.format.proofs.Bools.{and-true}
@@ -142,20 +142,20 @@ none-first : (s : List ℕ) (signature p : ℕ) → First s signature p []
 unfolding blockFrom
 none-first s signature p = record { block = refl; inside = omega arith; field = omega arith; sized = λ z. absurd (z refl) }
 
-first-read : (k : ℕ) (s : List ℕ) (signature p : ℕ) (lengths : List ℕ) (n : ℕ) → length (drop p s) ≤ k → blocks p (drop p s) ≡ got lengths n → First s signature p lengths
+first-read : (k : ℕ) (s before : List ℕ) (signature p : ℕ) (lengths : List ℕ) (n : ℕ) → length (drop p s) ≤ k → blocksAfter before p (drop p s) ≡ got lengths n → First s signature p lengths
 unfolding blockFrom
-first-read zero s signature p lengths n l e = no-value (sym (none-left p (drop p s) (omega arith)) ∙ e)
-first-read (suc k) s signature p lengths n l e =
-    step-elim p (drop p s) (λ lengths n. First s signature p lengths)
+first-read zero s before signature p lengths n l e = no-value (sym (none-left before p (drop p s) (omega arith)) ∙ e)
+first-read (suc k) s before signature p lengths n l e =
+    step-elim before p (drop p s) (λ lengths n. First s signature p lengths)
     (λ h t. none-first s signature p)
-    (λ c ls m i.
+    (λ c o ls m i.
     let size : ℕ = blockSize (drop p s) in
     let b : 8 ≤ size = leb-true 8 size (c .0) in
     let w : size ≤ length (drop p s) = leb-true size (length (drop p s)) (c .1 .0) in
     let at : size ≡ u32At s p = number-drop 4 p s 0 ∙ ap (u32At s) (omega arith) in
-    let j : blocks (p + size) (drop (p + size) s) ≡ got ls m = rw (drop-drop size p s) at i in
+    let j : blocksAfter (slotAt (drop p s) ∷ before) (p + size) (drop (p + size) s) ≡ got ls m = rw (drop-drop size p s) at i in
     let d = length-drop p s in
-    let f = first-read k s signature (p + size) ls m (omega (arith, length-drop (p + size) s)) j in
+    let f = first-read k s (slotAt (drop p s) ∷ before) signature (p + size) ls m (omega (arith, length-drop (p + size) s)) j in
     go size at b (omega arith) ls f (eqb (u32At s (p + 4)) signature) refl)
     lengths n e
   where
@@ -177,4 +177,4 @@ first-read (suc k) s signature p lengths n l e =
     }
 
 pub first-block : (s : List ℕ) (signature p : ℕ) (lengths : List ℕ) (n : ℕ) → blocks p (drop p s) ≡ got lengths n → First s signature p lengths
-first-block s signature p lengths n e = first-read (length (drop p s)) s signature p lengths n (omega arith) e
+first-block s signature p lengths n e = first-read (length (drop p s)) s [] signature p lengths n (omega arith) e

@@ -56,15 +56,6 @@ module _ (k : ℕ) where
         go false true = omega (arith, item-wrong-inside BLOCK 8 0 (drop 8 b), length-drop 8 b)
         go false false = omega arith
 
-    pub no-rule : hasRule k ≡ false → 0 ≡ wrong (insideTests k b)
-    unfolding insideTests slotOf
-    no-rule h = go texts (eqb k 10) h
-      where
-        go : (x y : Bool) → (x || y) ≡ false → 0 ≡ wrong (cond x (pathTests b) (cond y (itemTests BLOCK 8 0 (drop 8 b)) []))
-        go true y h = clash refl h
-        go false true h = clash refl h
-        go false false h = refl
-
     pub holds-items : k ≡ 10 → wrong (itemTests BLOCK 8 0 (drop 8 b)) ≡ wrong (insideTests k b)
     unfolding insideTests slotOf
     holds-items e = rw e

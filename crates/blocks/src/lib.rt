@@ -8,13 +8,13 @@ use format::unless;
 use octets::Cursor;
 ghost use mathlib.Core.Path.{_≡_};
 ghost use mathlib.Core.Bool.{true};
-ghost use Prim.Native.Nat.{_≤_};
+ghost use Prim.Native.Nat.{_+_, _≤_};
 ghost use lib.ListN.{length};
 ghost use Rattle.format.specs.Tests.{spotAt};
 ghost use Rattle.format.specs.Blocks.{slotOf, sizeFits, pathTests, insideTests};
 ghost use Rattle.format.specs.Shortcut.{most};
 ghost use Rattle.format.specs.Steps.Wrong.{wrong};
-ghost use Rattle.blocks.specs.Steps.Walk.{hasRule, StepAnswer, Stands, noFirsts, fieldOf, noted, Passed, NoBlock, BlocksAnswer, readTo, stepSite, stoppedAt, blockFrom, nthBlock};
+ghost use Rattle.blocks.specs.Steps.Walk.{hasRule, StepAnswer, Stands, noFirsts, fieldOf, isFree, noted, Passed, NoMore, BlocksAnswer, readTo, stepSite, stoppedAt, wrongBlock, blockFrom, nthBlock};
 
 // A block of so many bytes, with the slot of its signature; or the terminal block; or neither.
 pub enum BlockStep {
@@ -158,36 +158,42 @@ fn no_firsts() -> [u32; 11]
     [0u32; 11]
 }
 
-// Where the signature of the block at p stands; no shortcut reaches what is too far for the number.
+// Where the signature of the block at p stands, which is never 0; no shortcut reaches what is too far for the number.
 fn field_of(p: usize) -> u32
     ensures { λ r. ⌜ r ≡ fieldOf p ⌝ }
 {
-    if p < 65536 { (p + 4) as u32 } else { 0 }
+    if p < 65536 { (p + 4) as u32 } else { 65540 }
 }
 
-// The block at p is noted if it is the first in its slot.
-fn note(firsts: &mut [u32; 11], slot: usize, p: usize)
-    ensures { λ _. ⌜ now (firsts .exit) ≡ noted (now (firsts .entry)) slot (fieldOf p) ⌝ }
+// The block at p takes its slot, unless a block before it has done so; of signatures that are not known none is noted.
+fn note(firsts: &mut [u32; 11], slot: usize, p: usize) -> bool
+    ensures free { λ r. ⌜ r ≡ isFree (now (firsts .entry)) slot ⌝ }
+    ensures row { λ _. ⌜ now (firsts .exit) ≡ noted (now (firsts .entry)) slot (fieldOf p) ⌝ }
 {
     if slot < 11 {
         if firsts[slot] == 0 {
             firsts[slot] = field_of(p);
+            return true;
         }
+        return false;
     }
+    true
 }
 
-// Past all blocks from `start` on, up to what is no block. It notes the first of each kind.
+// Past all blocks from `start` on, up to what is no block or the second of its kind. It notes the first of each kind.
 pub fn run(s: &[u8], start: usize, firsts: &mut [u32; 11]) -> usize
     requires { ⌜ (start ≤ length (now s)) × (now firsts ≡ noFirsts) ⌝ }
     ensures passed { λ p. ⌜ Passed (now (s .entry)) start p (now (firsts .exit)) ⌝ }
-    ensures ended { λ p. ⌜ NoBlock (now (s .entry)) p ⌝ }
+    ensures ended { λ p. ⌜ NoMore (now (s .entry)) p (now (firsts .exit)) ⌝ }
 {
     let mut p = start;
     let mut rest = &s[start..];
     loop {
         match judged(rest) {
             BlockStep::Block(n, slot) => {
-                note(firsts, slot, p);
+                if !note(firsts, slot, p) {
+                    return p;
+                }
                 p += n;
                 rest = &rest[n..];
             }
@@ -231,6 +237,18 @@ fn size_spot(p: usize, left: usize) -> Spot
     spot_at(8, p, 0)
 }
 
+// A block whose sizes are right is refused for what it holds, or else as the second of its kind.
+fn wrong_block(slot: usize, b: &[u8], p: usize) -> BlocksRead
+    requires { ⌜ (sizeFits slot (length (now b)) ≡ true) × (p + length (now b) ≤ most) ⌝ }
+    ensures { λ r. ⌜ r ≡ wrongBlock slot (now (b .entry)) p ⌝ }
+{
+    let field = inside_wrong(slot, b);
+    if field == 0 {
+        return stopped(Fault::Twice, spot_at(8, p, 4));
+    }
+    stopped(Fault::Block, spot_at(8, p, field))
+}
+
 pub fn blocks(s: &[u8], c: Cursor) -> BlocksRead
     requires { ⌜ length (now s) ≤ most ⌝ }
     ensures { λ r. ⌜ BlocksAnswer (now (s .entry)) (c .at) r ⌝ }
@@ -245,10 +263,7 @@ pub fn blocks(s: &[u8], c: Cursor) -> BlocksRead
     match step(rest) {
         BlockStep::Terminal => read_to(start, p, firsts),
         BlockStep::Refused(f) => stopped(f, size_spot(p, rest.len())),
-        BlockStep::Block(n, slot) => stopped(
-            Fault::Block,
-            spot_at(8, p, held_wrong(slot, &rest[..n])),
-        ),
+        BlockStep::Block(n, slot) => wrong_block(slot, &rest[..n], p),
     }
 }
 

@@ -12,7 +12,7 @@ use Rattle.format.specs.declared.Verdict.{Verdict}
 use Rattle.format.specs.declared.Verdict.the-variants.{Accepted, Refused}
 use Rattle.format.specs.Numbers.{numberOf}
 use Rattle.format.specs.Tests.{Outcome, got, refused}
-use Rattle.format.specs.Blocks.{blockSize, blocks}
+use Rattle.format.specs.Blocks.{slotAt, blockSize, blocksAfter}
 use Rattle.format.specs.Shortcut.{Section, Sections, blocksOf, shortcut, reading, recordOf}
 use Rattle.format.specs.Key.{keyOf, keyBytes, keyIn}
 use Rattle.format.specs.Listing.{Row, row, blockRows, rowsBy, listing}
@@ -85,14 +85,14 @@ block-rows p [] = refl
 block-rows p (n ∷ ns) = ap suc (block-rows (p + n) ns)
 
 -- a block has eight bytes or more
-many : (k p : ℕ) (s ls : List ℕ) (n : ℕ) → length s ≤ k → blocks p s ≡ got ls n → 8 * length ls ≤ length s
-many zero p s ls n l e = no-value (sym (none-left p s (omega arith)) ∙ e)
-many (suc k) p s ls n l e =
-    step-elim p s (λ ls n. 8 * length ls ≤ length s) (λ h t. omega arith)
-    (λ c ls m i.
+many : (k : ℕ) (before : List ℕ) (p : ℕ) (s ls : List ℕ) (n : ℕ) → length s ≤ k → blocksAfter before p s ≡ got ls n → 8 * length ls ≤ length s
+many zero before p s ls n l e = no-value (sym (none-left before p s (omega arith)) ∙ e)
+many (suc k) before p s ls n l e =
+    step-elim before p s (λ ls n. 8 * length ls ≤ length s) (λ h t. omega arith)
+    (λ c o ls m i.
     let b = leb-true 8 (blockSize s) (c .0) in
     let w = leb-true (blockSize s) (length s) (c .1 .0) in
-    omega (arith, length-drop (blockSize s) s, many k (p + blockSize s) (drop (blockSize s) s) ls m (omega (arith, length-drop (blockSize s) s)) i))
+    omega (arith, length-drop (blockSize s) s, many k (slotAt s ∷ before) (p + blockSize s) (drop (blockSize s) s) ls m (omega (arith, length-drop (blockSize s) s)) i))
     ls n e
 
 few-rows : (s : List ℕ) → length (listing s) ≤ 8201
@@ -104,7 +104,7 @@ few-rows s = go (shortcut s) refl
     go (got c n) i =
         let w = shortcut-whole s c n i in
         let b = blocksOf c in
-        let m = many (length (drop (b .start) s)) (b .start) (drop (b .start) s) (b .read) (b .len) (omega arith) (read-walk s c n (w .read)) in
+        let m = many (length (drop (b .start) s)) [] (b .start) (drop (b .start) s) (b .read) (b .len) (omega arith) (read-walk s c n (w .read)) in
         simp length-append
         (omega (
           arith,

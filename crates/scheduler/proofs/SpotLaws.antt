@@ -20,7 +20,7 @@ use Rattle.format.specs.Header.{header, headerRules, headerFields}
 use Rattle.format.specs.Items.{items, itemsLength, itemsRules}
 use Rattle.format.specs.Info.{info, noInfo, infoSize, infoRules, infoFields}
 use Rattle.format.specs.Strings.{string, stringLength}
-use Rattle.format.specs.Blocks.{blockSize, block, terminal, Standing, aBlock, aTerminal, blockTests, blockStep, follow, blocksFrom, blocks}
+use Rattle.format.specs.Blocks.{slotAt, blockSize, block, terminal, Standing, aBlock, aTerminal, blockTests, blockStep, onceTests, follow, blocksFrom, blocks}
 use Rattle.format.specs.Shortcut.{Section, found, sectionIf, stringSection, tail, Sections, sections, shortcut, faultedBy, faulted, most}
 use Rattle.scheduler.specs.Code.{faultCode}
 use Rattle.format.proofs.AcceptedLaws.{shortcut-whole}
@@ -85,14 +85,16 @@ few-follow (got aBlock n) (got l m) h k = tt
 few-follow (got aBlock n) (refused f w) h k = k
 few-follow (refused f w) r h k = h
 
-few-walk : (p k : ℕ) (s : List ℕ) → Few (blocksFrom p k s)
+few-walk : (before : List ℕ) (p k : ℕ) (s : List ℕ) → Few (blocksFrom before p k s)
 unfolding blocksFrom
-few-walk p zero [] = omega arith
-few-walk p zero (a ∷ l) =
+few-walk before p zero [] = omega arith
+few-walk before p zero (a ∷ l) =
     let n = blockSize (a ∷ l) in
-    few-follow (blockStep p (a ∷ l)) (blocksFrom (p + n) (n - 1) l) (few-step p (a ∷ l)) (few-walk (p + n) (n - 1) l)
-few-walk p (suc k) [] = omega arith
-few-walk p (suc k) (a ∷ l) = few-walk p k l
+    let slot = slotAt (a ∷ l) in
+    few-follow (blockStep p (a ∷ l)) (tests (block p) (onceTests before slot) (blocksFrom (slot ∷ before) (p + n) (n - 1) l)) (few-step p (a ∷ l))
+    (few-tests (block p) (onceTests before slot) (blocksFrom (slot ∷ before) (p + n) (n - 1) l) (omega arith) (few-walk (slot ∷ before) (p + n) (n - 1) l))
+few-walk before p (suc k) [] = omega arith
+few-walk before p (suc k) (a ∷ l) = few-walk before p k l
 
 -- ---- the whole
 
@@ -138,7 +140,7 @@ few-tail flags =
     (few-then (few-strings flags relativeBit (omega arith))
     (few-then (few-strings flags workdirBit (omega arith))
     (few-then (few-strings flags argumentsBit (omega arith))
-    (few-then (few-strings flags iconBit (omega arith)) (few-found blocks (record { few = λ p s. few-walk p 0 s }))))))))
+    (few-then (few-strings flags iconBit (omega arith)) (few-found blocks (record { few = λ p s. few-walk [] p 0 s }))))))))
 
 few-sections : FewBy sections
 unfolding sections

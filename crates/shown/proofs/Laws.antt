@@ -235,12 +235,12 @@ module _ (s : List ℕ) (block : ℕ) where
     pub place-8 : {b : Place} → b ≡ nthBlock s (o .ends .icon) block → b ≡ sectionPlace s 8 block
     unfolding sectionPlace
     place-8 e =
-        rw (R .rows) (nth-of e .is (R .lengths) (R .count) (R .is) ∙ simp (named-append, named-row) (sym (nth-block block (o .ends .icon) (R .lengths))))
+        rw (R .rows) (nth-of e .is [] (R .lengths) (R .count) (R .is) ∙ simp (named-append, named-row) (sym (nth-block block (o .ends .icon) (R .lengths))))
 
     pub place-9 : place (length s - 4) 4 ≡ sectionPlace s 9 block
     unfolding sectionPlace
     place-9 =
-        let w = blocks-walked (o .ends .icon) (drop (o .ends .icon) s) (R .lengths) (R .count) (R .is) in
+        let w = blocks-walked [] (o .ends .icon) (drop (o .ends .icon) s) (R .lengths) (R .count) (R .is) in
         let z : length s - 4 ≡ o .ends .icon + sum (R .lengths) = omega (arith, w .adds, R .last) in
         rw (R .rows, z) (simp (named-append, named-row, the-terminal))
 

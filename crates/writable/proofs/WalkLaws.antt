@@ -13,17 +13,17 @@ use Rattle.octets.proofs.NumberLaws.{number-same, number-drop, length-little}
 use Rattle.format.specs.declared.Fault.the-variants.{Items as ITEMS}
 use Rattle.format.specs.Tests.{all, Outcome, got, refused}
 use Rattle.format.specs.Items.{itemTests, itemList}
-use Rattle.format.specs.Blocks.{blockRules, blockSize, blockTests, aBlock, block, blockStep, blocks}
+use Rattle.format.specs.Blocks.{slotOf, slotAt, blockRules, blockSize, blockTests, aBlock, block, blockStep, once, blocksAfter}
 use Rattle.format.specs.Steps.Wrong.{wrong}
 use Rattle.format.specs.Shortcut.{sum}
 use Rattle.format.specs.Writing.{writableItems, takes, writableBlocks}
-use Rattle.format.proofs.Bools.{and-no, same-truth, by-order}
+use Rattle.format.proofs.Bools.{and-no, same-truth, by-order, clash}
 use Rattle.format.proofs.Chains.{Pass, pass, all-pass, pass-all, no-value}
 use Rattle.format.proofs.WrongLaws.{none-wrong, pass-none}
 use Rattle.format.proofs.ItemsLaws.{tests-walk, item-faults}
 use Rattle.format.proofs.BlockLaws.{the-end, step-elim, blocks-walked}
 use Rattle.items.proofs.Laws.{Come, come-start, items-end, items-lack, items-stop, items-more}
-use Rattle.blocks.specs.Steps.Walk.{NoBlock, after, Passed}
+use Rattle.blocks.specs.Steps.Walk.{NoMore, after, Passed}
 use Rattle.writable.proofs.TestLaws.{same-test}
 
 -- ---- numbers and parts of a body are those of the body with something after it
@@ -133,18 +133,18 @@ zero-block = refl
 block-stands : (p : ℕ) (s : List ℕ) → 4 ≤ length s → 8 ≤ blockSize s → Pass (blockTests s) → blockStep p s ≡ got aBlock (blockSize s)
 block-stands p s h b c = rw (le-leb 4 (length s) h, le-ltb (blockSize s) 4 (omega arith)) (pass (block p) (blockTests s) (got aBlock (blockSize s)) c)
 
--- a walk over the body that has come to p, where no block of the body stands: the terminal block is written there, or the body cannot be
-module _ (x : List ℕ) {p : ℕ} {row : List ℕ} (P : Passed x 0 p row) (none : NoBlock x p) where
+-- a walk over the body that has come to p, where it passes no more of the body: the terminal block is written there, or the body cannot be
+module _ (x : List ℕ) {p : ℕ} {row : List ℕ} (P : Passed x 0 p row) (none : NoMore x p row) where
   abbrev t : List ℕ
   t = x ++ little 4 0
 
-  at-end : p ≡ length x → blocks p (drop p t) ≡ got [] 4
+  at-end : p ≡ length x → blocksAfter (P .before) p (drop p t) ≡ got [] 4
   at-end e =
       let d : drop p t ≡ little 4 0 = drop-at x (little 4 0) p (sym e) in
-      rw d (the-end p (little 4 0) (omega (arith, length-little 4 0)) (omega (arith, zero-block)))
+      rw d (the-end (P .before) p (little 4 0) (omega (arith, length-little 4 0)) (omega (arith, zero-block)))
 
-  -- a block that stands in the body
-  in-body : (n : ℕ) → n ≡ blockSize (drop p t) → p + n ≤ length x → Pass (blockTests (drop p t)) → ⊥
+  -- a block that stands in the body is the second of its kind
+  in-body : (n : ℕ) → n ≡ blockSize (drop p t) → p + n ≤ length x → Pass (blockTests (drop p t)) → once (P .before) (slotAt (drop p t)) ≡ false
   in-body n e w c =
       let r : List ℕ = drop p x in
       let d : drop p t ≡ r ++ little 4 0 = drop-append-le p x (little 4 0) (P .inside) in
@@ -152,25 +152,27 @@ module _ (x : List ℕ) {p : ℕ} {row : List ℕ} (P : Passed x 0 p row) (none 
       let b : 8 ≤ n = rw e (leb-true 8 (blockSize (drop p t)) (c .0)) in
       let f : take n (drop p t) ≡ take n r = ap (take n) d ∙ take-append-le n r (little 4 0) l in
       let size : blockSize r ≡ n = number-same 4 n r (drop p t) 0 (sym f) (omega arith) ∙ sym e in
+      let slot : slotAt r ≡ slotAt (drop p t) = ap slotOf (number-same 4 n r (drop p t) 4 (sym f) (omega arith)) in
       let k : Pass (blockRules (take n (drop p t))) = rw e (c .1 .1) in
       let g : Pass (blockTests r) = rw size (le-leb 8 n b, (le-leb n (length r) l, rw (← f) k)) in
-      none (blockSize r) (block-stands p r (omega arith) (omega arith) g)
+      let taken = none (blockSize r) (block-stands p r (omega arith) (omega arith) g) in
+      rw slot at (sym (P .free (slotAt r)) ∙ taken)
 
   pub blocks-run : eqb p (length x) ≡ writableBlocks x
-  blocks-run = rw (P .is (little 4 0)) (go (blocks p (drop p t)) refl)
+  blocks-run = rw (P .is (little 4 0)) (go (blocksAfter (P .before) p (drop p t)) refl)
     where
-      go : (o : Outcome (List ℕ)) → blocks p (drop p t) ≡ o → eqb p (length x) ≡ takes (length x + 4) (after (P .lengths) o)
+      go : (o : Outcome (List ℕ)) → blocksAfter (P .before) p (drop p t) ≡ o → eqb p (length x) ≡ takes (length x + 4) (after (P .lengths) o)
       go (refused f q) i = ne-eqb p (length x) (λ e. no-value (sym i ∙ at-end e))
       go (got ms m) i =
           let a = P .adds in
-          step-elim p (drop p t) (λ ms m. eqb p (length x) ≡ eqb (sum (P .lengths) + m) (length x + 4))
+          step-elim (P .before) p (drop p t) (λ ms m. eqb p (length x) ≡ eqb (sum (P .lengths) + m) (length x + 4))
           (λ h u. same-test p (length x) (sum (P .lengths) + 4) (length x + 4) (λ q. omega arith) (λ q. omega arith))
-          (λ c ls n j.
-          let k = blocks-walked (p + blockSize (drop p t)) (drop (blockSize (drop p t)) (drop p t)) ls n j in
+          (λ c once ls n j.
+          let k = blocks-walked (slotAt (drop p t) ∷ P .before) (p + blockSize (drop p t)) (drop (blockSize (drop p t)) (drop p t)) ls n j in
           let w = leb-true (blockSize (drop p t)) (length (drop p t)) (c .1 .0) in
           let d = length-drop (blockSize (drop p t)) (drop p t) in
           let u = length-drop p t in
           let l = length-append x (little 4 0) in
           let v = length-little 4 0 in
-          absurd (in-body (blockSize (drop p t)) refl (omega (arith, k .adds, k .inside)) c))
+          clash once (in-body (blockSize (drop p t)) refl (omega (arith, k .adds, k .inside)) c))
           ms m i

@@ -1,9 +1,9 @@
 -- The walk passes all blocks and stops where none stands; what stands there, told by one more step, is the answer.
-use mathlib.Core.Path.{sym}
+use mathlib.Core.Path.{refl, sym}
 use native.Mathlib.Omega.{arith}
 use lib.Seq.{length-take-le}
 use Rattle.blocks.proofs.StepLaws.{tail-part, by-block, by-end, by-fault}
-use Rattle.blocks.proofs.WalkLaws.{read-nowhere, read-end, read-stopped, rule-there, wrong-near, read-wrong}
+use Rattle.blocks.proofs.WalkLaws.{read-nowhere, read-end, read-stopped, read-wrong, passed-fits}
 use borrow.Author.Needs.{needs}
 use Rattle.blocks.proofs.blocks.Statement.{statement}
 use Rattle.blocks.proofs.blocks.Tie as tie
@@ -53,30 +53,21 @@ stopped-requires-2 c κs = search needs
 enum-known-n : tie.Need-enum-known-n
 enum-known-n c = search needs
 
-slice-aggregate-held-wrong : tie.Need-slice-aggregate-held-wrong
-slice-aggregate-held-wrong c =
+slice-aggregate-wrong-block : tie.Need-slice-aggregate-wrong-block
+slice-aggregate-wrong-block c =
     let after-n = c .before .before in
     let z = by-block _ (after-n .before .before .step .ensures) (after-n .n .given .1) in
     sym (length-take-le _ _ (z .inside))
 
-held-wrong-requires : tie.Need-held-wrong-requires
-held-wrong-requires c κs =
+wrong-block-requires : tie.Need-wrong-block-requires
+wrong-block-requires c κs =
     let after-n = c .before .before in
     let after-step = after-n .before .before in
-    let r = after-step .before .before .run .ensures in
+    let after-run = after-step .before .before in
+    let after-if = after-run .before .before .before .before in
     let z = by-block _ (after-step .step .ensures) (after-n .n .given .1) in
-    rw (length-take-le _ _ (z .inside)) (rule-there _ _ (r .0) (rw tail-part at z) (r .1), z .fits)
-
-spot-at-requires : tie.Need-spot-at-requires
-spot-at-requires c κs =
-    let after-n = c .before .before .before in
-    let after-step = after-n .before .before in
-    let r = after-step .before .before .run .ensures in
-    let z = by-block _ (rw tail-part at (after-step .step .ensures)) (after-n .n .given .1) in
-    omega (arith, wrong-near _ _ (r .0) z (rw tail-part at (c .held-wrong .ensures)))
-
-stopped-requires-3 : tie.Need-stopped-requires-3
-stopped-requires-3 c κs = search needs
+    let fits = passed-fits (after-run .run .ensures .0) refl (rw tail-part at z) in
+    rw (length-take-le _ _ (z .inside)) (z .fits, omega (arith, after-if .before .pre))
 
 returns-2 : tie.Need-returns-2
 returns-2 c =
@@ -97,12 +88,11 @@ returns-3 c =
 
 returns-4 : tie.Need-returns-4
 returns-4 c =
-    let after-held = c .before .before in
-    let after-n = after-held .before .before .before in
+    let after-n = c .before .before .before in
     let after-step = after-n .before .before in
     let r = after-step .before .before .run .ensures in
     let z = by-block _ (rw tail-part at (after-step .step .ensures)) (after-n .n .given .1) in
-    rw (c .stopped3 .ensures, c .before .spot-at .ensures) (read-wrong _ _ (r .0) z (rw tail-part at (after-held .held-wrong .ensures)) (r .1))
+    rw (rw tail-part at (c .wrong-block .ensures)) (read-wrong _ _ (r .0) (r .1) z)
 
 pub blocks-spec : {M : Type 1} → statement M
 blocks-spec =
@@ -123,10 +113,8 @@ blocks-spec =
     size-spot-requires-2
     stopped-requires-2
     enum-known-n
-    slice-aggregate-held-wrong
-    held-wrong-requires
-    spot-at-requires
-    stopped-requires-3
+    slice-aggregate-wrong-block
+    wrong-block-requires
     returns-2
     returns-3
     returns-4)

@@ -1,11 +1,12 @@
 -- The rest is what stands from p on, and the blocks up to p are noted; each block is at least 8 bytes, so the rest gets shorter.
-use mathlib.Core.Path.{_≡_}
+use mathlib.Core.Path.{_≡_, sym, _∙_}
 use native.Mathlib.Omega.{arith}
+use borrow.Author.Tests.{not-true, not-false}
 use borrow.Author.Needs.{needs}
 use lib.ListN.{length, drop, length-drop}
 use Rattle.blocks.specs.Steps.Walk.{Passed}
 use Rattle.blocks.proofs.StepLaws.{tail-part, stands-block, stands-end, stands-fault}
-use Rattle.blocks.proofs.WalkLaws.{passed-start, passed-fits, passed-on}
+use Rattle.blocks.proofs.WalkLaws.{passed-start, passed-fits, passed-on, passed-twice}
 use Rattle.blocks.proofs.run.Statement.{statement}
 use Rattle.blocks.proofs.run.Tie as tie
 
@@ -36,21 +37,29 @@ enum-known-n c = search needs
 note-requires : tie.Need-note-requires Inv-loop μ-loop
 note-requires c κs = search needs
 
+returns : tie.Need-returns Inv-loop μ-loop
+returns c =
+    let after-note = c .before in
+    let after-n = after-note .before .before .before in
+    let I = after-n .before .before .before .loop .inv in
+    let z = stands-block _ (after-n .before .before .judged .ensures) (after-n .n .given .1) .0 in
+    passed-twice (I .1) (I .0) (after-note .note .ensures .1) z (sym (after-note .note .ensures .0) ∙ not-true _ (c .if1 .taken))
+
 add-p : tie.Need-add-p Inv-loop μ-loop
 add-p c =
-    let after-n = c .before .before .before in
+    let after-n = c .before .before .before .before in
     let z = stands-block _ (after-n .before .before .judged .ensures) (after-n .n .given .1) .0 in
     let I = after-n .before .before .before .loop .inv in
     omega (arith, passed-fits (I .1) (I .0) z)
 
 sub-rest-2 : tie.Need-sub-rest-2 Inv-loop μ-loop
 sub-rest-2 c =
-    let after-n = c .before .before .before in
+    let after-n = c .before .before .before .before in
     omega (arith, (stands-block _ (after-n .before .before .judged .ensures) (after-n .n .given .1) .0) .inside)
 
 part-rest-start-2 : tie.Need-part-rest-start-2 Inv-loop μ-loop
 part-rest-start-2 c =
-    let after-n = c .before .before .before in
+    let after-n = c .before .before .before .before in
     omega (arith, (stands-block _ (after-n .before .before .judged .ensures) (after-n .n .given .1) .0) .inside)
 
 part-rest-end-2 : tie.Need-part-rest-end-2 Inv-loop μ-loop
@@ -58,31 +67,33 @@ part-rest-end-2 c = omega arith
 
 loop-less : tie.Need-loop-less Inv-loop μ-loop
 loop-less c =
-    let after-n = c .before .before .before .before in
+    let after-note = c .before .before in
+    let after-n = after-note .before .before .before in
     let z = stands-block _ (after-n .before .before .judged .ensures) (after-n .n .given .1) .0 in
     simp (tail-part, length-drop) (omega (arith, z .least, z .inside))
 
 loop-again : tie.Need-loop-again Inv-loop μ-loop
 loop-again c =
-    let after-n = c .before .before .before .before in
+    let after-note = c .before .before in
+    let after-n = after-note .before .before .before in
     let I = after-n .before .before .before .loop .inv in
-    passed-on (I .1) (I .0) (stands-block _ (after-n .before .before .judged .ensures) (after-n .n .given .1)) (c .before .note .ensures)
+    passed-on (I .1) (I .0) (after-note .note .ensures .1) (stands-block _ (after-n .before .before .judged .ensures) (after-n .n .given .1)) (sym (after-note .note .ensures .0) ∙ not-false _ (c .before .if1 .left))
 
 enum-told : tie.Need-enum-told Inv-loop μ-loop
 enum-told c = search needs
 
-returns : tie.Need-returns Inv-loop μ-loop
-returns c =
+returns-2 : tie.Need-returns-2 Inv-loop μ-loop
+returns-2 c =
     let I = c .before .before .before .loop .inv in
-    (I .1, stands-end _ (rw (I .0) at (c .before .before .judged .ensures)) (c .enum-told .given .1) _)
+    (I .1, λ n h. absurd (stands-end _ (rw (I .0) at (c .before .before .judged .ensures)) (c .enum-told .given .1) _ n h))
 
 enum-told-2 : tie.Need-enum-told-2 Inv-loop μ-loop
 enum-told-2 c = search needs
 
-returns-2 : tie.Need-returns-2 Inv-loop μ-loop
-returns-2 c =
+returns-3 : tie.Need-returns-3 Inv-loop μ-loop
+returns-3 c =
     let I = c .before .before .before .loop .inv in
-    (I .1, stands-fault _ (rw (I .0) at (c .before .before .judged .ensures)) (c .enum-told2 .given .1) _)
+    (I .1, λ n h. absurd (stands-fault _ (rw (I .0) at (c .before .before .judged .ensures)) (c .enum-told2 .given .1) _ n h))
 
 pub run-spec : {M : Type 1} → statement M
 run-spec =
@@ -97,6 +108,7 @@ run-spec =
     judged-requires
     enum-known-n
     note-requires
+    returns
     add-p
     sub-rest-2
     part-rest-start-2
@@ -104,6 +116,6 @@ run-spec =
     loop-less
     loop-again
     enum-told
-    returns
+    returns-2
     enum-told-2
-    returns-2)
+    returns-3)

@@ -2,18 +2,19 @@
 use Prim.Native.Nat.{ℕ, zero, suc, _+_, _-_, _≤_}
 use mathlib.Core.Path.{_≡_}
 use mathlib.Core.List.{List, [], _∷_, _++_}
-use mathlib.Core.Bool.{Bool, true, _||_, cond}
+use mathlib.Core.Bool.{Bool, true, false, _||_, cond}
 use lib.ListN.{length, drop, getD, set}
 use lib.Dec.{eqb, leb, ltb}
 use Rattle.octets.specs.Numbers.{u32At}
 use Rattle.format.specs.declared.Fault.{Fault}
-use Rattle.format.specs.declared.Fault.the-variants.{Cut as CUT, Block as BLOCK}
+use Rattle.format.specs.declared.Fault.the-variants.{Cut as CUT, Block as BLOCK, Twice as TWICE}
 use Rattle.format.specs.declared.Place.{Place}
 use Rattle.format.specs.declared.Spot.{Spot}
 use Rattle.format.specs.Tests.{_else_at_, Site, spotAt, tests, Outcome, got, refused, andThen, place, noPlace}
-use Rattle.format.specs.Blocks.{slotOf, sizeFits, slotAt, blockSize, Standing, aBlock, aTerminal, block, terminal, blockStep, blocks}
+use Rattle.format.specs.Blocks.{slotOf, sizeFits, insideTests, slotAt, blockSize, Standing, aBlock, aTerminal, block, terminal, blockStep, once, blocksAfter, blocks}
 use Rattle.format.specs.Numbers.{numberOf}
 use Rattle.format.specs.Steps.Firsts.{firsts}
+use Rattle.format.specs.Steps.Wrong.{wrong}
 use Rattle.format.specs.Steps.Answers.{Answers, takenNumber, takenValue}
 use Rattle.format.specs.Shortcut.{most, sum}
 use Rattle.blocks.specs.declared.BlockStep.{BlockStep}
@@ -81,18 +82,19 @@ Stands s (Block n k) = Sized s n k × ((p : ℕ) → blockStep p s ≡ got aBloc
 Stands s Terminal = (p : ℕ) → blockStep p s ≡ got aTerminal 4
 Stands s (NotOne f) = (p : ℕ) → (q : Spot) × (blockStep p s ≡ refused f q)
 
-abbrev pub NoBlock : List ℕ → ℕ → Type 0
-NoBlock s p = (n : ℕ) → blockStep p (drop p s) ≡ got aBlock n → ⊥
-
 -- ---- the walk
 
 -- the row of an empty walk
 abbrev pub noFirsts : List ℕ
 noFirsts = 0 ∷ 0 ∷ 0 ∷ 0 ∷ 0 ∷ 0 ∷ 0 ∷ 0 ∷ 0 ∷ 0 ∷ 0 ∷ []
 
--- what is noted of a block at p: where its signature stands; no shortcut reaches what is too far for the number
+-- what is noted of a block at p, never 0: where its signature stands; no shortcut reaches what is too far for the number
 abbrev pub fieldOf : ℕ → ℕ
-fieldOf p = cond (ltb p most) (p + 4) 0
+fieldOf p = cond (ltb p most) (p + 4) (most + 4)
+
+-- no block has taken the slot; those of signatures that are not known stay free
+unfoldable pub isFree : List ℕ → ℕ → Bool
+isFree row slot = cond (ltb slot 11) (eqb (getD row slot 0) 0) true
 
 -- a slot that is taken keeps what it has
 unfoldable pub taken : List ℕ → ℕ → ℕ → List ℕ
@@ -107,10 +109,16 @@ unfoldable pub notedAll : List ℕ → ℕ → List ℕ → List ℕ → List �
 notedAll s p [] row = row
 notedAll s p (n ∷ ns) row = notedAll s (p + n) ns (noted row (slotAt (drop p s)) (fieldOf p))
 
--- blocks of these lengths stand from a on, up to p
-abbrev pub BlocksTo : List ℕ → ℕ → List ℕ → ℕ → Type 0
-BlocksTo s a [] p = a ≡ p
-BlocksTo s a (n ∷ ns) p = (blockStep a (drop a s) ≡ got aBlock n) × BlocksTo s (a + n) ns p
+-- blocks of these lengths stand from a on, up to p, and find their slots free
+abbrev pub BlocksTo : List ℕ → List ℕ → ℕ → List ℕ → ℕ → Type 0
+BlocksTo s row a [] p = a ≡ p
+BlocksTo s row a (n ∷ ns) p =
+    let slot = slotAt (drop a s) in
+    (blockStep a (drop a s) ≡ got aBlock n) × ((isFree row slot ≡ true) × BlocksTo s (noted row slot (fieldOf a)) (a + n) ns p)
+
+-- what stands at p is no block, or its slot is taken
+abbrev pub NoMore : List ℕ → ℕ → List ℕ → Type 0
+NoMore s p row = (n : ℕ) → blockStep p (drop p s) ≡ got aBlock n → isFree row (slotAt (drop p s)) ≡ false
 
 -- what is read after blocks of these lengths
 abbrev pub after : List ℕ → Outcome (List ℕ) → Outcome (List ℕ)
@@ -121,9 +129,12 @@ pub record Passed (s : List ℕ) (a p : ℕ) (row : List ℕ) : Type 0 where
   pub lengths : List ℕ
   pub adds : p ≡ a + sum lengths
   pub inside : p ≤ length s
-  pub walked : BlocksTo s a lengths p
+  pub walked : BlocksTo s noFirsts a lengths p
   pub notes : row ≡ notedAll s a lengths noFirsts
-  pub is : (y : List ℕ) → blocks a (drop a (s ++ y)) ≡ after lengths (blocks p (drop p (s ++ y)))
+  pub wide : length row ≡ 11
+  pub before : List ℕ
+  pub free : (slot : ℕ) → isFree row slot ≡ once before slot
+  pub is : (y : List ℕ) → blocks a (drop a (s ++ y)) ≡ after lengths (blocksAfter before p (drop p (s ++ y)))
   pub first : length s ≤ most → row ≡ firsts s a lengths
 
 -- what stands from p up to the terminal, as a single body
@@ -147,6 +158,12 @@ readTo a p row = record { taken = Got (place a (p - a)) (record { at = p + 4 });
 
 abbrev pub stoppedAt : Fault → Spot → BlocksRead
 stoppedAt f q = record { taken = Refused f q; firsts = noFirsts }
+
+-- a block b at p whose sizes are right: what it holds is wrong, or it is the second of its kind
+unfoldable pub wrongBlock : ℕ → List ℕ → ℕ → BlocksRead
+wrongBlock slot b p =
+    let field = wrong (insideTests slot b) in
+    cond (eqb field 0) (stoppedAt TWICE (spotAt (block p) 4)) (stoppedAt BLOCK (spotAt (block p) field))
 
 -- ---- one of the blocks
 
@@ -174,4 +191,4 @@ nthPlace p (n ∷ ns) (suc k) = nthPlace (p + n) ns k
 -- b stands inside s; and where the blocks from p on are read, it is number k of them
 pub record NthOf (s : List ℕ) (p k : ℕ) (b : Place) : Type 0 where
   pub inside : b .at + b .len ≤ length s
-  pub is : (lengths : List ℕ) (n : ℕ) → blocks p (drop p s) ≡ got lengths n → b ≡ nthPlace p lengths k
+  pub is : (before lengths : List ℕ) (n : ℕ) → blocksAfter before p (drop p s) ≡ got lengths n → b ≡ nthPlace p lengths k

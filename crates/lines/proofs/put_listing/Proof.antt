@@ -51,7 +51,7 @@ returns-2 c =
     let after-outline = after-finish .before .before .before in
     let R = accepted-rows _ (after-outline .outline-of .ensures) (after-finish .finish .ensures) (after-told .enum-told .given .1) in
     let sections = showed-join (after-verdict .show-verdict .ensures) (omega arith) (after-sections .show-sections .ensures) in
-    let all = showed-join sections (omega arith) (c .before .before .show-blocks .ensures (R .lengths) (R .count) (R .is)) in
+    let all = showed-join sections (omega arith) (c .before .before .show-blocks .ensures [] (R .lengths) (R .count) (R .is)) in
     showed-piece _ _ _ (showed-as all (accepted-listing _ (after-outline .outline-of .ensures) (after-finish .finish .ensures) R))
 
 pub put-listing-spec : {M : Type 1} → statement M

@@ -7,7 +7,7 @@ use lib.ListN.{length, take, drop}
 use Rattle.octets.specs.Parts.{put}
 use Rattle.format.specs.Tests.{got}
 use Rattle.format.specs.Presence.{itemsThere, infoThere, nameBit, relativeBit, workdirBit, argumentsBit, iconBit, stringThere}
-use Rattle.format.specs.Blocks.{blocks}
+use Rattle.format.specs.Blocks.{blocksAfter}
 use Rattle.format.specs.Listing.{blockRows}
 use Rattle.reader.specs.declared.SectionEnds.{SectionEnds}
 use Rattle.lines.specs.declared.Window.{Window}
@@ -42,6 +42,6 @@ sectionLines f e =
     ++ (lineIf (stringThere argumentsBit f) (nameText 6) (e .workdir) (e .arguments)
     ++ lineIf (stringThere iconBit f) (nameText 7) (e .arguments) (e .icon)))))))
 
--- where the blocks from p on are read, their rows were shown
+-- where the blocks from p on are read, whatever stands before them, their rows were shown
 abbrev pub BlocksShowed : List ℕ → ℕ → List ℕ → Window → List ℕ → Window → Type 0
-BlocksShowed s p d w x r = (lengths : List ℕ) (n : ℕ) → blocks p (drop p s) ≡ got lengths n → Showed d w (rowLines (blockRows p lengths)) x r
+BlocksShowed s p d w x r = (before lengths : List ℕ) (n : ℕ) → blocksAfter before p (drop p s) ≡ got lengths n → Showed d w (rowLines (blockRows p lengths)) x r
