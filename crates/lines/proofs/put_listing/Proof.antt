@@ -1,4 +1,5 @@
 -- An accepted shortcut has its rows by the outline, and a refused one has none; a window on an empty buffer shows a piece of the text.
+use mathlib.Core.List.{[]}
 use native.Mathlib.Omega.{arith}
 use borrow.Author.Needs.{needs}
 use Rattle.lines.proofs.ListingTexts.{accepted-rows, accepted-listing, refused-listing}
