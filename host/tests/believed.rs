@@ -7,7 +7,7 @@ use std::fs;
 
 /// The calls of the farm in the libraries; beside them stand all functions for C.
 const CALLS: &[(&str, &[&str])] = &[
-    ("reader", &["read", "check"]),
+    ("reader", &["read", "check", "fault"]),
     ("header", &["window"]),
     ("shown", &["section_place", "section"]),
     ("target", &["target"]),

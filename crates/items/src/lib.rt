@@ -16,16 +16,15 @@ pub fn items_wrong(l: &[u8], at: usize) -> usize
     }
     // The last place where a size can stand. An item that passes it ends the loop too, without the two zero bytes.
     let last = l.len() - 2;
-    let mut item: usize = 0;
+    let mut size: usize = 0;
     let mut p: usize = 0;
     while p <= last {
-        let size = octets::u16_at(l, p) as usize;
+        size = octets::u16_at(l, p) as usize;
         if size < 2 {
             return format::unless((size == 0) & (p == last), at + p, 0);
         }
-        item = p;
         p += size;
     }
     // An item that passes the end is wrong itself; else a size is lacking after it.
-    if l.len() < p { at + item } else { at + p }
+    if l.len() < p { at + p - size } else { at + p }
 }

@@ -13,7 +13,7 @@ use Rattle.format.specs.declared.Record.{Record}
 use Rattle.format.specs.declared.Fault.the-variants.{Place as PLACE, Unwritable as UNWRITABLE, Room as ROOM}
 use Rattle.format.specs.declared.Verdict.{Verdict}
 use Rattle.format.specs.declared.Verdict.the-variants.{Accepted, Refused}
-use Rattle.format.specs.Tests.{noSection, nowhere, got, refused, _else_at_, tests}
+use Rattle.format.specs.Tests.{noSection, got, refused, _else_at_, tests}
 use Rattle.format.specs.Numbers.{Numbered}
 use Rattle.format.specs.Bodies.{bodies, allInside}
 use Rattle.format.specs.Steps.Lengths.{writtenLength}
@@ -21,7 +21,7 @@ use Rattle.format.specs.Contents.{present, bodiesOf, contents}
 use Rattle.format.specs.Writing.{canonical, writable, writing, outputOf, writeAnswer, writeOutput}
 use Rattle.format.specs.Demands.{Ends}
 use Rattle.format.proofs.Ranges.{FitsRecord}
-use Rattle.format.proofs.AnswerLaws.{numbered}
+use Rattle.format.proofs.AnswerLaws.{nowhere, numbered}
 use Rattle.format.proofs.TableLaws.{placed-present}
 use Rattle.format.proofs.Demands.{the-writer}
 use Rattle.sizes.specs.declared.Starts.{Starts}

@@ -1,8 +1,9 @@
--- At p the answer is that of the whole list, and p passes the end by one item at most.
+-- At p the answer is that of the whole list, and p passes the end by one item at most, which starts its size before p.
 use native.Mathlib.Omega.{arith}
-use mathlib.Core.Path.{_∙_}
+use mathlib.Core.Path.{_≡_, _∙_}
 use borrow.Author.Needs.{needs}
-use Prim.Native.Nat.{_≤_, _+_, _-_}
+use mathlib.Core.List.{List}
+use Prim.Native.Nat.{ℕ, _≤_, _+_, _-_}
 use lib.ListN.{length}
 use Rattle.format.specs.declared.Fault.the-variants.{Items as ITEMS}
 use Rattle.format.specs.Items.{itemTests}
@@ -12,10 +13,14 @@ use Rattle.items.proofs.items_wrong.Statement.{statement}
 use Rattle.items.proofs.items_wrong.Tie as tie
 
 abbrev Inv-loop : tie.InvT-loop
-Inv-loop l at last item₀ p₀ item p = (p ≤ length l + 65535) × ((item ≤ length l) × Come l at item p (wrong (itemTests ITEMS at 0 l)))
+Inv-loop l at last size₀ p₀ size p = (p ≤ length l + 65535) × ((size ≤ p) × Come l at (p - size) p (wrong (itemTests ITEMS at 0 l)))
 
 abbrev μ-loop : tie.MeasureT-loop
-μ-loop l at last item₀ p₀ item p = length l + 65536 - p
+μ-loop l at last size₀ p₀ size p = length l + 65536 - p
+
+-- the item before p + n
+came : {l : List ℕ} {i r : ℕ} (p n : ℕ) → Come l i p (p + n) r → Come l i (p + n - n) (p + n) r
+came {l} {i} {r} p n h = let e : p + n - n ≡ p = omega arith in rw e h
 
 returns : tie.Need-returns Inv-loop μ-loop
 returns c = none-due _ _ (omega arith)
@@ -52,16 +57,21 @@ loop-less c = omega arith
 loop-again : tie.Need-loop-again Inv-loop μ-loop
 loop-again c =
     let after-u16 = c .before in
-    (omega arith, (omega arith, items-more _ (after-u16 .before .before .loop .inv .1 .1) (omega arith) (after-u16 .u16-at .ensures) (c .if2 .left)))
+    (omega arith, (omega arith, came _ _ (items-more _ (after-u16 .before .before .loop .inv .1 .1) (omega arith) (after-u16 .u16-at .ensures) (c .if2 .left))))
 
 add-result : tie.Need-add-result Inv-loop μ-loop
 add-result c = omega arith
+
+sub-result : tie.Need-sub-result Inv-loop μ-loop
+sub-result c = omega arith
 
 add-result-2 : tie.Need-add-result-2 Inv-loop μ-loop
 add-result-2 c = omega arith
 
 returns-3 : tie.Need-returns-3 Inv-loop μ-loop
-returns-3 c = items-end _ (c .before .before .loop .inv .1 .1) (omega arith) (c .if3 .taken)
+returns-3 c =
+    let after-loop = c .before .before in
+    omega (arith, items-end _ (after-loop .loop .inv .1 .1) (omega arith) (c .if3 .taken))
 
 returns-4 : tie.Need-returns-4 Inv-loop μ-loop
 returns-4 c = items-lack _ (c .before .before .loop .inv .1 .1) (omega arith) (c .if3 .left)
@@ -84,6 +94,7 @@ items-wrong-spec =
     loop-less
     loop-again
     add-result
+    sub-result
     add-result-2
     returns-3
     returns-4)
