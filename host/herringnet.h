@@ -48,7 +48,7 @@ extern "C" {
 #define HERRINGNET_LONGEST 65536
 
 /* The numbers of answers (FORMAT: Numbers). A position is the first byte of the field found wrong, 65,536 for LONG, the
- * first byte after the terminal block for TRAIL, and 0 from PLACE on (FORMAT: Positions). */
+ * first byte after the terminal block for TRAIL, and 0 from PLACE to NOTARGET and from 201 on (FORMAT: Positions). */
 enum herringnet_number {
     HERRINGNET_OK = 0,
     HERRINGNET_LONG = 1,        /* over 65,536 bytes */
@@ -64,6 +64,7 @@ enum herringnet_number {
     HERRINGNET_UNWRITABLE = 11, /* no shortcut reads as the record */
     HERRINGNET_ROOM = 12,       /* the room is too short */
     HERRINGNET_NOTARGET = 13,   /* no target text */
+    HERRINGNET_TWICE = 14,      /* a block has the known signature of one before it */
     HERRINGNET_FIELDS = 201,    /* the slice of fields has not 49 numbers; tested before all else */
     HERRINGNET_VALUES = 202     /* a number of fields does not fit its field; tested next */
 };
@@ -86,6 +87,7 @@ static inline const char *herringnet_name(unsigned number)
     case HERRINGNET_UNWRITABLE: return "UNWRITABLE";
     case HERRINGNET_ROOM: return "ROOM";
     case HERRINGNET_NOTARGET: return "NOTARGET";
+    case HERRINGNET_TWICE: return "TWICE";
     case HERRINGNET_FIELDS: return "FIELDS";
     case HERRINGNET_VALUES: return "VALUES";
     default: return "OTHER";
@@ -165,7 +167,7 @@ enum herringnet_field {
     HERRINGNET_FIELD_COUNT = 49
 };
 
-/* Tests a shortcut by all rules (FORMAT: Order of reading). Success: its length. Refusals: 1 to 9. */
+/* Tests a shortcut by all rules (FORMAT: Order of reading). Success: its length. Refusals: 1 to 9 and 14. */
 uint64_t herringnet_check(const uint8_t *shortcut, size_t shortcut_len);
 
 /* The same verdict with the section at fault: HERRINGNET_FAULT_POSITION, and start and name of the section, which is a

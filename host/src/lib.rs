@@ -33,7 +33,7 @@ pub use unwritable::Cause;
 use refusal::answer;
 
 /// The requests whose rules this package and its archive follow; docs/requests of the repository has a note of each.
-pub const REQUESTS: [&str; 4] = ["01", "02", "03", "04"];
+pub const REQUESTS: [&str; 5] = ["01", "02", "03", "04", "05"];
 
 /// The SHA-256 of the archive that is linked, in hex.
 pub const ARCHIVE_DIGEST: &str = env!("HERRINGNET_DIGEST");
@@ -45,7 +45,7 @@ pub const LONGEST: usize = 65_536;
 ///
 /// # Errors
 ///
-/// Numbers 1 to 9, with the first byte of the field found wrong.
+/// Numbers 1 to 9 and 14, with the first byte of the field found wrong.
 ///
 /// ```
 #[doc = include_str!("../examples/check.rs")]
@@ -94,7 +94,7 @@ pub fn target_into(shortcut: &[u8], out: &mut [u8]) -> Result<usize, Refusal> {
 /// The cache key of a shortcut: equal for two accepted shortcuts exactly if all that it is made of is equal.
 ///
 /// That is a byte 0 or 1 for LinkFlags bit 7, and then target text, arguments, working directory and environment, the
-/// byte text of the first block A0000001 up to its zero. Each of these four is a byte 0 or 1 for its presence, its
+/// byte text of the block A0000001 up to its zero. Each of these four is a byte 0 or 1 for its presence, its
 /// length in bytes as four bytes, little-endian, and its bytes; one that is absent has length 0. A missing target is
 /// absent, and no refusal.
 ///

@@ -3,7 +3,9 @@
 //! The proved writer says that no shortcut reads as a record, and not why. So it is asked again, for records that
 //! have one part of the first alone: what is refused alone is at fault.
 use crate::record::{Header, Info, InfoUnicode, Label, Local, Network, NetworkUnicode, Record};
+use crate::refusal::Fault;
 use crate::text::StringName;
+use crate::check;
 use std::fmt;
 
 /// A field that makes a record unwritable.
@@ -134,7 +136,18 @@ fn strings<'a>(record: &Record<'a>) -> Vec<Part<'a>> {
 
 fn blocks<'a>(record: &Record<'a>) -> Vec<Part<'a>> {
     let alone = Record { blocks: record.blocks, ..Record::default() };
-    vec![("blocks", "they are not allowed blocks end to end, or too long", alone)]
+    vec![("blocks", block_why(record.blocks), alone)]
+}
+
+/// Two of one kind are told from other faults by reading them.
+fn block_why(blocks: &[u8]) -> &'static str {
+    let mut shortcut = Record::default().to_vec().unwrap_or_default();
+    let end = shortcut.len().saturating_sub(4);
+    shortcut.splice(end..end, blocks.iter().copied());
+    match check(&shortcut) {
+        Err(refusal) if refusal.fault == Fault::Twice => "two of them have one known signature",
+        _ => "they are not allowed blocks end to end, or too long",
+    }
 }
 
 const ODD: &str = "it has an odd number of bytes, and two make a character";

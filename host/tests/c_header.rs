@@ -85,7 +85,7 @@ fn numbers_have_the_names_of_the_rust_side() {
     let numbers = all.iter().filter(|(name, _)| !name.contains("FIELD_") && !name.contains("SECTION_"));
     let numbers: Vec<(&str, usize)> = numbers.map(|(name, number)| (name.as_str(), *number)).collect();
     assert_eq!(numbers[0], ("OK", 0));
-    assert_eq!(numbers.len(), 16);
+    assert_eq!(numbers.len(), 17);
     for (name, number) in &numbers[1..] {
         assert_eq!(Fault::of(*number as u8).name(), *name);
     }

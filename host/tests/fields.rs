@@ -15,7 +15,7 @@ const INPUTS: u64 = 100_000;
 type Row = (u8, Part, usize, Why, &'static str, &'static str);
 
 #[rustfmt::skip]
-const ROWS: [Row; 90] = [
+const ROWS: [Row; 91] = [
     (3, Part::Header, 0, Why::Value, "HeaderSize", "not 0x4C"),
     (3, Part::Header, 4, Why::Value, "LinkCLSID", "not 01 14 02 00"),
     (4, Part::Header, 20, Why::Value, "LinkFlags", "to be clear"),
@@ -103,6 +103,7 @@ const ROWS: [Row; 90] = [
     (8, Part::Block, 8, Why::Past, "ItemIDSize", "the list has"),
     (8, Part::Block, 8, Why::Zero, "ItemIDSize", "ends the list"),
     (8, Part::Block, 8, Why::Lacking, "ItemIDSize", "cut off"),
+    (14, Part::Block, 4, Why::Again, "BlockSignature", "that of the block at"),
     (2, Part::End, 0, Why::Cut, "TerminalBlock", "cut off"),
     (9, Part::End, 4, Why::Value, "", "after it"),
     (2, Part::Header, 0, Why::Cut, "", "of its 76"),

@@ -15,8 +15,8 @@ struct Shortcut<'a> {
     info: Option<u32>,
     arguments: Option<&'a [u8]>,
     workdir: Option<&'a [u8]>,
-    /// The byte texts of all blocks A0000001.
-    environments: Vec<&'a [u8]>,
+    /// The byte text of the block A0000001, and how many blocks stand before it.
+    environment: Option<(&'a [u8], usize)>,
 }
 
 impl<'a> Shortcut<'a> {
@@ -27,13 +27,14 @@ impl<'a> Shortcut<'a> {
         let sections = independent::sections(bytes).ok()?;
         let blocks =
             sections.iter().filter(|section| section.0 == 8).map(|&(_, start, size)| &bytes[start..start + size]);
-        let environments = blocks.filter(|block| block[4..8] == *b"\x01\0\0\xA0");
+        let text = |block: &'a [u8]| block[8..].split(|&byte| byte == 0).next().unwrap();
+        let environment = blocks.zip(0..).find(|(block, _)| block[4..8] == *b"\x01\0\0\xA0");
         Some(Shortcut {
             flags,
             info: (flags & 2 != 0).then_some(record.info.flags),
             arguments: string(5),
             workdir: string(4),
-            environments: environments.map(|block| block[8..].split(|&byte| byte == 0).next().unwrap()).collect(),
+            environment: environment.map(|(block, number)| (text(block), number)),
         })
     }
 
@@ -63,13 +64,13 @@ const TRAITS: [Trait; 19] = [
     ("arguments and working directory that differ", |s| {
         s.arguments.is_some() && s.workdir.is_some() && s.arguments != s.workdir
     }),
-    ("no environment block", |s| s.environments.is_empty()),
-    ("one environment block", |s| s.environments.len() == 1),
-    ("two that differ at the front", |s| s.environments.len() > 1 && s.environments[0] != s.environments[1]),
-    ("empty first environment", |s| s.environments.first() == Some(&b"".as_slice())),
-    ("environment of 259 bytes", |s| s.environments.first().map_or(false, |text| text.len() == 259)),
-    ("bit 9 without block", |s| s.bit(9) && s.environments.is_empty()),
-    ("block without bit 9", |s| !s.bit(9) && !s.environments.is_empty()),
+    ("no environment block", |s| s.environment.is_none()),
+    ("an environment block", |s| s.environment.is_some()),
+    ("one that is not the first block", |s| s.environment.map_or(false, |(_, number)| number > 0)),
+    ("empty environment", |s| s.environment.map_or(false, |(text, _)| text.is_empty())),
+    ("environment of 259 bytes", |s| s.environment.map_or(false, |(text, _)| text.len() == 259)),
+    ("bit 9 without block", |s| s.bit(9) && s.environment.is_none()),
+    ("block without bit 9", |s| !s.bit(9) && s.environment.is_some()),
 ];
 
 #[test]

@@ -9,8 +9,8 @@ use herringnet::{key, listing, section, sections, Record, Refusal, SectionName};
 use std::fs;
 use std::path::Path;
 
-/// The rows that stand before the large ones.
-const SMALL: usize = 1_499;
+/// The rows that stand before those of `made`.
+const OTHERS: usize = 1_499;
 
 const EXPECTED: &[u8] = include_bytes!("../../crates/vectors/stdout");
 
@@ -72,19 +72,23 @@ fn the_expected_output_is_that_of_the_independent_side() {
     assert!(expected(&rows()) == EXPECTED);
 }
 
-#[test]
-fn the_last_rows_are_the_large_ones() {
-    let (rows, large) = (rows(), inputs::large());
-    assert_eq!(rows[rows.len() - large.len()..], large);
+/// The last rows: two blocks of one kind, and large ones.
+fn made() -> Vec<Vec<u8>> {
+    inputs::pairs().into_iter().chain(inputs::large()).collect()
 }
 
-/// Writes both files anew where the large rows have changed, or what is expected of any row.
+#[test]
+fn the_last_rows_are_those_that_are_made() {
+    assert_eq!(rows()[OTHERS..], made());
+}
+
+/// Writes both files anew where the rows that are made have changed, or what is expected of any row.
 #[test]
 #[ignore]
 fn write_the_rows() {
-    let (small, large) = (rows(), inputs::large());
-    let mut all: Vec<&[u8]> = small.into_iter().take(SMALL).collect();
-    all.extend(large.iter().map(Vec::as_slice));
+    let (others, made) = (rows(), made());
+    let mut all: Vec<&[u8]> = others.into_iter().take(OTHERS).collect();
+    all.extend(made.iter().map(Vec::as_slice));
     let rows = all.iter().flat_map(|row| [&(row.len() as u32).to_le_bytes()[..], row].concat());
     let program = Path::new(env!("CARGO_MANIFEST_DIR")).join("../crates/vectors");
     fs::write(program.join("stdin"), rows.collect::<Vec<u8>>()).unwrap();

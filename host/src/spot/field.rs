@@ -39,8 +39,8 @@ enum Where {
 }
 
 use Rule::{
-    Apart, AtLeast, AtMost, Bytes, Clear, Ended, Fits, Head, HotKey, Is, Item, Label, Present, Signature, Structure,
-    Text,
+    Apart, AtLeast, AtMost, Bytes, Clear, Ended, Fits, Head, HotKey, Is, Item, Label, Once, Present, Signature,
+    Structure, Text,
 };
 use Where::{Everywhere, In, LongHead};
 
@@ -55,7 +55,7 @@ const DARWIN: &[u32] = &[0xA000_0006];
 const ABOVE_1: u32 = !3;
 
 #[rustfmt::skip]
-const ROWS: [Row; 34] = [
+const ROWS: [Row; 35] = [
     Row(Kind::Header, 0, 4, "HeaderSize", Everywhere, &[Is(0x4C)]),
     Row(Kind::Header, 4, 16, "LinkCLSID", Everywhere, &[Bytes(&CLASS)]),
     Row(Kind::Header, 20, 4, "LinkFlags", Everywhere, &[Clear(0xF800_0000)]),
@@ -85,6 +85,7 @@ const ROWS: [Row; 34] = [
     Row(Kind::Network, 24, 4, "DeviceNameOffsetUnicode", LongHead, &[Present(0), Text(2), Apart]),
     Row(Kind::String, 0, 2, "CountCharacters", Everywhere, &[Fits]),
     Row(Kind::Block, 0, 4, "BlockSize", Everywhere, &[AtLeast(8), Fits, Signature]),
+    Row(Kind::Block, 4, 4, "BlockSignature", Everywhere, &[Once]),
     Row(Kind::Block, 8, 260, "TargetAnsi", In(TARGETS), &[Ended(1)]),
     Row(Kind::Block, 8, 260, "DarwinDataAnsi", In(DARWIN), &[Ended(1)]),
     Row(Kind::Block, 268, 520, "TargetUnicode", In(TARGETS), &[Ended(2)]),

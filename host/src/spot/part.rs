@@ -1,7 +1,7 @@
 //! The structures of a shortcut, each as a part of it, as far as fields are looked for in them.
 use super::Spot;
 use crate::refusal::Fault;
-use crate::section::SectionName;
+use crate::section::{sections, SectionName};
 
 /// The kinds of structures that have fields of their own.
 #[derive(Clone, Copy, Debug, PartialEq, Eq)]
@@ -31,6 +31,8 @@ pub struct Part<'a> {
     pub bytes: &'a [u8],
     /// Whether characters of strings have two bytes.
     pub wide: bool,
+    /// Where the first block stands that has this one's signature, if that is what is wrong with it.
+    pub twin: Option<usize>,
 }
 
 impl<'a> Part<'a> {
@@ -105,7 +107,7 @@ impl<'a> Part<'a> {
         let rest = self.bytes.get(self.field(at)..).filter(|_| self.field(at) >= self.head())?;
         let size = u32::from_le_bytes(rest.get(..SIZE)?.try_into().ok()?) as usize;
         let bytes = rest.get(..size.max(SIZE))?;
-        Some(Part { kind, start: self.start + self.field(at), bytes, wide: self.wide })
+        Some(Part { kind, start: self.start + self.field(at), bytes, ..*self })
     }
 }
 
@@ -113,7 +115,8 @@ impl<'a> Part<'a> {
 pub fn parts<'a>(spot: &Spot, shortcut: &'a [u8]) -> Vec<Part<'a>> {
     let rest = shortcut.get(spot.start..).unwrap_or(&[]);
     let wide = shortcut.get(20).map_or(false, |flags| flags & 0x80 != 0);
-    let whole = |kind, bytes| Part { kind, start: spot.start, bytes, wide };
+    let twin = if spot.refusal.fault == Fault::Twice { twin(spot.start, shortcut) } else { None };
+    let whole = |kind, bytes| Part { kind, start: spot.start, bytes, wide, twin };
     match spot.section {
         SectionName::Header => vec![whole(Kind::Header, rest)],
         SectionName::Items => vec![whole(Kind::List, rest), items(whole(Kind::List, rest), 2)],
@@ -146,6 +149,14 @@ fn info(info: Part, fault: Fault) -> Vec<Part> {
     let network = info.inner(Kind::Network, 20).filter(|_| flags & 2 != 0);
     let inner = [volume, network].into_iter().flatten().filter(|_| fault == Fault::Piece);
     std::iter::once(info).chain(inner).collect()
+}
+
+/// The first block with the signature of that at a start. All that stands before it is accepted if a terminal follows.
+fn twin(start: usize, shortcut: &[u8]) -> Option<usize> {
+    let before = [shortcut.get(..start)?, &[0; SIZE]].concat();
+    let signature = shortcut.get(start + 4..start + 8)?;
+    let mut blocks = sections(&before).ok()?.into_iter().filter(|section| section.name == SectionName::Block);
+    blocks.find(|block| block.bytes.get(4..8) == Some(signature)).map(|block| block.start)
 }
 
 /// The signature of the block at fault, if it is long enough to have one.

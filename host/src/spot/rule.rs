@@ -38,6 +38,8 @@ pub enum Rule {
     Signature,
     /// A text that stands in the field itself.
     Ended(usize),
+    /// No block before this one has the signature.
+    Once,
 }
 
 impl Rule {
@@ -67,6 +69,7 @@ impl Rule {
             Rule::Ended(2) if length(&part.bytes[at..at + width], 2).is_none() => {
                 Some("has no zero 16-bit unit".to_string())
             }
+            Rule::Once => part.twin.and_then(|start| is(format!(", and so is that of the block at {}", start))),
             _ => None,
         }
     }

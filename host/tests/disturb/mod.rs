@@ -34,7 +34,8 @@ impl Disturbed<'_> {
             72 => self.at_limit(random),
             73 => self.long_buffer(random),
             74..=83 => self.number(random),
-            84..=88 => self.swapped(random),
+            84..=86 => self.swapped(random),
+            87..=88 => self.blocks_again(),
             89..=90 => self.fields.resize(random.pick(&[0, 1, 48, 50]), 0),
             91..=93 => self.body.truncate(random.below(self.body.len() + 1)),
             94..=97 => self.absent_junk(random),
@@ -141,6 +142,16 @@ impl Disturbed<'_> {
         let (one, two) = (self.any_body(random), self.any_body(random));
         self.fields.swap(one, two);
         self.fields.swap(one + 1, two + 1);
+    }
+
+    /// The blocks and all of them once more, so that every known one stands twice.
+    fn blocks_again(&mut self) {
+        let (at, length) = (self.fields[FIELDS - 2] as usize, self.fields[FIELDS - 1] as usize);
+        if let Some(blocks) = at.checked_add(length).and_then(|end| self.body.get(at..end)) {
+            let twice = blocks.repeat(2);
+            self.fields[FIELDS - 2..].copy_from_slice(&[self.body.len() as u64, twice.len() as u64]);
+            self.body.extend(twice);
+        }
     }
 
     /// Numbers where the reader put zeros, many of them in what is absent.

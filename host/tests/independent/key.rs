@@ -13,7 +13,7 @@ struct Parts {
     texts: Texts,
     arguments: Option<Body>,
     workdir: Option<Body>,
-    /// Where the first environment block starts.
+    /// Where the environment block starts.
     environment: Option<usize>,
 }
 
@@ -35,7 +35,7 @@ impl Visit for Parts {
     }
 
     fn block(&mut self, start: usize, signature: u32) {
-        if signature == ENVIRONMENT && self.environment.is_none() {
+        if signature == ENVIRONMENT {
             self.environment = Some(start);
         }
     }

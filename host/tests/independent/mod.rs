@@ -37,6 +37,7 @@ pub const PLACE: u8 = 10;
 pub const UNWRITABLE: u8 = 11;
 pub const ROOM: u8 = 12;
 pub const NOTARGET: u8 = 13;
+pub const TWICE: u8 = 14;
 
 pub const SECTION_HEADER: u8 = 0;
 pub const SECTION_ITEMS: u8 = 1;
@@ -326,6 +327,7 @@ fn string(rest: &[u8], width: usize) -> Result<usize, Wrong> {
 
 fn walk_blocks<V: Visit>(shortcut: &[u8], start: usize, visit: &mut V) -> Result<usize, Refusal> {
     let mut at = start;
+    let mut kinds = Kinds::default();
     let wrong_end = |at, number, field, why| {
         let wrong = Wrong::new(number, Part::End, field, why);
         Refusal::in_section(SECTION_END, at)(wrong)
@@ -336,7 +338,7 @@ fn walk_blocks<V: Visit>(shortcut: &[u8], start: usize, visit: &mut V) -> Result
         if size < 4 {
             break;
         }
-        let signature = judge_block(rest, size).map_err(Refusal::in_section(SECTION_BLOCK, at))?;
+        let signature = judge_block(rest, size, &mut kinds).map_err(Refusal::in_section(SECTION_BLOCK, at))?;
         visit.section(SECTION_BLOCK, at, size);
         visit.block(at, signature);
         at += size;
@@ -350,9 +352,27 @@ fn walk_blocks<V: Visit>(shortcut: &[u8], start: usize, visit: &mut V) -> Result
     Ok(end)
 }
 
-/// The signature of a block of this size, not the terminal one, at the start of the rest.
+/// The known signatures that have stood so far, a bit for each.
+#[derive(Default)]
+struct Kinds(u16);
+
+impl Kinds {
+    /// Whether a signature is known and has stood before; from now on it has.
+    #[inline(always)]
+    fn has_stood(&mut self, signature: u32) -> bool {
+        let bit = match signature {
+            0xA000_0001..=0xA000_0009 | 0xA000_000B | 0xA000_000C => 1 << (signature & 0xF),
+            _ => return false,
+        };
+        let stood = self.0 & bit != 0;
+        self.0 |= bit;
+        stood
+    }
+}
+
+/// The signature of a block of this size, not the terminal one, at the start of the rest; others stood before it.
 #[inline(always)]
-fn judge_block(rest: &[u8], size: usize) -> Result<u32, Wrong> {
+fn judge_block(rest: &[u8], size: usize, kinds: &mut Kinds) -> Result<u32, Wrong> {
     if size < 8 {
         return Err(Wrong::new(BLOCK, Part::Block, 0, Why::Small));
     }
@@ -362,6 +382,7 @@ fn judge_block(rest: &[u8], size: usize) -> Result<u32, Wrong> {
         return Err(Wrong::new(BLOCK, Part::Block, 0, Why::Value));
     }
     match wrong_inside(block, signature) {
+        None if kinds.has_stood(signature) => Err(Wrong::new(TWICE, Part::Block, 4, Why::Again)),
         None => Ok(signature),
         Some((at, why)) => Err(Wrong::new(BLOCK, Part::Block, at, why)),
     }
@@ -404,10 +425,11 @@ fn endless_text(block: &[u8]) -> Option<usize> {
 
 /// Blocks end to end, none of them terminal.
 fn are_blocks(body: &[u8]) -> bool {
+    let mut kinds = Kinds::default();
     let mut rest = body;
     while rest.len() >= 4 {
         let size = u32_at(rest, 0) as usize;
-        if judge_block(rest, size).is_err() {
+        if judge_block(rest, size, &mut kinds).is_err() {
             return false;
         }
         rest = &rest[size..];

@@ -1,4 +1,4 @@
-//! What is found wrong, and where: the field, by the words of request 04 and the reading of its open points.
+//! What is found wrong, and where: the field, by the words of requests 04 and 05 and the reading of their open points.
 
 /// A refusal: the first byte of the field found wrong, and the section at fault by its number in the listing and its
 /// first byte.
@@ -66,6 +66,8 @@ pub enum Why {
     Zero,
     /// A list ends where a size is due.
     Lacking,
+    /// A block before this one has it.
+    Again,
 }
 
 /// A field found wrong.

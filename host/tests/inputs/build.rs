@@ -436,16 +436,15 @@ impl Draft {
             45..=97 => random.from_to(1, 3),
             _ => random.from_to(4, 40),
         };
-        // Often enough that two environment blocks stand in one shortcut.
-        let environments = random.chance(25);
-        for number in 0..count {
-            // Many blocks are short ones, so that inputs stay short.
-            let known = match count > 3 {
-                true => [5, 6, 8, 9, 10][number % 5],
-                false if environments && random.chance(80) => 0,
-                false => random.below(11),
-            };
+        let mut kinds = some_kinds(random, count);
+        // A known signature stands once, but now and then it comes again.
+        let pairs = random.chance(20);
+        for _ in 0..count {
+            let known = kinds.pop();
             self.block(random, known);
+            let again = known.filter(|_| pairs && random.chance(60));
+            let at = kinds.len().saturating_sub(random.below(3));
+            kinds.splice(at..at, again);
         }
         if self.extra > 8 && self.take_extra(Stretch::Block) > 0 {
             self.long_blocks(random);
@@ -470,13 +469,14 @@ impl Draft {
         }
     }
 
-    fn block(&mut self, random: &mut Random, known: usize) {
+    /// A block of a known kind or, now and then and where none is given, of another.
+    fn block(&mut self, random: &mut Random, known: Option<usize>) {
         let start = self.bytes.len();
         self.starts.push(start);
-        let (mut signature, least) = KNOWN_BLOCKS[known];
-        let grows = matches!(known, 7 | 8);
+        let (mut signature, least) = KNOWN_BLOCKS[known.unwrap_or(5)];
+        let grows = matches!(known, Some(7 | 8));
         let mut size = least + if grows { random.below(20) } else { 0 };
-        if random.chance(30) {
+        if random.chance(30) || known.is_none() {
             signature = random.pick(&OTHER_SIGNATURES);
             size = random.from_to(8, 40);
         }
@@ -519,6 +519,21 @@ impl Draft {
             true => self.set(at.min(start + 784) + 1, 2, 0),
         }
     }
+}
+
+/// Kinds of known blocks, to be taken from the end: of many blocks short ones, so that inputs stay short, and of few
+/// often enough the environment.
+fn some_kinds(random: &mut Random, count: usize) -> Vec<usize> {
+    let mut kinds: Vec<usize> = match count > 3 {
+        true => vec![5, 6, 8, 9, 10],
+        false => (0..KNOWN_BLOCKS.len()).collect(),
+    };
+    random.shuffle(&mut kinds);
+    if (1..=3).contains(&count) && random.chance(30) {
+        kinds.retain(|&kind| kind != 0);
+        kinds.insert(kinds.len() - random.below(count), 0);
+    }
+    kinds
 }
 
 fn any_byte(random: &mut Random) -> u8 {

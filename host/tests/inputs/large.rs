@@ -4,7 +4,7 @@ const LIMIT: usize = 65_536;
 /// A signature that no rule knows.
 const OTHER: u32 = 0x1000_0000;
 
-fn header(flags: u32) -> Vec<u8> {
+pub fn header(flags: u32) -> Vec<u8> {
     let mut header = vec![0; 76];
     header[0] = 0x4C;
     header[4..20].copy_from_slice(&[0x01, 0x14, 0x02, 0, 0, 0, 0, 0, 0xC0, 0, 0, 0, 0, 0, 0, 0x46]);
@@ -12,7 +12,7 @@ fn header(flags: u32) -> Vec<u8> {
     header
 }
 
-fn block(size: usize, signature: u32) -> Vec<u8> {
+pub fn block(size: usize, signature: u32) -> Vec<u8> {
     let mut block = (size as u32).to_le_bytes().to_vec();
     block.extend(signature.to_le_bytes());
     block.resize(size, 0xB5);
@@ -54,7 +54,7 @@ fn some_blocks() -> Vec<u8> {
     [block(0x0C, 0xA000_0004), block(0x10, 0xA000_0005), block(0x1C, 0xA000_000B), block(9, OTHER)].concat()
 }
 
-fn ended(mut shortcut: Vec<u8>) -> Vec<u8> {
+pub fn ended(mut shortcut: Vec<u8>) -> Vec<u8> {
     shortcut.extend([0; 4]);
     shortcut
 }

@@ -6,11 +6,14 @@
 mod build;
 mod damage;
 mod large;
+mod pairs;
 mod random;
 
 pub use build::Draft;
 #[allow(unused_imports)]
 pub use large::large;
+#[allow(unused_imports)]
+pub use pairs::pairs;
 pub use random::Random;
 
 const SEED: u64 = 0x4C4E_4B20_6865_7272;
@@ -37,10 +40,10 @@ pub fn input(number: u64) -> Vec<u8> {
     draft.bytes
 }
 
-/// How often each number was answered, 0 to 13.
+/// How often each number was answered, 0 to 14.
 #[derive(Default)]
 pub struct Tally {
-    pub counts: [u64; 14],
+    pub counts: [u64; 15],
     pub calls: u64,
 }
 
