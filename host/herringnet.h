@@ -181,7 +181,7 @@ uint64_t herringnet_fault(const uint8_t *shortcut, size_t shortcut_len);
 uint64_t herringnet_target(const uint8_t *shortcut, size_t shortcut_len, uint8_t *out, size_t out_len);
 
 /* Puts the cache key into out: a byte 0 or 1 for bit 7 of LINK_FLAGS, then target text, arguments, working directory
- * and environment, the byte text of the first block A0000001 up to its zero. Each of these four is a byte 0 or 1 for its
+ * and environment, the byte text of the block A0000001 up to its zero. Each of these four is a byte 0 or 1 for its
  * presence, its length in bytes as four bytes, little-endian, and its bytes; one that is absent has length 0. Two
  * accepted shortcuts have equal keys exactly if all this is equal. Success: the key's length, which is never more than
  * shortcut_len. Refusals: as herringnet_check, then ROOM. */

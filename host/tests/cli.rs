@@ -88,6 +88,11 @@ fn check_names_the_field() {
             &[&SAMPLE[..98], b"\x01", &SAMPLE[99..]].concat(),
             "item list (at 76), IDList (at 78), ItemIDSize is 0x1, less than 0x2",
         ),
+        (
+            "14 TWICE at 459",
+            &[&SAMPLE[..455], &SAMPLE[359..]].concat(),
+            "TrackerDataBlock (at 455), BlockSignature is 0xA0000003, and so is that of the block at 359",
+        ),
     ];
     for (place, bytes, words) in rows {
         s.put("x.lnk", bytes);

@@ -106,12 +106,38 @@ fn the_same_with_one_fault() {
     let rows = table(under("The same with one fault"));
     assert!(rows.len() > 20);
     for row in rows {
-        let cells: Vec<u64> = row[1].split(&[' ', ','][..]).filter_map(|word| word.parse().ok()).collect();
-        let [fault, position, section, start]: [u64; 4] = cells.try_into().unwrap();
-        let shortcut = changed(row[0]);
-        assert_eq!(boundary::check(&shortcut), fault + 256 * position, "{}", row[0]);
-        let value = position + 65_537 * (start + 65_537 * section);
-        assert_eq!(boundary::fault(&shortcut), fault + 256 * value, "{}", row[0]);
+        println!("{}", row[0]);
+        is_refused(&changed(row[0]), row[1]);
+    }
+}
+
+/// Number, position, section and start of a refusal, as the page writes them.
+fn refusal(answer: &str) -> [u64; 4] {
+    let cells: Vec<u64> = answer.split(&[' ', ','][..]).filter_map(|word| word.parse().ok()).collect();
+    cells.try_into().unwrap()
+}
+
+#[track_caller]
+fn is_refused(shortcut: &[u8], answer: &str) {
+    let [fault, position, section, start] = refusal(answer);
+    assert_eq!(boundary::check(shortcut), fault + 256 * position);
+    let value = position + 65_537 * (start + 65_537 * section);
+    assert_eq!(boundary::fault(shortcut), fault + 256 * value);
+}
+
+#[test]
+fn blocks_of_one_kind() {
+    let text = under("Blocks of one kind");
+    let letters = &blocks(text)[0];
+    let block = |letter: &str| bytes(&[letters.iter().find(|line| line.starts_with(letter)).unwrap()]);
+    for row in table(text) {
+        let named = row[0].split(':').next().unwrap().split(' ').flat_map(block);
+        let mut shortcut = Record::default().to_vec().unwrap();
+        shortcut.splice(76..76, named);
+        match row[1].strip_prefix("0, length ") {
+            Some(length) => assert_eq!(boundary::check(&shortcut), 256 * number(length)),
+            None => is_refused(&shortcut, row[1]),
+        }
     }
 }
 

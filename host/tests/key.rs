@@ -52,7 +52,7 @@ fn key_of(record: &Record) -> Vec<u8> {
 
 #[test]
 fn every_part_in_its_order() {
-    let blocks = [environment(b"%cc%"), environment(b"second")].concat();
+    let blocks = [environment(b"%cc%"), block(0xA000_0007, b"second")].concat();
     let target = b"\x01\x09\0\0\0C:\\bin\\cc";
     let arguments = b"\x01\x06\0\0\0-\0g\x001\0";
     let workdir = b"\x01\x04\0\0\0w\0d\0";
@@ -106,14 +106,14 @@ fn a_missing_target_is_absent() {
 }
 
 #[test]
-fn the_environment_is_the_first_block_of_its_signature() {
+fn the_environment_is_the_block_of_its_signature() {
     let last = vec![b'x'; 259];
     let whole = [b"\x01\x03\x01\0\0".as_slice(), &last].concat();
     let cases: [(Vec<u8>, &[u8]); 6] = [
         (Vec::new(), ABSENT),
         ([block(0xA000_0006, b"icon"), block(0xA000_0007, b"name")].concat(), ABSENT),
-        ([block(0xA000_0007, b"name"), environment(b"a"), environment(b"b")].concat(), b"\x01\x01\0\0\0a"),
-        ([environment(b""), environment(b"b")].concat(), b"\x01\0\0\0\0"),
+        ([block(0xA000_0007, b"name"), environment(b"a"), block(0xA000_0006, b"b")].concat(), b"\x01\x01\0\0\0a"),
+        ([environment(b""), block(0xA000_0007, b"name")].concat(), b"\x01\0\0\0\0"),
         ([environment(b"caf\xE9\\"), block(0xA000_0006, b"icon")].concat(), b"\x01\x05\0\0\0caf\xE9\\"),
         (environment(&last), &whole),
     ];
@@ -124,6 +124,15 @@ fn the_environment_is_the_first_block_of_its_signature() {
             let found = key_of(&Record { header, blocks, ..Record::default() });
             assert_eq!(found, [&[0], ABSENT, ABSENT, ABSENT, expected].concat());
         }
+    }
+}
+
+#[test]
+fn two_environment_blocks_have_no_key() {
+    let header = Record::default().to_vec().unwrap();
+    for second in [environment(b"a"), environment(b"b")] {
+        let shortcut = [&header[..76], &environment(b"a"), &second, &[0; 4]].concat();
+        assert_eq!(key(&shortcut), Err(Refusal::new(Fault::Twice, 76 + 0x314 + 4)));
     }
 }
 
@@ -166,7 +175,7 @@ fn same_key(blocks: &[u8]) -> Vec<Record<'_>> {
 
 #[test]
 fn all_else_may_differ() {
-    let blocks = [environment(b"%cc%"), block(0xA000_0006, b"i"), environment(b"second")].concat();
+    let blocks = [block(0xA000_0007, b"first"), environment(b"%cc%"), block(0xA000_0006, b"i")].concat();
     let only = environment(b"%cc%");
     let mut shortcuts = HashSet::new();
     let expected = key_of(&full(&only));

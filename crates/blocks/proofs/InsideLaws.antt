@@ -56,6 +56,15 @@ module _ (k : ℕ) where
         go false true = omega (arith, item-wrong-inside BLOCK 8 0 (drop 8 b), length-drop 8 b)
         go false false = omega arith
 
+    pub no-rule : hasRule k ≡ false → wrong (insideTests k b) ≡ 0
+    unfolding insideTests slotOf
+    no-rule h = go texts (eqb k 10) h
+      where
+        go : (x y : Bool) → (x || y) ≡ false → wrong (cond x (pathTests b) (cond y (itemTests BLOCK 8 0 (drop 8 b)) [])) ≡ 0
+        go true y h = clash refl h
+        go false true h = clash refl h
+        go false false h = refl
+
     pub holds-items : k ≡ 10 → wrong (itemTests BLOCK 8 0 (drop 8 b)) ≡ wrong (insideTests k b)
     unfolding insideTests slotOf
     holds-items e = rw e

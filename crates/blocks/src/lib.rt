@@ -237,12 +237,23 @@ fn size_spot(p: usize, left: usize) -> Spot
     spot_at(8, p, 0)
 }
 
-// A block whose sizes are right is refused for what it holds, or else as the second of its kind.
+// The slots of the blocks that have a rule for what they hold.
+fn has_rule(slot: usize) -> bool
+    ensures { λ r. ⌜ r ≡ hasRule slot ⌝ }
+{
+    (slot == 0) | (slot == 5) | (slot == 6) | (slot == 10)
+}
+
+// A block whose sizes are right is refused for what it holds, or else as the second of its kind. What most blocks are
+// asked in the walk is not called from here, so that the compiler merges it into the walk.
 fn wrong_block(slot: usize, b: &[u8], p: usize) -> BlocksRead
     requires { ⌜ (sizeFits slot (length (now b)) ≡ true) × (p + length (now b) ≤ most) ⌝ }
     ensures { λ r. ⌜ r ≡ wrongBlock slot (now (b .entry)) p ⌝ }
 {
-    let field = inside_wrong(slot, b);
+    if !has_rule(slot) {
+        return stopped(Fault::Twice, spot_at(8, p, 4));
+    }
+    let field = held_wrong(slot, b);
     if field == 0 {
         return stopped(Fault::Twice, spot_at(8, p, 4));
     }

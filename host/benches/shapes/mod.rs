@@ -221,11 +221,12 @@ fn many_items(length: usize) -> Vec<u8> {
     bytes
 }
 
+/// Blocks of two unknown signatures, as known ones stand once.
 fn many_blocks(length: usize) -> Vec<u8> {
     let mut bytes = header(2);
     little_info(&mut bytes);
     for number in 0..(length - bytes.len() - 4) / 12 {
-        let signature = if number % 2 == 0 { 0xA000_0004 } else { 0xA000_0009 };
+        let signature = if number % 2 == 0 { 0xA000_000A } else { 0xA000_000D };
         block(&mut bytes, signature, 12);
     }
     put(&mut bytes, 0);

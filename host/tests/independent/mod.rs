@@ -352,18 +352,19 @@ fn walk_blocks<V: Visit>(shortcut: &[u8], start: usize, visit: &mut V) -> Result
     Ok(end)
 }
 
-/// The known signatures that have stood so far, a bit for each.
+/// The known signatures, by their last digit: 1 to 9, B and C.
+const KNOWN: u32 = 0b1_1011_1111_1110;
+
+/// The known signatures that have stood so far.
 #[derive(Default)]
-struct Kinds(u16);
+struct Kinds(u32);
 
 impl Kinds {
     /// Whether a signature is known and has stood before; from now on it has.
     #[inline(always)]
     fn has_stood(&mut self, signature: u32) -> bool {
-        let bit = match signature {
-            0xA000_0001..=0xA000_0009 | 0xA000_000B | 0xA000_000C => 1 << (signature & 0xF),
-            _ => return false,
-        };
+        let digit = signature ^ 0xA000_0000;
+        let bit = if digit < 16 { KNOWN & 1 << digit } else { 0 };
         let stood = self.0 & bit != 0;
         self.0 |= bit;
         stood

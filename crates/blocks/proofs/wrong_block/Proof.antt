@@ -1,14 +1,15 @@
--- The tests of what it holds are one number: 0 where none fails.
+-- The tests of what a block holds are one number, 0 where none fails; most slots have no such tests.
+use mathlib.Core.Path.{sym, _∙_}
 use native.Mathlib.Omega.{arith}
-use borrow.Author.Tests.{eq-eqb, ne-eqb}
+use borrow.Author.Tests.{eq-eqb, ne-eqb, not-true, not-false}
 use borrow.Author.Needs.{needs}
 use Rattle.blocks.specs.Steps.Walk.{wrongBlock}
-use Rattle.blocks.proofs.InsideLaws.{inside-near}
+use Rattle.blocks.proofs.InsideLaws.{no-rule, inside-near}
 use Rattle.blocks.proofs.wrong_block.Statement.{statement}
 use Rattle.blocks.proofs.wrong_block.Tie as tie
 
-inside-wrong-requires : tie.Need-inside-wrong-requires
-inside-wrong-requires c κs = search needs
+has-rule-requires : tie.Need-has-rule-requires
+has-rule-requires c κs = search needs
 
 spot-at-requires : tie.Need-spot-at-requires
 spot-at-requires c κs = search needs
@@ -20,10 +21,15 @@ returns : tie.Need-returns
 unfolding wrongBlock
 returns c =
     let after-if = c .before .before in
-    rw (c .stopped .ensures, c .before .spot-at .ensures, ← (after-if .before .inside-wrong .ensures), eq-eqb _ 0 (after-if .if1 .taken))
+    let start = after-if .before .before .before in
+    let none = no-rule (start .args .slot) (start .args .b .now) (sym (after-if .before .has-rule .ensures) ∙ not-true _ (after-if .if1 .taken)) in
+    rw (c .stopped .ensures, c .before .spot-at .ensures, eq-eqb _ 0 none)
+
+held-wrong-requires : tie.Need-held-wrong-requires
+held-wrong-requires c κs = (sym (c .before .has-rule .ensures) ∙ not-false _ (c .if1 .left), search needs)
 
 spot-at-requires-2 : tie.Need-spot-at-requires-2
-spot-at-requires-2 c κs = let start = c .before .before .before in omega (arith, c .before .inside-wrong .ensures, inside-near (start .args .slot) (start .args .b .now))
+spot-at-requires-2 c κs = search needs
 
 stopped-requires-2 : tie.Need-stopped-requires-2
 stopped-requires-2 c κs = search needs
@@ -32,16 +38,35 @@ returns-2 : tie.Need-returns-2
 unfolding wrongBlock
 returns-2 c =
     let after-if = c .before .before in
-    rw (c .stopped2 .ensures, c .before .spot-at2 .ensures, ← (after-if .before .inside-wrong .ensures), ne-eqb _ 0 (after-if .if1 .left))
+    rw (c .stopped2 .ensures, c .before .spot-at2 .ensures, ← (after-if .before .held-wrong .ensures), eq-eqb _ 0 (after-if .if2 .taken))
+
+spot-at-requires-3 : tie.Need-spot-at-requires-3
+spot-at-requires-3 c κs =
+    let after-has-rule = c .before .before .before in
+    let start = after-has-rule .before .before in
+    omega (arith, c .before .held-wrong .ensures, inside-near (start .args .slot) (start .args .b .now))
+
+stopped-requires-3 : tie.Need-stopped-requires-3
+stopped-requires-3 c κs = search needs
+
+returns-3 : tie.Need-returns-3
+unfolding wrongBlock
+returns-3 c =
+    let after-if = c .before .before in
+    rw (c .stopped3 .ensures, c .before .spot-at3 .ensures, ← (after-if .before .held-wrong .ensures), ne-eqb _ 0 (after-if .if2 .left))
 
 pub wrong-block-spec : {M : Type 1} → statement M
 wrong-block-spec =
     tie.close
     (tie.spec
-    inside-wrong-requires
+    has-rule-requires
     spot-at-requires
     stopped-requires
     returns
+    held-wrong-requires
     spot-at-requires-2
     stopped-requires-2
-    returns-2)
+    returns-2
+    spot-at-requires-3
+    stopped-requires-3
+    returns-3)
