@@ -45,16 +45,24 @@ fn the_header_is_one_for_cplusplus_too() {
     let folder = folder("cplusplus");
     let program = folder.join("use.cc");
     fs::write(&program, b"#include \"herringnet.h\"\nint main() { return herringnet_name(2)[0] != 'C'; }\n").unwrap();
-    let cc = env::var_os("HERRINGNET_CC").unwrap_or_else(|| "cc".into());
-    let cplusplus = cc.to_str().unwrap().replace("gcc", "g++");
-    let mut command = Command::new(if cplusplus == "cc" { "c++" } else { &cplusplus });
-    command
+    let compiler = match cplusplus() {
+        Some(compiler) => compiler,
+        None => return eprintln!("not tried: there is no compiler for C++"),
+    };
+    let done = Command::new(compiler)
         .args(["-Wall", "-Wextra", "-Wpedantic", "-Werror", "-fsyntax-only", "-I", env!("CARGO_MANIFEST_DIR")])
-        .arg(program);
-    match command.output() {
-        Ok(done) => assert!(done.status.success(), "{}", text(&done.stderr)),
-        Err(_) => eprintln!("not tried: there is no compiler for C++"),
-    }
+        .arg(program)
+        .output()
+        .unwrap();
+    assert!(done.status.success(), "{}", text(&done.stderr));
+}
+
+/// A compiler for C++ that runs: the one beside the C compiler, or the machine's own, since only the syntax is looked at.
+/// Under emulation a program that is not there runs and fails.
+fn cplusplus() -> Option<String> {
+    let cc = env::var("HERRINGNET_CC").unwrap_or_default();
+    let runs = |name: &String| Command::new(name).arg("--version").output().map_or(false, |done| done.status.success());
+    [cc.replace("gcc", "g++"), "c++".to_string()].into_iter().filter(|name| *name != cc).find(runs)
 }
 
 /// The enumerators that begin with a prefix, with their numbers.
