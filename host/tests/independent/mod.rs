@@ -352,19 +352,19 @@ fn walk_blocks<V: Visit>(shortcut: &[u8], start: usize, visit: &mut V) -> Result
     Ok(end)
 }
 
-/// The known signatures, by their last digit: 1 to 9, B and C.
-const KNOWN: u32 = 0b1_1011_1111_1110;
+fn is_known(signature: u32) -> bool {
+    matches!(signature, 0xA000_0001..=0xA000_0009 | 0xA000_000B | 0xA000_000C)
+}
 
-/// The known signatures that have stood so far.
+/// The known signatures that have stood so far, a bit for the last digit of each.
 #[derive(Default)]
 struct Kinds(u32);
 
 impl Kinds {
-    /// Whether a signature is known and has stood before; from now on it has.
+    /// Whether a known signature has stood before; from now on it has.
     #[inline(always)]
     fn has_stood(&mut self, signature: u32) -> bool {
-        let digit = signature ^ 0xA000_0000;
-        let bit = if digit < 16 { KNOWN & 1 << digit } else { 0 };
+        let bit = 1 << (signature & 0xF);
         let stood = self.0 & bit != 0;
         self.0 |= bit;
         stood
@@ -379,6 +379,9 @@ fn judge_block(rest: &[u8], size: usize, kinds: &mut Kinds) -> Result<u32, Wrong
     }
     let block = rest.get(..size).ok_or(Wrong::new(CUT, Part::Block, 0, Why::Past))?;
     let signature = u32_at(block, 4);
+    if !is_known(signature) {
+        return Ok(signature);
+    }
     if !fits_signature(size, signature) {
         return Err(Wrong::new(BLOCK, Part::Block, 0, Why::Value));
     }

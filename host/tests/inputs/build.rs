@@ -438,7 +438,7 @@ impl Draft {
         };
         let mut kinds = some_kinds(random, count);
         // A known signature stands once, but now and then it comes again.
-        let pairs = random.chance(20);
+        let pairs = random.chance(40);
         for _ in 0..count {
             let known = kinds.pop();
             self.block(random, known);
