@@ -1,14 +1,14 @@
 -- The slots that are free: what one block more changes.
-use mathlib.Core.Path.{_≡_, refl, sym, ap, _∙_}
+use mathlib.Core.Path.{_≡_, refl, _∙_}
 use mathlib.Core.List.{List, [], _∷_}
-use mathlib.Core.Bool.{Bool, true, false, not, _&&_, _||_, cond}
-use Prim.Native.Nat.{ℕ, zero, suc, _+_, _≤_, _<_}
+use mathlib.Core.Bool.{Bool, true, false, not, _&&_, cond}
+use Prim.Native.Nat.{ℕ, _+_, _<_}
 use native.Mathlib.Omega.{arith}
 use lib.ListN.{length, getD, set, length-set, getD-replicate}
 use lib.Seq.{getD-set-same, getD-set-other}
 use lib.Dec.{ltb, eqb}
 use borrow.Author.Tests.{ltb-true, lt-ltb, eqb-true, eqb-false, eq-eqb, ne-eqb}
-use Rattle.format.specs.Blocks.{known, isAmong, once}
+use Rattle.format.specs.Blocks.{known, once}
 use Rattle.format.specs.Shortcut.{most}
 use Rattle.format.proofs.Bools.{clash}
 use Rattle.blocks.specs.Steps.Walk.{noFirsts, fieldOf, isFree, taken, noted}

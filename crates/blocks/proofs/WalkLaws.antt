@@ -7,7 +7,7 @@ use native.Mathlib.Omega.{arith}
 use native.Mathlib.Nat.{zero-add}
 use lib.ListN.{length, take, drop, length-drop}
 use lib.Seq.{drop-drop, drop-append-le}
-use lib.Dec.{ltb, eqb}
+use lib.Dec.{eqb}
 use borrow.Author.Tests.{lt-ltb, eqb-true, eqb-false}
 use Rattle.octets.specs.Numbers.{u32At}
 use Rattle.octets.proofs.NumberLaws.{number-drop}
@@ -15,7 +15,7 @@ use Rattle.format.specs.declared.Fault.{Fault}
 use Rattle.format.specs.declared.Fault.the-variants.{Cut as CUT, Block as BLOCK, Twice as TWICE}
 use Rattle.format.specs.declared.Spot.{Spot}
 use Rattle.format.specs.Tests.{spotAt, Outcome, got, refused, andThen}
-use Rattle.format.specs.Blocks.{slotOf, insideTests, slotAt, blockSize, aBlock, aTerminal, block, terminal, blockStep, isAmong, once, blocksAfter, blocks}
+use Rattle.format.specs.Blocks.{slotOf, insideTests, slotAt, blockSize, aBlock, aTerminal, block, terminal, blockStep, once, blocksAfter, blocks}
 use Rattle.format.specs.Numbers.{outcomeNumber}
 use Rattle.format.specs.Steps.Firsts.{firsts}
 use Rattle.format.specs.Steps.Answers.{outcomeEnd, takenNumber, takenValue}

@@ -6,8 +6,7 @@ use lib.ListN.{length}
 use Rattle.octets.specs.Numbers.{number, numberAt, little}
 use Rattle.octets.specs.Characters.{units, beforeZero}
 use Rattle.format.specs.declared.Fault.the-variants.{Cut as CUT, Room as ROOM, Twice as TWICE}
-use Rattle.format.specs.declared.Spot.{Spot}
-use Rattle.format.specs.Tests.{got, refused, section, noSection, spotAt}
+use Rattle.format.specs.Tests.{got, refused, section, spotAt}
 use Rattle.format.proofs.AnswerLaws.{nowhere}
 use Rattle.format.specs.Header.{identifierOk, signed}
 use Rattle.format.specs.Items.{itemTests}

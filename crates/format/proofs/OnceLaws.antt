@@ -7,8 +7,8 @@ use Prim.Native.Nat.{ℕ, zero, suc, _+_, _≤_}
 use native.Mathlib.Omega.{arith}
 use lib.ListN.{length, drop, length-drop}
 use lib.Seq.{drop-drop}
-use lib.Dec.{leb, eqb}
-use borrow.Author.Tests.{leb-true, le-leb, eq-eqb, eqb-true}
+use lib.Dec.{eqb}
+use borrow.Author.Tests.{leb-true, eq-eqb, eqb-true}
 use Rattle.octets.specs.Numbers.{u32At}
 use Rattle.octets.proofs.NumberLaws.{number-drop}
 use Rattle.format.specs.declared.Place.{Place}
@@ -16,7 +16,7 @@ use Rattle.format.specs.declared.Record.{Record}
 use Rattle.format.specs.Tests.{got, place}
 use Rattle.format.specs.Blocks.{slotOf, slotAt, blockSize, known, isAmong, once, blocksAfter, blocks, firstPlace}
 use Rattle.format.specs.Shortcut.{Section, Sections, blocksOf, shortcut}
-use Rattle.format.specs.Listing.{Row, row, blockRows, rowsOf, rowsBy, listing}
+use Rattle.format.specs.Listing.{Row, row, blockRows, rowsOf, listing}
 use Rattle.format.specs.Demands.{Accepts}
 use Rattle.format.specs.Probes.{rowAt}
 use Rattle.format.specs.Key.{Key, environment, keyOf, keyBy, keyIn}
@@ -66,7 +66,6 @@ first-one (suc k) s before p lengths n l e x =
     here : (size : ℕ) (ls : List ℕ) → once before (slotOf (u32At s (p + 4))) ≡ true → x ≡ record { name = 8; start = p; len = size } → known (slotOf (signature s x)) ≡ true
         → FirstOne s before p (size ∷ ls) x
     here size ls o q kn =
-        let y : Row = record { name = 8; start = p; len = size } in
         let kn : known (slotOf (u32At s (p + 4))) ≡ true = rw q at kn in
         rw q (record {
           fresh = none-before (known (slotOf (u32At s (p + 4)))) (isAmong (slotOf (u32At s (p + 4))) before) kn o;

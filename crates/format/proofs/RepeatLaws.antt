@@ -1,5 +1,4 @@
 -- Reading refuses with TWICE, or answers as it would without the rule that a known signature stands once.
-use mathlib.Core.Path.{_≡_, refl}
 use mathlib.Core.List.{List, [], _∷_}
 use mathlib.Core.Bool.{Bool, true, false, cond}
 use Prim.Native.Nat.{ℕ, zero, suc, _+_, _-_}
@@ -7,13 +6,13 @@ use lib.ListN.{length, drop}
 use lib.Dec.{leb, eqb}
 use Rattle.format.specs.declared.Fault.the-variants.{Long as LONG, Trail as TRAIL, Twice as TWICE}
 use Rattle.format.specs.declared.Spot.{Spot}
-use Rattle.format.specs.Tests.{_else_at_, section, noSection, spotAt, tests, Outcome, got, refused, Reader, andThen, chain, _then_, noPlace}
+use Rattle.format.specs.Tests.{_else_at_, section, noSection, spotAt, tests, Outcome, got, refused, Reader, andThen, chain, noPlace}
 use Rattle.format.specs.Presence.{itemsThere, infoThere, nameBit, relativeBit, workdirBit, argumentsBit, iconBit}
 use Rattle.format.specs.Header.{header}
 use Rattle.format.specs.Items.{items}
 use Rattle.format.specs.Info.{info, noInfo}
-use Rattle.format.specs.Blocks.{slotAt, blockSize, Standing, aBlock, aTerminal, block, blockStep, once, onceTests, follow, blocksFrom, blocks}
-use Rattle.format.specs.Shortcut.{most, Section, found, sectionIf, stringSection, Sections, tail, sections, shortcut}
+use Rattle.format.specs.Blocks.{slotAt, blockSize, Standing, aBlock, aTerminal, block, blockStep, once, follow, blocksFrom, blocks}
+use Rattle.format.specs.Shortcut.{most, found, sectionIf, stringSection, Sections, tail, sections, shortcut}
 use Rattle.format.specs.Steps.Repeats as repeats
 
 -- the first is a pair's refusal, or both are one
