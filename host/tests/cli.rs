@@ -53,7 +53,7 @@ fn check_names_the_field() {
     flags[23] = 0x18;
     let mut drive = SAMPLE.to_vec();
     drive[267 + 0x1C + 4] = 7;
-    let rows: [(&str, &[u8], &str); 10] = [
+    let rows: [(&str, &[u8], &str); 11] = [
         (
             "7 PIECE at 100",
             &with_info(0x1C, 0x1B),
