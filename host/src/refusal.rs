@@ -161,7 +161,10 @@ mod tests {
         }
         assert_eq!((1..=14).map(|n| Fault::of(n).name()).filter(|name| *name == "OTHER").count(), 0);
         assert_eq!(Fault::of(200), Fault::Other(200));
-        assert_eq!((Fault::Cut.to_string(), Fault::of(200).to_string()), ("2 CUT".to_string(), "200 OTHER".to_string()));
+        assert_eq!(
+            (Fault::Cut.to_string(), Fault::of(200).to_string()),
+            ("2 CUT".to_string(), "200 OTHER".to_string())
+        );
     }
 
     #[test]

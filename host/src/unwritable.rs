@@ -2,10 +2,10 @@
 //!
 //! The proved writer says that no shortcut reads as a record, and not why. So it is asked again, for records that
 //! have one part of the first alone: what is refused alone is at fault.
+use crate::check;
 use crate::record::{Header, Info, InfoUnicode, Label, Local, Network, NetworkUnicode, Record};
 use crate::refusal::Fault;
 use crate::text::StringName;
-use crate::check;
 use std::fmt;
 
 /// A field that makes a record unwritable.

@@ -240,7 +240,11 @@ fn wrong_others(long: &[u8]) -> Vec<Wrong<'_>> {
         ),
         (Record { relative: Some(Text::of(true, b"r\0")), ..none() }, "relative path", "says bytes"),
         (Record { blocks: b"\x04\0\0\0", ..none() }, "blocks", "end to end"),
-        (Record { blocks: b"\x0C\0\0\0\x04\0\0\xA0word\x0C\0\0\0\x04\0\0\xA0word", ..none() }, "blocks", "one known signature"),
+        (
+            Record { blocks: b"\x0C\0\0\0\x04\0\0\xA0word\x0C\0\0\0\x04\0\0\xA0word", ..none() },
+            "blocks",
+            "one known signature",
+        ),
         (Record { name: half.clone(), arguments: half, ..none() }, "length", "65,536"),
     ]
 }
