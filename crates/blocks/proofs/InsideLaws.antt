@@ -6,16 +6,18 @@ use Prim.Native.Nat.{ℕ, zero, suc, _+_, _-_, _*_, _≤_}
 use native.Mathlib.Omega.{arith}
 use lib.ListN.{length, take, drop, length-drop}
 use lib.Dec.{leb, eqb}
-use borrow.Author.Tests.{eqb-true, leb-true}
+use borrow.Author.Tests.{eqb-true, leb-true, ne-eqb}
 use Rattle.format.specs.declared.Fault.{Fault}
 use Rattle.format.specs.declared.Fault.the-variants.{Block as BLOCK}
-use Rattle.format.specs.Tests.{_else_at_}
+use Rattle.format.specs.Tests.{Test, _else_at_}
 use Rattle.format.specs.Items.{itemTests}
+use Rattle.format.specs.Store.{storeTests}
 use Rattle.format.specs.Blocks.{slotOf, sizeFits, pathTests, insideTests}
 use Rattle.format.specs.Pieces.{textEnds}
 use Rattle.format.specs.Steps.Wrong.{wrong}
 use Rattle.format.proofs.Bools.{or-true, clash}
 use Rattle.format.proofs.ItemsLaws.{item-wrong-inside}
+use Rattle.format.proofs.StoreLaws.{store-wrong-inside}
 use Rattle.blocks.specs.Steps.Walk.{hasRule}
 
 -- the first wrong place of a list does not depend on the fault
@@ -41,46 +43,61 @@ module _ (k : ℕ) where
   texts = eqb k 0 || eqb k 5 || eqb k 6
 
   module _ (b : List ℕ) where
+    -- a store's tests, the texts' or the items'
+    abbrev byRule : Bool → Bool → Bool → List Test
+    byRule x y z = cond x (storeTests 8 (drop 8 b)) (cond y (pathTests b) (cond z (itemTests BLOCK 8 0 (drop 8 b)) []))
+
     -- no field stands far behind the block's end
     pub inside-near : wrong (insideTests k b) ≤ length b + 268
     unfolding insideTests slotOf
-    inside-near = go texts (eqb k 10)
+    inside-near = go (eqb k 8) texts (eqb k 10)
       where
         two : (x y : Bool) → cond x (cond y 0 268) 8 ≤ length b + 268
         two true true = omega arith
         two true false = omega arith
         two false y = omega arith
 
-        go : (x y : Bool) → wrong (cond x (pathTests b) (cond y (itemTests BLOCK 8 0 (drop 8 b)) [])) ≤ length b + 268
-        go true y = two (textEnds false (take 260 (drop 8 b))) (textEnds true (take 520 (drop 268 b)))
-        go false true = omega (arith, item-wrong-inside BLOCK 8 0 (drop 8 b), length-drop 8 b)
-        go false false = omega arith
+        go : (x y z : Bool) → wrong (byRule x y z) ≤ length b + 268
+        go true y z = omega (arith, store-wrong-inside 8 (drop 8 b), length-drop 8 b)
+        go false true z = two (textEnds false (take 260 (drop 8 b))) (textEnds true (take 520 (drop 268 b)))
+        go false false true = omega (arith, item-wrong-inside BLOCK 8 0 (drop 8 b), length-drop 8 b)
+        go false false false = omega arith
 
     pub no-rule : hasRule k ≡ false → wrong (insideTests k b) ≡ 0
     unfolding insideTests slotOf
-    no-rule h = go texts (eqb k 10) h
+    no-rule h = go (eqb k 8) texts (eqb k 10) h
       where
-        go : (x y : Bool) → (x || y) ≡ false → wrong (cond x (pathTests b) (cond y (itemTests BLOCK 8 0 (drop 8 b)) [])) ≡ 0
-        go true y h = clash refl h
-        go false true h = clash refl h
-        go false false h = refl
+        go : (x y z : Bool) → (y || x || z) ≡ false → wrong (byRule x y z) ≡ 0
+        go true true z h = clash refl h
+        go true false z h = clash refl h
+        go false true z h = clash refl h
+        go false false true h = clash refl h
+        go false false false h = refl
+
+    pub holds-store : k ≡ 8 → wrong (storeTests 8 (drop 8 b)) ≡ wrong (insideTests k b)
+    unfolding insideTests slotOf
+    holds-store e = rw e
 
     pub holds-items : k ≡ 10 → wrong (itemTests BLOCK 8 0 (drop 8 b)) ≡ wrong (insideTests k b)
     unfolding insideTests slotOf
     holds-items e = rw e
 
+  pub store-room : k ≡ 8 → {n : ℕ} → sizeFits k n ≡ true → 8 ≤ n
+  unfolding sizeFits
+  store-room e {n} f = omega (arith, leb-true 0x0C n (rw e at f))
+
   pub items-room : k ≡ 10 → {n : ℕ} → sizeFits k n ≡ true → 8 ≤ n
   unfolding sizeFits
   items-room e {n} f = omega (arith, leb-true 0x0A n (rw e at f))
 
-  -- a slot with a rule that is not for items
-  module _ (r : hasRule k ≡ true) (other : k ≡ 10 → ⊥) where
+  -- a slot with a rule that is neither for a store nor for items
+  module _ (r : hasRule k ≡ true) (none : k ≡ 8 → ⊥) (other : k ≡ 10 → ⊥) where
     is-texts : texts ≡ true
-    is-texts = or-true texts (eqb k 10) r (λ h. h) (λ h. absurd (other (eqb-true k 10 h)))
+    is-texts = or-true (texts || eqb k 8) (eqb k 10) r (λ h. or-true texts (eqb k 8) h (λ h. h) (λ h. absurd (none (eqb-true k 8 h)))) (λ h. absurd (other (eqb-true k 10 h)))
 
     pub holds-texts : (b : List ℕ) → wrong (pathTests b) ≡ wrong (insideTests k b)
     unfolding insideTests slotOf
-    holds-texts b = rw is-texts
+    holds-texts b = rw (ne-eqb k 8 none, is-texts)
 
     pub texts-room : {n : ℕ} → sizeFits k n ≡ true → 0x314 ≤ n
     unfolding sizeFits

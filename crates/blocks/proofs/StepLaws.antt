@@ -17,7 +17,7 @@ use Rattle.format.specs.Tests.{Outcome, got, refused, _else_at_, spotAt, tests}
 use Rattle.format.specs.Numbers.{outcomeNumber}
 use Rattle.format.specs.Steps.Answers.{outcomeEnd}
 use Rattle.format.specs.Blocks.{SizeRule, signatures, sizeIn, slotOf, sizeFits, insideTests, slotAt, blockRules, blockSize, Standing, aBlock, aTerminal, block, terminal, blockStep}
-use Rattle.format.specs.Steps.Wrong.{wrong}
+use Rattle.format.specs.Steps.Wrong.{wrong, heldFault}
 use Rattle.format.proofs.Bools.{by-order}
 use Rattle.format.proofs.Chains.{no-value}
 use Rattle.format.proofs.WrongLaws.{one-fault}
@@ -148,16 +148,16 @@ module _ (s : List ℕ) where
 
 -- a block by its sizes: what it holds decides
 module _ (s : List ℕ) {n k : ℕ} (z : Sized s n k) where
-  left : {b : ℕ} → b ≡ wrong (insideTests k (take n s)) → (p : ℕ) → blockStep p s ≡ cond (eqb b 0) (got aBlock n) (refused BLOCK (spotAt (block p) b))
+  left : {b : ℕ} → b ≡ wrong (insideTests k (take n s)) → (p : ℕ) → blockStep p s ≡ cond (eqb b 0) (got aBlock n) (refused (heldFault k) (spotAt (block p) b))
   left e p =
       let room : 4 ≤ length s = omega (arith, z .least, z .inside) in
       let ts = insideTests k (take n s) in
-      judged s room (z .size) (z .least) (z .inside) (z .slot) p ∙ rw (z .fits, e) (one-fault BLOCK (block p) ts (got aBlock n) (inside-faults k (take n s)))
+      judged s room (z .size) (z .least) (z .inside) (z .slot) p ∙ rw (z .fits, e) (one-fault (heldFault k) (block p) ts (got aBlock n) (inside-faults k (take n s)))
 
   pub holds-right : {b : ℕ} → b ≡ wrong (insideTests k (take n s)) → b ≡ 0 → (p : ℕ) → blockStep p s ≡ got aBlock n
   holds-right {b} e t p = left e p ∙ rw (eq-eqb b 0 t)
 
-  pub holds-wrong : {b : ℕ} → b ≡ wrong (insideTests k (take n s)) → (b ≡ 0 → ⊥) → (p : ℕ) → blockStep p s ≡ refused BLOCK (spotAt (block p) b)
+  pub holds-wrong : {b : ℕ} → b ≡ wrong (insideTests k (take n s)) → (b ≡ 0 → ⊥) → (p : ℕ) → blockStep p s ≡ refused (heldFault k) (spotAt (block p) b)
   holds-wrong {b} e t p = left e p ∙ rw (ne-eqb b 0 t)
 
 -- a block stays what it is, whatever follows

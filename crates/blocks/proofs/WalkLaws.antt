@@ -12,14 +12,14 @@ use borrow.Author.Tests.{lt-ltb, eqb-true, eqb-false}
 use Rattle.octets.specs.Numbers.{u32At}
 use Rattle.octets.proofs.NumberLaws.{number-drop}
 use Rattle.format.specs.declared.Fault.{Fault}
-use Rattle.format.specs.declared.Fault.the-variants.{Cut as CUT, Block as BLOCK, Twice as TWICE}
+use Rattle.format.specs.declared.Fault.the-variants.{Cut as CUT, Twice as TWICE}
 use Rattle.format.specs.declared.Spot.{Spot}
 use Rattle.format.specs.Tests.{spotAt, Outcome, got, refused, andThen}
 use Rattle.format.specs.Blocks.{slotOf, insideTests, slotAt, blockSize, aBlock, aTerminal, block, terminal, blockStep, once, blocksAfter, blocks}
 use Rattle.format.specs.Numbers.{outcomeNumber}
 use Rattle.format.specs.Steps.Firsts.{firsts}
 use Rattle.format.specs.Steps.Answers.{outcomeEnd, takenNumber, takenValue}
-use Rattle.format.specs.Steps.Wrong.{wrong}
+use Rattle.format.specs.Steps.Wrong.{wrong, heldFault}
 use Rattle.format.specs.Shortcut.{most, sum}
 use Rattle.format.proofs.Bools.{clash}
 use Rattle.format.proofs.BlockLaws.{none-left, blocks-step}
@@ -204,6 +204,6 @@ module _ (s : List ℕ) (a : ℕ) where
             let o = all ∙ ap (after (P .lengths)) (walk-twice (P .before) (drop p s) p h (sym (P .free (slotAt (drop p s))) ∙ none n h)) in
             all-read (rw o)
 
-        go : (b : Bool) → eqb w 0 ≡ b → BlocksAnswer s a (cond b (stoppedAt TWICE (spotAt (block p) 4)) (stoppedAt BLOCK (spotAt (block p) w)))
+        go : (b : Bool) → eqb w 0 ≡ b → BlocksAnswer s a (cond b (stoppedAt TWICE (spotAt (block p) 4)) (stoppedAt (heldFault k) (spotAt (block p) w)))
         go true e = second (eqb-true w 0 e)
         go false e = read-stopped (holds-wrong (drop p s) z refl (eqb-false w 0 e) p)

@@ -13,7 +13,7 @@ ghost use lib.ListN.{length};
 ghost use Rattle.format.specs.Tests.{spotAt};
 ghost use Rattle.format.specs.Blocks.{slotOf, sizeFits, pathTests, insideTests};
 ghost use Rattle.format.specs.Shortcut.{most};
-ghost use Rattle.format.specs.Steps.Wrong.{wrong};
+ghost use Rattle.format.specs.Steps.Wrong.{wrong, heldFault};
 ghost use Rattle.blocks.specs.Steps.Walk.{hasRule, StepAnswer, Stands, noFirsts, fieldOf, isFree, noted, Passed, NoMore, BlocksAnswer, readTo, stepSite, stoppedAt, wrongBlock, blockFrom, nthBlock};
 
 // A block of so many bytes, with the slot of its signature; or the terminal block; or neither.
@@ -82,11 +82,14 @@ fn path_wrong(b: &[u8]) -> usize
     unless(bytes, 8, unless(units, 268, 0))
 }
 
-// The first field found wrong of what a block with a rule holds, or 0: items from byte 8 on, or two texts.
+// The first field found wrong of what a block with a rule holds, or 0: from byte 8 on a store or items, or two texts.
 fn held_wrong(slot: usize, b: &[u8]) -> usize
     requires { ⌜ (hasRule slot ≡ true) × (sizeFits slot (length (now b)) ≡ true) ⌝ }
     ensures { λ r. ⌜ r ≡ wrong (insideTests slot (now (b .entry))) ⌝ }
 {
+    if slot == 8 {
+        return storages::store_wrong(&b[8..], 8);
+    }
     if slot == 10 {
         return items::items_wrong(&b[8..], 8);
     }
@@ -102,9 +105,20 @@ fn inside_wrong(slot: usize, b: &[u8]) -> usize
         0 => held_wrong(0, b),
         5 => held_wrong(5, b),
         6 => held_wrong(6, b),
+        8 => held_wrong(8, b),
         10 => held_wrong(10, b),
         _ => 0,
     }
+}
+
+// Its fault: a store has its own.
+fn held_fault(slot: usize) -> Fault
+    ensures { λ r. ⌜ r ≡ heldFault slot ⌝ }
+{
+    if slot == 8 {
+        return Fault::Store;
+    }
+    Fault::Block
 }
 
 // ---- the step
@@ -143,7 +157,7 @@ fn judged(rest: &[u8]) -> BlockStep
             if inside_wrong(slot, &rest[..n]) == 0 {
                 return BlockStep::Block(n, slot);
             }
-            BlockStep::Refused(Fault::Block)
+            BlockStep::Refused(held_fault(slot))
         }
         BlockStep::Terminal => BlockStep::Terminal,
         BlockStep::Refused(f) => BlockStep::Refused(f),
@@ -241,7 +255,7 @@ fn size_spot(p: usize, left: usize) -> Spot
 fn has_rule(slot: usize) -> bool
     ensures { λ r. ⌜ r ≡ hasRule slot ⌝ }
 {
-    (slot == 0) | (slot == 5) | (slot == 6) | (slot == 10)
+    (slot == 0) | (slot == 5) | (slot == 6) | (slot == 8) | (slot == 10)
 }
 
 // A block whose sizes are right is refused for what it holds, or else as the second of its kind. What most blocks are
@@ -257,7 +271,7 @@ fn wrong_block(slot: usize, b: &[u8], p: usize) -> BlocksRead
     if field == 0 {
         return stopped(Fault::Twice, spot_at(8, p, 4));
     }
-    stopped(Fault::Block, spot_at(8, p, field))
+    stopped(held_fault(slot), spot_at(8, p, field))
 }
 
 pub fn blocks(s: &[u8], c: Cursor) -> BlocksRead

@@ -11,26 +11,33 @@ use lib.Dec.{eqb}
 use borrow.Author.Tests.{leb-true, le-leb, lt-leb, lt-ltb, le-ltb, eqb-true, eq-eqb}
 use Rattle.octets.specs.Numbers.{Bytes, little}
 use Rattle.octets.proofs.NumberLaws.{bytes-take, bytes-append, bytes-little, length-little, number-back, number-same}
-use Rattle.format.specs.declared.Fault.the-variants.{Cut as CUT, Block as BLOCK}
+use Rattle.format.specs.declared.Fault.{Fault}
+use Rattle.format.specs.declared.Fault.the-variants.{Cut as CUT, Block as BLOCK, Store as STORE}
+use Rattle.format.specs.declared.Spot.{Spot}
 use Rattle.format.specs.Tests.{Outcome, got, refused, Test, tests, Reader, andThen, Site, spotAt}
 use Rattle.format.specs.Items.{itemTests}
+use Rattle.format.specs.Store.{storeTests}
 use Rattle.format.specs.Blocks.{Standing, aBlock, slotOf, slotAt, blockSize, pathTests, insideTests, blockTests, block, terminal, blockStep, once, onceTests, follow, blocksFrom, blocksAfter, blocks}
 use Rattle.format.specs.Shortcut.{sum}
+use Rattle.format.specs.Steps.Wrong.{heldFault}
 use Rattle.format.specs.Writing.{blocksBytes, takes, writableBlocks}
 use Rattle.format.proofs.Bools.{by-order}
 use Rattle.format.proofs.WrongLaws.{Faults}
 use Rattle.format.proofs.ItemsLaws.{item-faults}
+use Rattle.format.proofs.StoreLaws.{store-faults}
 use Rattle.format.proofs.Chains.{Pass, pass, passed, got-elim, no-value, no-true, drop-take, Ok, Fits, CutBy, Law}
 
--- all tests of what a block holds give BLOCK, at fields after its size
-pub inside-faults : (slot : ℕ) (b : List ℕ) → Faults BLOCK (insideTests slot b)
-unfolding insideTests
-inside-faults slot b = go (eqb slot (slotOf 0xA0000001) || eqb slot (slotOf 0xA0000006) || eqb slot (slotOf 0xA0000007)) (eqb slot (slotOf 0xA000000C))
+-- all tests of what a block holds give its fault, at fields after its size
+pub inside-faults : (slot : ℕ) (b : List ℕ) → Faults (heldFault slot) (insideTests slot b)
+unfolding insideTests heldFault
+inside-faults slot b =
+    go (eqb slot (slotOf 0xA0000009)) (eqb slot (slotOf 0xA0000001) || eqb slot (slotOf 0xA0000006) || eqb slot (slotOf 0xA0000007)) (eqb slot (slotOf 0xA000000C))
   where
-    go : (x y : Bool) → Faults BLOCK (cond x (pathTests b) (cond y (itemTests BLOCK 8 0 (drop 8 b)) []))
-    go true y = (refl, (omega arith, (refl, (omega arith, tt))))
-    go false true = item-faults BLOCK 8 0 (drop 8 b) (omega arith)
-    go false false = tt
+    go : (x y z : Bool) → Faults (cond x STORE BLOCK) (cond x (storeTests 8 (drop 8 b)) (cond y (pathTests b) (cond z (itemTests BLOCK 8 0 (drop 8 b)) [])))
+    go true y z = store-faults 8 (drop 8 b) (omega arith)
+    go false true z = (refl, (omega arith, (refl, (omega arith, tt))))
+    go false false true = item-faults BLOCK 8 0 (drop 8 b) (omega arith)
+    go false false false = tt
 
 -- ---- one step of the walk; `before` has the slots of the blocks before it
 

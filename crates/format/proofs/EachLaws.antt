@@ -17,6 +17,7 @@ use Rattle.format.specs.Pieces.{Piece, textTests, textPiece, structTests
 use Rattle.format.specs.Volume.{labelUnicode, labelOffset, labelField, labelLeast, volumeRules}
 use Rattle.format.specs.Network.{networkUnicode, hasDevice, networkHead, networkPieces, networkHeadTests, networkRules}
 use Rattle.format.specs.Steps.ItemWalk.{walk}
+use Rattle.format.specs.Steps.Wrong.{wrong}
 use Rattle.format.proofs.Bools.{and-true, and-both, by-order, clash}
 use Rattle.format.proofs.Chains.{Pass}
 use Rattle.format.proofs.Intervals.{apart-before}
@@ -56,6 +57,15 @@ module _ (X : Fault → ℕ → Type 0) where
   each-below n (t ∷ ts) g e =
       let (a, b) = and-true (ltb (t .field) n) (fieldsBelow n ts) e in
       ((λ z. g (t .fault) (t .field) (ltb-true (t .field) n a)), λ z. each-below n ts g b)
+
+  -- the first wrong field is one of those
+  pub each-wrong : (ts : List Test) → Each X ts → (Y : ℕ → Type 0) → Y 0 → ((f : Fault) (i : ℕ) → X f i → Y i) → Y (wrong ts)
+  each-wrong [] h Y none some = none
+  each-wrong (t ∷ ts) h Y none some = go (t .holds) refl (λ e. each-wrong ts (h .1 e) Y none some)
+    where
+      go : (b : Bool) → t .holds ≡ b → (t .holds ≡ true → Y (wrong ts)) → Y (cond b (wrong ts) (t .field))
+      go true e f = f e
+      go false e f = some (t .fault) (t .field) (h .0 e)
 
   -- ---- items: each size stands before the end, but the one after the last item
 

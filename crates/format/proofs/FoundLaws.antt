@@ -16,7 +16,7 @@ use Rattle.format.specs.declared.Info.{Info}
 use Rattle.format.specs.declared.Header.{Header}
 use Rattle.format.specs.declared.Network.{Network}
 use Rattle.format.specs.declared.Fault.the-variants.{Info as INFO}
-use Rattle.format.specs.Tests.{got, place, noPlace, _else_at_, chain, section}
+use Rattle.format.specs.Tests.{got, place, noPlace, _else_at_, Reader, chain, _then_, section}
 use Rattle.format.specs.Header.{header}
 use Rattle.format.specs.Items.{itemsLength, itemsRules, items}
 use Rattle.format.specs.Pieces.{textEnds, textLength, textPiece, textPlace, testsOf}
@@ -26,14 +26,15 @@ use Rattle.format.specs.Info.{infoSize, infoHead, longHead, hasLocal, ha
 use Rattle.format.specs.Presence.{itemsThere, infoThere, nameBit, relativeBit, workdirBit, argumentsBit, iconBit, stringThere, stringsUnicode, providerThere}
 use Rattle.format.specs.Strings.{stringLength, string}
 use Rattle.format.specs.Blocks.{blocks}
-use Rattle.format.specs.Shortcut.{Section, Tail, Sections, blocksOf, found, stringSection, tail, sections, sum, recordOf}
+use Rattle.format.specs.Shortcut.{Section, Tail, Sections, blocksOf, found, sectionIf, stringSection, tail, sections, sum, recordOf}
 use Rattle.format.specs.Bodies.{labelPlace, bodies, allInside}
 use Rattle.format.specs.Contents.{presentNetwork, presentInfo, present}
 use Rattle.format.specs.Listing.{Row, row, blockRows, rowsOf, EndToEnd}
 use Rattle.format.proofs.Bools.{choose-twice}
-use Rattle.format.proofs.Chains.{Pass, pass-split, tests-elim}
+use Rattle.format.proofs.Chains.{Pass, pass-split, tests-elim, chain-elim}
 use Rattle.format.proofs.Holds.{struct-holds, volume-holds, networkPieceTests, network-pieces-hold, infoPieceTests, info-pieces-hold}
 use Rattle.format.proofs.Sized.{sizedTests, sized-holds}
+use Rattle.format.proofs.HeaderLaws.{header-size}
 use Rattle.format.proofs.ItemsLaws.{itemsValue}
 use Rattle.format.proofs.InfoLaws.{infoValue}
 use Rattle.format.proofs.BlockLaws.{blocks-walked}
@@ -119,6 +120,40 @@ module _ (f : List ℕ) where
   read-walk c n e =
       let (z, (items, (info, (name, (relative, (workdir, (arguments, (icon, walk)))))))) = known-always .always 0 c n e in
       walk
+
+-- ---- the blocks begin after the header
+
+-- the section that is read last begins no earlier than the reader does
+record Late {A : Type 0} (P : Reader A) (last : A → ℕ) : Type 0 where
+  late : (p : ℕ) (s : List ℕ) (a : A) (n : ℕ) → P p s ≡ got a n → p ≤ last a
+
+then-late : {A B : Type 0} (P : Reader A) {Q : Reader B} {last : B → ℕ} → Late Q last → Late (P then Q) (λ c. last (c .1))
+then-late P {Q} {last} L = record {
+  late = λ p s c k e.
+      chain-elim P (λ a. Q) p s (λ c k. p ≤ last (c .1)) (λ a n b m i j. omega (arith, L .late (p + n) (drop n s) b m j)) c k e;
+}
+
+blocks-last : Late (found blocks) (λ c. c .start)
+blocks-last = record { late = λ p s c n e. found-elim blocks p s (λ c n. p ≤ c .start) (λ ls n i. omega arith) c n e }
+
+tail-late : (flags : ℕ) → Late (tail flags) (λ c. c .1 .1 .1 .1 .1 .1 .1 .start)
+tail-late flags =
+    then-late (sectionIf (itemsThere flags) noPlace items)
+    (then-late (sectionIf (infoThere flags) noInfo info)
+    (then-late (stringSection flags nameBit)
+    (then-late (stringSection flags relativeBit)
+    (then-late (stringSection flags workdirBit)
+    (then-late (stringSection flags argumentsBit)
+    (then-late (stringSection flags iconBit) blocks-last))))))
+
+pub blocks-late : (s : List ℕ) (c : Sections) (n : ℕ) → sections 0 s ≡ got c n → 76 ≤ blocksOf c .start
+unfolding sections
+blocks-late s c n e =
+    chain-elim (found header) (λ (h : Section Header). tail (h .read .flags)) 0 s (λ c n. 76 ≤ blocksOf c .start)
+    (λ a k b m i j.
+    let z : 76 ≤ k = found-elim header 0 s (λ a k. 76 ≤ k) (λ h k x. omega (arith, header-size 0 s h k x)) a k i in
+    omega (arith, tail-late (a .read .flags) .late (0 + k) (drop k s) b m j))
+    c n e
 
 -- ---- bodies inside
 

@@ -12,13 +12,12 @@ use Rattle.octets.specs.Numbers.{Bytes, number, numberAt, u16At, u32At, u64At, 
 use Rattle.octets.proofs.NumberLaws.{bytes-append, bytes-nil, bytes-little, number-little, number-below}
 use Rattle.format.specs.declared.Header.{Header}
 use Rattle.format.specs.declared.Fault.the-variants.{Cut as CUT}
-use Rattle.format.specs.Tests.{got, refused, tests, Outcome, section, spotAt}
-use Rattle.format.specs.Header.{classIdentifier, headerSizeOk, identifierOk, flagsOk, attributesOk, zerosFrom66, headerRules, signed, headerFields, header}
-use Rattle.format.specs.Hotkey.{hotkeyOk}
+use Rattle.format.specs.Tests.{_else_at_, got, refused, tests, Outcome, section, spotAt}
+use Rattle.format.specs.Header.{classIdentifier, headerSizeOk, identifierOk, zerosFrom66, headerRules, signed, headerFields, header}
 use Rattle.format.specs.Writing.{bits, headerBytes, writableHeader}
 use Rattle.format.proofs.Ranges.{FitsSigned, FitsHeader}
 use Rattle.format.proofs.Bools.{by-order}
-use Rattle.format.proofs.Chains.{Ok, Law, law-same}
+use Rattle.format.proofs.Chains.{Ok, Law, law-same, tests-elim}
 use Rattle.format.proofs.Holds.{header-holds, header-passes, header-writable, writable-header}
 use Rattle.format.proofs.Sized.{SizedBack, Sized, sizedR, sized-law}
 
@@ -170,3 +169,6 @@ header-is p s = go (leb 76 (length s)) (tests (section 0 p) (headerRules (take 7
 
 pub header-law : Law header headerBytes HeaderV
 header-law = law-same header-is (sized-law 0 76 (λ s. 76) (λ n. []) headerRules headerFields header-sized)
+
+pub header-size : (p : ℕ) (s : List ℕ) (h : Header) (n : ℕ) → header p s ≡ got h n → n ≡ 76
+header-size p s h n e = tests-elim (λ h n. n ≡ 76) (section 0 p) (leb 76 (length s) else CUT at 0 ∷ headerRules (take 76 s)) (headerFields (take 76 s)) 76 (λ c. refl) h n e

@@ -36,6 +36,11 @@ pub mod KeyRows
 pub mod Demands
 pub mod PositionDemands
 pub mod PositionRows
+pub mod StoreRows
+pub mod StoreLaws
+pub mod StoreReads
+pub mod StoreWrites
+pub mod StoreDemands
 pub mod KeyDemands
 pub mod KeyRoom
 pub mod KeySame

@@ -5,14 +5,14 @@ use mathlib.Core.Bool.{Bool, true, false, _&&_, _||_, cond}
 use Prim.Native.Nat.{ℕ, zero, suc, _+_, _-_, _≤_, _<_}
 use native.Mathlib.Omega.{arith}
 use lib.ListN.{length, take, drop, length-drop}
-use lib.Seq.{drop-drop, length-take-le}
+use lib.Seq.{drop-drop, take-take, length-take-le}
 use lib.Dec.{leb, eqb}
 use borrow.Author.Tests.{leb-true, ltb-true, eqb-true}
-use Rattle.octets.specs.Numbers.{number, numberAt, u16At, u32At}
+use Rattle.octets.specs.Numbers.{number, numberAt, u16At, u32At, little}
 use Rattle.octets.specs.Characters.{bytesOf}
 use Rattle.octets.proofs.NumberLaws.{part-inside, number-drop}
 use Rattle.format.specs.declared.Fault.{Fault}
-use Rattle.format.specs.declared.Fault.the-variants.{Cut as CUT, Items as ITEMS, Info as INFO, Piece as PIECE, Block as BLOCK, Twice as TWICE}
+use Rattle.format.specs.declared.Fault.the-variants.{Cut as CUT, Items as ITEMS, Info as INFO, Piece as PIECE, Block as BLOCK, Twice as TWICE, Store as STORE}
 use Rattle.format.specs.Tests.{Test, _else_at_, section, spotAt, tests, Outcome, got, refused, Reader, andThen, chain, _then_, place, noPlace}
 use Rattle.format.specs.Presence.{itemsThere, infoThere, nameBit, relativeBit, workdirBit, argumentsBit, iconBit, stringThere, stringsUnicode}
 use Rattle.format.specs.Header.{headerRules, headerFields, header}
@@ -22,28 +22,30 @@ use Rattle.format.specs.Volume.{volumeRules}
 use Rattle.format.specs.Network.{networkUnicode, networkRules}
 use Rattle.format.specs.Info.{infoSize, infoHead, longHead, headOk, hasLocal, infoPieces, infoHeadTests, infoRules, infoFields, noInfo, info}
 use Rattle.format.specs.Strings.{stringLength, string}
+use Rattle.format.specs.Store.{storeTests}
 use Rattle.format.specs.Blocks.{slotOf, slotAt, sizeFits, pathTests, insideTests, blockSize, blockTests, once, blocksAfter, blocks}
 use Rattle.format.specs.Shortcut.{Section, found, sectionIf, stringSection, tail, sections}
-use Rattle.format.specs.Positions.{sizeField, sectionEnd, unended, linkStart, LinkEnds, no-section, no-item-size, no-block-item-size, no-net-name-field, no-device-name-field, InSection}
+use Rattle.format.specs.Positions.{sizeField, sectionEnd, unended, storeUnended, valuesUnended, linkStart, LinkEnds, no-section, no-item-size, no-block-item-size, no-storage-size, no-value-size, no-net-name-field, no-device-name-field, InSection}
 use Rattle.format.specs.Steps.ItemWalk.{walk}
 use Rattle.format.proofs.Bools.{and-true, or-true, by-order}
-use Rattle.format.proofs.Chains.{Pass, drop-take}
+use Rattle.format.proofs.Chains.{Pass, pass-all, drop-take}
 use Rattle.format.proofs.Holds.{info-head-holds}
 use Rattle.format.proofs.ItemsLaws.{tests-walk}
+use Rattle.format.proofs.StoreLaws.{store-anywhere, LastUnended, each-store}
 use Rattle.format.proofs.BlockLaws.{none-left, the-end, later, one-more}
 use Rattle.format.proofs.EachLaws.{unless-false, Each, each-append, each-below, each-items, PiecesIn, each-piece, each-text, each-struct, each-volume, each-network}
 
 -- ---- numbers and parts
 
-number-first : (w p : ℕ) (s : List ℕ) → numberAt w (drop p s) 0 ≡ numberAt w s p
+pub number-first : (w p : ℕ) (s : List ℕ) → numberAt w (drop p s) 0 ≡ numberAt w s p
 number-first w p s = let e : p + 0 ≡ p = omega arith in number-drop w p s 0 ∙ ap (numberAt w s) e
 
 -- a number inside the n bytes from p on
-number-part : (w n p : ℕ) (s : List ℕ) (i : ℕ) → i + w ≤ n → numberAt w (take n (drop p s)) i ≡ numberAt w s (p + i)
+pub number-part : (w n p : ℕ) (s : List ℕ) (i : ℕ) → i + w ≤ n → numberAt w (take n (drop p s)) i ≡ numberAt w s (p + i)
 unfolding numberAt
 number-part w n p s i h = ap number (part-inside i w n (drop p s) h ∙ ap (take w) (drop-drop i p s))
 
-part-drop : (i n p : ℕ) (s : List ℕ) → i ≤ n → drop i (take n (drop p s)) ≡ take (n - i) (drop (p + i) s)
+pub part-drop : (i n p : ℕ) (s : List ℕ) → i ≤ n → drop i (take n (drop p s)) ≡ take (n - i) (drop (p + i) s)
 part-drop i n p s h =
     let e : i + (n - i) ≡ n = omega arith in
     rw e at (drop-take i (n - i) (drop p s)) ∙ ap (take (n - i)) (drop-drop i p s)
@@ -288,10 +290,46 @@ module _ (s : List ℕ) where
 
   -- n bytes from p on, and what they hold
   module _ (p n : ℕ) (least : 8 ≤ n) (fits : n ≤ length (drop p s)) (ending : sectionEnd s 8 p ≡ p + n) where
+    -- the store's bytes
+    abbrev store : List ℕ
+    store = drop 8 (take n (drop p s))
+
+    store-from : (j : ℕ) → 8 + j ≤ n → drop j store ≡ take (n - (8 + j)) (drop (p + (8 + j)) s)
+    store-from j h = drop-drop j 8 (take n (drop p s)) ∙ part-drop (8 + j) n p s h
+
+    store-long : length store ≡ n - 8
+    store-long = length-drop 8 (take n (drop p s)) ∙ ap (λ (x : ℕ). x - 8) (length-take-le n (drop p s) fits)
+
+    store-ends : Pass (storeTests 8 (store ++ little 4 0)) → storeUnended s (p + 8) (p + (8 + length store)) ≡ true
+    unfolding storeUnended
+    store-ends h =
+        let m : p + (8 + length store) - (p + 8) ≡ n - 8 = omega (arith, store-long) in
+        rw (m, ← (part-drop 8 n p s least)) (store-anywhere 0 8 (store ++ little 4 0) ∙ pass-all (storeTests 8 (store ++ little 4 0)) h)
+
+    values-end : (a : ℕ) → LastUnended store a → (p + (8 + a) + u32At s (p + (8 + a)) ≡ p + (8 + length store)) × (valuesUnended s (p + (8 + a)) (p + (8 + length store)) ≡ true)
+    unfolding valuesUnended
+    values-end a (low, (ends, h)) =
+        let e : u32At store a ≡ u32At s (p + (8 + a)) = number-drop 4 8 (take n (drop p s)) a ∙ number-part 4 n p s (8 + a) (omega (arith, store-long)) in
+        let m : p + (8 + length store) - (p + (8 + a) + 24) ≡ n - (8 + (a + 24)) = omega (arith, store-long) in
+        let i : p + (8 + a) + 24 ≡ p + (8 + (a + 24)) = omega arith in
+        let j : p + (8 + a) + 8 ≡ p + (8 + (a + 8)) = omega arith in
+        let v : take (n - (8 + (a + 24))) (drop (p + (8 + (a + 24))) s) ≡ drop (a + 24) store = sym (store-from (a + 24) (omega (arith, store-long))) in
+        let w : take 16 (drop (a + 8) store) ≡ take 16 (drop (p + (8 + (a + 8))) s)
+        = ap (take 16) (store-from (a + 8) (omega (arith, store-long))) ∙ take-take 16 (n - (8 + (a + 8))) (drop (p + (8 + (a + 8))) s) (omega (arith, store-long)) in
+        (omega arith, rw (m, i, j, v, ← w) h)
+
+    store-in : slotOf (u32At s (p + 4)) ≡ slotOf 0xA0000009 → Each (Stands 8 p) (storeTests 8 store)
+    store-in kind =
+        each-store (Stands 8 p) 8 store (λ j q. strict 8 p STORE j (omega (arith, store-long)))
+        (λ h. record { early = omega arith; late = omega (arith, store-long); end = λ x. no-storage-size kind (store-ends h) })
+        (λ a h.
+        let (size, unended) = values-end a h in
+        record { early = omega arith; late = omega (arith, store-long); end = λ x. no-value-size (p + (8 + a)) kind size unended })
+
     inside-in : (slot : ℕ) → slot ≡ slotAt (take n (drop p s)) → sizeFits slot (length (take n (drop p s))) ≡ true → Each (Stands 8 p) (insideTests slot (take n (drop p s)))
     unfolding insideTests
     inside-in slot is f =
-        go (eqb slot (slotOf 0xA0000001) || eqb slot (slotOf 0xA0000006) || eqb slot (slotOf 0xA0000007)) refl (eqb slot (slotOf 0xA000000C)) refl
+        go (eqb slot (slotOf 0xA0000009)) refl (eqb slot (slotOf 0xA0000001) || eqb slot (slotOf 0xA0000006) || eqb slot (slotOf 0xA0000007)) refl (eqb slot (slotOf 0xA000000C)) refl
       where
         size : length (take n (drop p s)) ≡ n
         size = length-take-le n (drop p s) fits
@@ -299,23 +337,25 @@ module _ (s : List ℕ) where
         rest : length (drop 8 (take n (drop p s))) ≡ n - 8
         rest = length-drop 8 (take n (drop p s)) ∙ ap (λ (x : ℕ). x - 8) size
 
-        signature : eqb slot (slotOf 0xA000000C) ≡ true → slotOf (u32At s (p + 4)) ≡ slotOf 0xA000000C
-        signature e = sym (ap slotOf (number-part 4 n p s 4 (omega arith))) ∙ sym is ∙ eqb-true slot (slotOf 0xA000000C) e
+        signature : (x : ℕ) → eqb slot (slotOf x) ≡ true → slotOf (u32At s (p + 4)) ≡ slotOf x
+        signature x e = sym (ap slotOf (number-part 4 n p s 4 (omega arith))) ∙ sym is ∙ eqb-true slot (slotOf x) e
 
-        go : (x : Bool) → (eqb slot (slotOf 0xA0000001) || eqb slot (slotOf 0xA0000006) || eqb slot (slotOf 0xA0000007)) ≡ x → (y : Bool) → eqb slot (slotOf 0xA000000C) ≡ y
-            → Each (Stands 8 p) (cond x (pathTests (take n (drop p s))) (cond y (itemTests BLOCK 8 0 (drop 8 (take n (drop p s)))) []))
-        go true e y d =
+        go : (z : Bool) → eqb slot (slotOf 0xA0000009) ≡ z
+            → (x : Bool) → (eqb slot (slotOf 0xA0000001) || eqb slot (slotOf 0xA0000006) || eqb slot (slotOf 0xA0000007)) ≡ x → (y : Bool) → eqb slot (slotOf 0xA000000C) ≡ y
+            → Each (Stands 8 p) (cond z (storeTests 8 (drop 8 (take n (drop p s)))) (cond x (pathTests (take n (drop p s))) (cond y (itemTests BLOCK 8 0 (drop 8 (take n (drop p s)))) [])))
+        go true d x e y g = store-in (signature 0xA0000009 d)
+        go false z true e y d =
             let m : length (take n (drop p s)) ≡ 0x314 = path-size slot (length (take n (drop p s))) f e in
             each-below (Stands 8 p) 0x314 (pathTests (take n (drop p s))) (λ f i q. strict 8 p f i (omega (arith, size))) refl
-        go false e true d =
+        go false z false e true d =
             each-items (Stands 8 p) BLOCK 8 0 (drop 8 (take n (drop p s))) (omega arith)
             (λ j q. strict 8 p BLOCK j (omega (arith, rest)))
             (λ j q w. record {
               early = omega arith;
               late = omega (arith, rest);
-              end = λ x. no-block-item-size (signature d) (fills p n 8 j (omega arith) (omega (arith, rest)) w);
+              end = λ x. no-block-item-size (signature 0xA000000C d) (fills p n 8 j (omega arith) (omega (arith, rest)) w);
             })
-        go false e false d = tt
+        go false z false e false d = tt
 
   block-in : (p : ℕ) → p ≤ length s → 4 ≤ length (drop p s) → 4 ≤ blockSize (drop p s) → Each (Stands 8 p) (blockTests (drop p s))
   block-in p k h t =

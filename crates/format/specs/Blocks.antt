@@ -9,6 +9,7 @@ use Rattle.format.specs.declared.Place.{Place}
 use Rattle.format.specs.declared.Fault.the-variants.{Cut as CUT, Block as BLOCK, Twice as TWICE}
 use Rattle.format.specs.Tests.{Test, _else_at_, Site, section, spotAt, tests, Outcome, got, refused, Reader, andThen, place, noPlace}
 use Rattle.format.specs.Items.{itemTests}
+use Rattle.format.specs.Store.{storeTests}
 use Rattle.format.specs.Pieces.{textEnds}
 
 -- ---- the table of signatures
@@ -62,13 +63,14 @@ sizeFits slot n = sizeIn signatures slot n
 abbrev pub pathTests : List ℕ → List Test
 pathTests b = textEnds false (take 260 (drop 8 b)) else BLOCK at 8 ∷ textEnds true (take 520 (drop 268 b)) else BLOCK at 268 ∷ []
 
--- what a block b holds: the three path blocks (A0000001, A0000006, A0000007) their texts, A000000C items from byte 8 to its end
+-- what a block b holds: A0000009 a store from byte 8 to its end, the three path blocks (A0000001, A0000006, A0000007) their texts, A000000C items from byte 8 to its end
 unfoldable pub insideTests : ℕ → List ℕ → List Test
-unfolding slotOf
+unfolding slotOf storeTests
 insideTests slot b =
-    cond (eqb slot (slotOf 0xA0000001) || eqb slot (slotOf 0xA0000006) || eqb slot (slotOf 0xA0000007)) (pathTests b)
+    cond (eqb slot (slotOf 0xA0000009)) (storeTests 8 (drop 8 b))
+    (cond (eqb slot (slotOf 0xA0000001) || eqb slot (slotOf 0xA0000006) || eqb slot (slotOf 0xA0000007)) (pathTests b)
     (cond (eqb slot (slotOf 0xA000000C)) (itemTests BLOCK 8 0 (drop 8 b))
-    [])
+    []))
 
 abbrev pub slotAt : List ℕ → ℕ
 slotAt b = slotOf (u32At b 4)

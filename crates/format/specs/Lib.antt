@@ -9,6 +9,7 @@ pub mod Volume
 pub mod Network
 pub mod Info
 pub mod Strings
+pub mod Store
 pub mod Blocks
 pub mod Shortcut
 pub mod Positions
@@ -18,6 +19,8 @@ pub mod Writing
 pub mod Target
 pub mod Key
 pub mod Listing
+pub mod StoreList
+pub mod StoreWriting
 pub mod Demands
 pub mod Probes
 pub mod Steps

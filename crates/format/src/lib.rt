@@ -76,6 +76,14 @@ pub struct Record {
     pub blocks: Place,
 }
 
+// A row of a store's list: a storage (kind 0), or a value named by number (1) or by string (2).
+pub struct StoreRow {
+    pub kind: u64,
+    pub number: u64,
+    pub name: Place,
+    pub raw: Place,
+}
+
 // Why a call refuses: the names of the table of numbers.
 pub enum Fault {
     Long,
@@ -92,6 +100,7 @@ pub enum Fault {
     Room,
     NoTarget,
     Twice,
+    Store,
 }
 
 // Accepted with the length, or refused with the fault and its position.
@@ -200,6 +209,7 @@ pub fn number_of(f: Fault) -> u8
         Fault::Room => 12,
         Fault::NoTarget => 13,
         Fault::Twice => 14,
+        Fault::Store => 15,
     }
 }
 

@@ -1,16 +1,16 @@
 -- The header's rules in the numbers that the code compares, and one law for each way out.
 use mathlib.Core.Path.{_≡_, refl, sym, ap, _∙_}
-use mathlib.Core.List.{List, [], _∷_}
+use mathlib.Core.List.{List}
 use mathlib.Core.Bool.{Bool, true, false, not, _&&_, cond}
-use Prim.Native.Nat.{ℕ, _+_, _*_, _/_, _%_, _≤_, _<_}
+use Prim.Native.Nat.{ℕ, _+_, _*_, _≤_, _<_}
 use native.Mathlib.Omega.{arith}
-use native.Mathlib.Nat.{zero-add, mod-eq-of-lt, div-eq-of-lt, add-mul-div-left, add-mul-mod-self-left, zero-lt-suc}
+use native.Mathlib.Nat.{zero-lt-suc}
 use lib.ListN.{length, take}
 use lib.Dec.{eqb}
 use lib.IntN.{ℤ}
 use borrow.Author.Tests.{eqb-true, eq-eqb, ne-eqb, lt-leb, le-leb, not-true, not-false}
 use Rattle.octets.specs.Numbers.{number, numberAt, u16At, u32At, u64At}
-use Rattle.octets.proofs.NumberLaws.{number-split}
+use Rattle.octets.proofs.NumberLaws.{number-split, digits}
 use Rattle.format.specs.declared.Header.{Header}
 use Rattle.format.specs.declared.Fault.the-variants.{Cut as CUT, Magic as MAGIC, Head as HEAD}
 use Rattle.format.specs.declared.Spot.{Spot}
@@ -20,7 +20,7 @@ use Rattle.format.specs.Steps.Answers.{outcomeEnd}
 use Rattle.format.specs.Steps.Wrong.{wrong}
 use Rattle.format.specs.Header.{classIdentifier, headerSizeOk, identifierOk, flagsOk, attributesOk, zerosFrom66, headTests, signed, headerFields, header}
 use Rattle.format.specs.Hotkey.{hotkeyOk}
-use Rattle.format.proofs.Bools.{and-true, and-both, same-truth, joined-every}
+use Rattle.format.proofs.Bools.{and-true, and-both, same-truth}
 use Rattle.format.proofs.WrongLaws.{one-fault}
 use Rattle.header.specs.declared.HeaderTaken.{HeaderTaken}
 use Rattle.header.specs.declared.HeaderTaken.the-variants.{Got, Refused}
@@ -33,13 +33,6 @@ sixteen l h =
     let b = number-split 4 8 l 8 (omega arith) in
     let c = number-split 4 4 l 12 (omega arith) in
     a ∙ ap (λ (n : ℕ). u32At l 4 + 4294967296 * n) (b ∙ ap (λ (n : ℕ). u32At l 8 + 4294967296 * n) c)
-
--- the lowest digit of a number to the base k, and the rest
-digits : (k x y n : ℕ) → x < k → 0 < k → x + k * y ≡ n → (x ≡ n % k) × (y ≡ n / k)
-digits k x y n h z e =
-    let p : (x + k * y) % k ≡ x = add-mul-mod-self-left x k y ∙ mod-eq-of-lt h in
-    let q : (x + k * y) / k ≡ y = add-mul-div-left x y z ∙ ap (λ (m : ℕ). m + y) (div-eq-of-lt h) ∙ zero-add y in
-    (sym p ∙ ap (λ (m : ℕ). m % k) e, sym q ∙ ap (λ (m : ℕ). m / k) e)
 
 identifier-is : (a b c d : ℕ) → a < 4294967296 → b < 4294967296 → c < 4294967296 → d < 4294967296
     → (eqb a 0x00021401 && eqb b 0 && eqb c 0xC0 && eqb d 0x46000000) ≡ eqb (a + 4294967296 * (b + 4294967296 * (c + 4294967296 * d))) (number classIdentifier)

@@ -120,3 +120,10 @@ unfolding numberAt
 number-split a b s i h =
     let k : length (take a (drop i s)) ≡ a = length-take a (drop i s) ∙ omega (arith, length-drop i s) in
     ap number (take-add a b (drop i s)) ∙ number-append (take a (drop i s)) (take b (drop a (drop i s))) ∙ rw (k, drop-drop a i s)
+
+-- the lowest digit of a number to the base k, and the rest
+pub digits : (k x y n : ℕ) → x < k → 0 < k → x + k * y ≡ n → (x ≡ n % k) × (y ≡ n / k)
+digits k x y n h z e =
+    let p : (x + k * y) % k ≡ x = add-mul-mod-self-left x k y ∙ mod-eq-of-lt h in
+    let q : (x + k * y) / k ≡ y = add-mul-div-left x y z ∙ ap (λ (m : ℕ). m + y) (div-eq-of-lt h) ∙ zero-add y in
+    (sym p ∙ ap (λ (m : ℕ). m % k) e, sym q ∙ ap (λ (m : ℕ). m / k) e)

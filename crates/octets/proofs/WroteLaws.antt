@@ -10,7 +10,7 @@ use Rattle.octets.specs.Steps.Puts.{Wrote}
 use Rattle.octets.proofs.NumberLaws.{length-little}
 use Rattle.octets.proofs.PartLaws.{put-put, length-put, put-one}
 
-put-nil : (d : List ℕ) (at : ℕ) → d ≡ put d at []
+pub put-nil : (d : List ℕ) (at : ℕ) → d ≡ put d at []
 unfolding put
 put-nil d at = let e : at + 0 ≡ at = omega arith in rw e (sym (take-append-drop at d))
 

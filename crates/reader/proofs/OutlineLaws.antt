@@ -4,13 +4,13 @@ use mathlib.Core.List.{List, [], _∷_}
 use mathlib.Core.Bool.{Bool, true, false, cond}
 use Prim.Native.Nat.{ℕ, _+_, _≤_, _<_, _-_}
 use native.Mathlib.Omega.{arith}
-use lib.ListN.{length, take, drop}
+use lib.ListN.{length, drop}
 use lib.Dec.{leb, eqb}
 use borrow.Author.Tests.{le-leb, lt-leb, leb-true, leb-false, eq-eqb, ne-eqb}
 use Rattle.octets.specs.declared.Cursor.{Cursor}
 use Rattle.format.specs.declared.Fault.{Fault}
 use Rattle.format.specs.declared.Spot.{Spot}
-use Rattle.format.specs.declared.Fault.the-variants.{Long as LONG, Cut as CUT, Trail as TRAIL}
+use Rattle.format.specs.declared.Fault.the-variants.{Long as LONG, Trail as TRAIL}
 use Rattle.format.specs.declared.Header.{Header}
 use Rattle.format.specs.declared.Record.{Record}
 use Rattle.format.specs.declared.Faulted.{Faulted}
@@ -19,14 +19,15 @@ use Rattle.format.specs.declared.Place.{Place}
 use Rattle.format.specs.declared.Info.{Info}
 use Rattle.format.specs.declared.Verdict.{Verdict}
 use Rattle.format.specs.declared.Verdict.the-variants.{Accepted, Refused as Stopped}
-use Rattle.format.specs.Tests.{section, noSection, spotAt, Outcome, got, refused, Test, _else_at_, tests, andThen, place}
+use Rattle.format.specs.Tests.{section, noSection, spotAt, Outcome, got, refused, _else_at_, tests, andThen, place}
 use Rattle.format.specs.Presence.{itemsThere, infoThere, nameBit, relativeBit, workdirBit, argumentsBit, iconBit, stringThere, stringsUnicode}
-use Rattle.format.specs.Header.{headerRules, headerFields, header}
+use Rattle.format.specs.Header.{header}
 use Rattle.format.specs.Numbers.{answerNumber, answerValue, outcomeNumber, Numbered}
 use Rattle.format.specs.Steps.Firsts.{firsts}
 use Rattle.format.specs.Steps.Answers.{outcomeEnd}
 use Rattle.format.specs.Shortcut.{Section, found, faultedBy, faulted, Tail, Sections, most, tail, sections, shortcut, recordOf, reading, sum}
-use Rattle.format.proofs.Chains.{tests-elim, got-elim, chain-elim}
+use Rattle.format.proofs.HeaderLaws.{header-size}
+use Rattle.format.proofs.Chains.{got-elim, chain-elim}
 use Rattle.format.proofs.PlaceLaws.{found-elim}
 use Rattle.format.proofs.AnswerLaws.{numbered}
 use Rattle.header.specs.Steps.Taken.{headerTaken, headerAt}
@@ -46,13 +47,6 @@ use Rattle.reader.proofs.StepLaws.{items-from, string-from, info-from, 
 
 -- ---- the header
 
-header-tests : List ℕ → List Test
-header-tests s = leb 76 (length s) else CUT at 0 ∷ headerRules (take 76 s)
-
-header-size : (s : List ℕ) (g : Header) (n : ℕ) → header 0 s ≡ got g n → n ≡ 76
-unfolding header-tests
-header-size s g n e = tests-elim (λ g n. n ≡ 76) (section 0 0) (header-tests s) (headerFields (take 76 s)) 76 (λ c. refl) g n e
-
 pub record HeaderRead (s : List ℕ) (h : Header) (c : Cursor) : Type 0 where
   pub is : header 0 s ≡ got h 76
   pub cursor : c ≡ record { at = 76 }
@@ -65,7 +59,7 @@ header-got s {r} {h} {c} e k = go (header 0 s) refl (sym k ∙ e)
     go (got g n) i q =
         let a : h ≡ g = cc in
         let b : c ≡ record { at = n } = cc in
-        let m : n ≡ 76 = header-size s g n i in
+        let m : n ≡ 76 = header-size 0 s g n i in
         record { is = i ∙ rw (a, m); cursor = b ∙ rw m }
     go (refused f p) i q = absurd (let z : _≡_ {A = ℕ} 0 1 = cc in omega arith)
 
@@ -457,7 +451,7 @@ long-enough : (s : List ℕ) (c : Sections) (n : ℕ) → sections 0 s ≡ got c
 unfolding sections
 long-enough s c n e =
     chain-elim (found header) (λ (h : Section Header). tail (h .read .flags)) 0 s (λ c n. 76 ≤ n)
-    (λ a k b m i j. let z : 76 ≤ k = found-elim header 0 s (λ a k. 76 ≤ k) (λ h k x. omega (arith, header-size s h k x)) a k i in omega arith)
+    (λ a k b m i j. let z : 76 ≤ k = found-elim header 0 s (λ a k. 76 ≤ k) (λ h k x. omega (arith, header-size 0 s h k x)) a k i in omega arith)
     c n e
 
 module _ (s : List ℕ) {o : Outline} (O : OutlineAnswer s o) where

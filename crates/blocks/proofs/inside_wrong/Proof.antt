@@ -17,6 +17,9 @@ held-wrong-requires-3 c κs = (refl, rw (c .match .keys3) at (c .before .before 
 held-wrong-requires-4 : tie.Need-held-wrong-requires-4
 held-wrong-requires-4 c κs = (refl, rw (c .match .keys4) at (c .before .before .pre))
 
+held-wrong-requires-5 : tie.Need-held-wrong-requires-5
+held-wrong-requires-5 c κs = (refl, rw (c .match .keys5) at (c .before .before .pre))
+
 returns : tie.Need-returns
 returns c = rw (c .before .match .keys1) (c .held-wrong .ensures)
 
@@ -30,8 +33,11 @@ returns-4 : tie.Need-returns-4
 returns-4 c = rw (c .before .match .keys4) (c .held-wrong4 .ensures)
 
 returns-5 : tie.Need-returns-5
+returns-5 c = rw (c .before .match .keys5) (c .held-wrong5 .ensures)
+
+returns-6 : tie.Need-returns-6
 unfolding insideTests
-returns-5 c = let r = c .match .rest in rw (ne-eqb _ _ (r .0 .0 .0 .1), ne-eqb _ _ (r .0 .0 .1), ne-eqb _ _ (r .0 .1), ne-eqb _ _ (r .1))
+returns-6 c = let r = c .match .rest in rw (ne-eqb _ _ (r .0 .0 .0 .0 .1), ne-eqb _ _ (r .0 .0 .0 .1), ne-eqb _ _ (r .0 .0 .1), ne-eqb _ _ (r .0 .1), ne-eqb _ _ (r .1))
 
 pub inside-wrong-spec : {M : Type 1} → statement M
 inside-wrong-spec =
@@ -41,8 +47,10 @@ inside-wrong-spec =
     held-wrong-requires-2
     held-wrong-requires-3
     held-wrong-requires-4
+    held-wrong-requires-5
     returns
     returns-2
     returns-3
     returns-4
-    returns-5)
+    returns-5
+    returns-6)

@@ -25,6 +25,9 @@ returns c =
     let after-step = after-n .before .before in
     let z = by-block _ (after-step .step .ensures) (after-n .n .given .1) in (z, holds-right _ z (after-inside-wrong .inside-wrong .ensures) (c .if1 .taken))
 
+held-fault-requires : tie.Need-held-fault-requires
+held-fault-requires c κs = search needs
+
 enum-told : tie.Need-enum-told
 enum-told c = search needs
 
@@ -33,10 +36,11 @@ enum-known-f c = search needs
 
 returns-2 : tie.Need-returns-2
 returns-2 c =
-    let after-inside-wrong = c .before in
+    let after-inside-wrong = c .before .before in
     let after-n = after-inside-wrong .before .before .before in
     let after-step = after-n .before .before in
-    let z = by-block _ (after-step .step .ensures) (after-n .n .given .1) in λ p. (_, holds-wrong _ z (after-inside-wrong .inside-wrong .ensures) (c .if1 .left) p)
+    let z = by-block _ (after-step .step .ensures) (after-n .n .given .1) in
+    rw (c .held-fault .ensures) (λ p. (_, holds-wrong _ z (after-inside-wrong .inside-wrong .ensures) (c .before .if1 .left) p))
 
 returns-3 : tie.Need-returns-3
 returns-3 c = by-end _ (c .before .before .step .ensures) (c .enum-told .given .1)
@@ -53,6 +57,7 @@ judged-spec =
     slice-aggregate-inside-wrong
     inside-wrong-requires
     returns
+    held-fault-requires
     enum-told
     enum-known-f
     returns-2

@@ -40,11 +40,15 @@ returns-2 c =
     let after-if = c .before .before in
     rw (c .stopped2 .ensures, c .before .spot-at2 .ensures, ← (after-if .before .held-wrong .ensures), eq-eqb _ 0 (after-if .if2 .taken))
 
+held-fault-requires : tie.Need-held-fault-requires
+held-fault-requires c κs = search needs
+
 spot-at-requires-3 : tie.Need-spot-at-requires-3
 spot-at-requires-3 c κs =
-    let after-has-rule = c .before .before .before in
+    let after-held = c .before .before in
+    let after-has-rule = after-held .before .before in
     let start = after-has-rule .before .before in
-    omega (arith, c .before .held-wrong .ensures, inside-near (start .args .slot) (start .args .b .now))
+    omega (arith, after-held .held-wrong .ensures, inside-near (start .args .slot) (start .args .b .now))
 
 stopped-requires-3 : tie.Need-stopped-requires-3
 stopped-requires-3 c κs = search needs
@@ -52,8 +56,9 @@ stopped-requires-3 c κs = search needs
 returns-3 : tie.Need-returns-3
 unfolding wrongBlock
 returns-3 c =
-    let after-if = c .before .before in
-    rw (c .stopped3 .ensures, c .before .spot-at3 .ensures, ← (after-if .before .held-wrong .ensures), ne-eqb _ 0 (after-if .if2 .left))
+    let after-fault = c .before .before in
+    let after-if = after-fault .before in
+    rw (c .stopped3 .ensures, c .before .spot-at3 .ensures, after-fault .held-fault .ensures, ← (after-if .before .held-wrong .ensures), ne-eqb _ 0 (after-if .if2 .left))
 
 pub wrong-block-spec : {M : Type 1} → statement M
 wrong-block-spec =
@@ -67,6 +72,7 @@ wrong-block-spec =
     spot-at-requires-2
     stopped-requires-2
     returns-2
+    held-fault-requires
     spot-at-requires-3
     stopped-requires-3
     returns-3)

@@ -14,7 +14,7 @@ use Rattle.format.specs.Tests.{_else_at_, Site, spotAt, tests, Outcome, got, re
 use Rattle.format.specs.Blocks.{slotOf, sizeFits, insideTests, slotAt, blockSize, Standing, aBlock, aTerminal, block, terminal, blockStep, once, blocksAfter, blocks}
 use Rattle.format.specs.Numbers.{numberOf}
 use Rattle.format.specs.Steps.Firsts.{firsts}
-use Rattle.format.specs.Steps.Wrong.{wrong}
+use Rattle.format.specs.Steps.Wrong.{wrong, heldFault}
 use Rattle.format.specs.Steps.Answers.{Answers, takenNumber, takenValue}
 use Rattle.format.specs.Shortcut.{most, sum}
 use Rattle.blocks.specs.declared.BlockStep.{BlockStep}
@@ -23,9 +23,9 @@ use Rattle.format.specs.declared.Taken.{Taken}
 use Rattle.format.specs.declared.Taken.the-variants.{Got, Refused}
 use Rattle.blocks.specs.declared.BlocksRead.{BlocksRead}
 
--- the slots of blocks that have a rule for what they hold: two texts, or items
+-- the slots of blocks that have a rule for what they hold: two texts, a store, or items
 abbrev pub hasRule : ℕ → Bool
-hasRule slot = eqb slot 0 || eqb slot 5 || eqb slot 6 || eqb slot 10
+hasRule slot = eqb slot 0 || eqb slot 5 || eqb slot 6 || eqb slot 8 || eqb slot 10
 
 -- ---- the step, at the start of s
 
@@ -163,7 +163,7 @@ stoppedAt f q = record { taken = Refused f q; firsts = noFirsts }
 unfoldable pub wrongBlock : ℕ → List ℕ → ℕ → BlocksRead
 wrongBlock slot b p =
     let field = wrong (insideTests slot b) in
-    cond (eqb field 0) (stoppedAt TWICE (spotAt (block p) 4)) (stoppedAt BLOCK (spotAt (block p) field))
+    cond (eqb field 0) (stoppedAt TWICE (spotAt (block p) 4)) (stoppedAt (heldFault slot) (spotAt (block p) field))
 
 -- ---- one of the blocks
 
