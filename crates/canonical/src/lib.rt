@@ -1,7 +1,7 @@
 // Puts the canonical bytes of a record into a lent buffer (FORMAT: Canonical form). A function that puts answers the place after what it put.
 mod info;
-mod numbers;
-mod texts;
+pub mod numbers;
+pub mod texts;
 
 use crate::info::put_info_if;
 use crate::numbers::add_u16;

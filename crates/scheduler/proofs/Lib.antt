@@ -1,5 +1,6 @@
 pub mod PositionLaws
 pub mod CodeLaws
 pub mod FieldLaws
+pub mod StoreLaws
 pub mod OneOutcome
 pub mod SpotLaws

@@ -9,6 +9,8 @@ use Rattle.scheduler.proofs.herringnet_section as herringnet-section
 use Rattle.scheduler.proofs.herringnet_read as herringnet-read
 use Rattle.scheduler.proofs.herringnet_write as herringnet-write
 use Rattle.scheduler.proofs.herringnet_fault as herringnet-fault
+use Rattle.scheduler.proofs.herringnet_store_list as herringnet-store-list
+use Rattle.scheduler.proofs.herringnet_store_write as herringnet-store-write
 
 pub herringnet-check-one-outcome : OneAnswer herringnet-check.ended herringnet-check.Reads.Post
 herringnet-check-one-outcome κs a r q s t p o = p ∙ sym o
@@ -30,3 +32,9 @@ herringnet-write-one-outcome κs a r q s t p o = (p .0 ∙ sym (o .0), p .1 .0 �
 
 pub herringnet-fault-one-outcome : OneAnswer herringnet-fault.ended herringnet-fault.Reads.Post
 herringnet-fault-one-outcome κs a r q s t p o = p ∙ sym o
+
+pub herringnet-store-list-one-outcome : OneOutcome herringnet-store-list.ended (λ κs s. now (s .1 .0)) herringnet-store-list.Reads.Post
+herringnet-store-list-one-outcome κs a r q s t p o = (p .0 ∙ sym (o .0), p .1 ∙ sym (o .1))
+
+pub herringnet-store-write-one-outcome : OneOutcome herringnet-store-write.ended (λ κs s. now (s .1 .1 .0)) herringnet-store-write.Reads.Post
+herringnet-store-write-one-outcome κs a r q s t p o = (p .0 ∙ sym (o .0), p .1 .0 ∙ sym (o .1 .0))

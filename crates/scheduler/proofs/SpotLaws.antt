@@ -8,7 +8,6 @@ use lib.ListN.{length, take, drop}
 use lib.Dec.{leb, ltb, eqb}
 use Rattle.format.specs.declared.Fault.{Fault}
 use Rattle.format.specs.declared.Fault.the-variants.{Long as LONG, Cut as CUT, Info as INFO, Trail as TRAIL}
-use Rattle.format.specs.declared.Spot.{Spot}
 use Rattle.format.specs.declared.Faulted.{Faulted}
 use Rattle.format.specs.declared.Verdict.the-variants.{Accepted, Refused}
 use Rattle.format.specs.Numbers.{numberOf, answerValue}

@@ -15,7 +15,7 @@ use Rattle.format.specs.Demands.{Ends}
 use Rattle.fields.specs.Fields.{fieldCount, fieldsOf, areRecord, recordFrom}
 use Rattle.scheduler.specs.Code.{codeOf}
 
--- a slice of another length than 49; numbers that are no record; both with value 0
+-- a slice of another length than 49, or of rows that are not whole; numbers that are no record; both with value 0
 abbrev pub FIELDS : ℕ
 FIELDS = 201
 

@@ -7,8 +7,10 @@ ghost use Rattle.format.specs.Shortcut.{faulted, reading};
 ghost use Rattle.format.specs.Target.{targetAnswer, targetOutput};
 ghost use Rattle.format.specs.Key.{keyAnswer, keyOutput};
 ghost use Rattle.format.specs.Listing.{sectionPlace};
+ghost use Rattle.format.specs.StoreList.{storeListAnswer, storeListOutput};
 ghost use Rattle.scheduler.specs.Code.{codeOf, faultCode, sectionCode};
 ghost use Rattle.scheduler.specs.Records.{readCode, readFields, writeCode, writtenFields, EndsOf};
+ghost use Rattle.scheduler.specs.Stores.{storeWriteCode, storeWrittenRows, StoreEndsOf};
 
 fn code_of(v: Verdict) -> u64
     requires { ⌜ answerValue v ≤ 131073 ⌝ }
@@ -99,5 +101,27 @@ pub extern "C" fn herringnet_write(f: &[u64], d: &[u8], out: &mut [u8]) -> u64
     }
     let q = fields::record_from(f);
     let v = writer::write(q, d, out);
+    code_of(v)
+}
+
+#[no_mangle]
+pub extern "C" fn herringnet_store_list(s: &[u8], rows: &mut [u64]) -> u64
+    ensures answer { λ r. ⌜ r ≡ codeOf (storeListAnswer (now (s .entry)) (now (rows .entry))) ⌝ }
+    ensures output { λ _. ⌜ now (rows .exit) ≡ storeListOutput (now (s .entry)) (now (rows .entry)) ⌝ }
+{
+    let v = storing::store_list(s, rows);
+    code_of(v)
+}
+
+#[no_mangle]
+pub extern "C" fn herringnet_store_write(rows: &[u64], d: &[u8], out: &mut [u8]) -> u64
+    ensures answer { λ r. ⌜ r ≡ storeWriteCode (now (rows .entry)) (now (d .entry)) (now (out .entry)) ⌝ }
+    ensures output { λ _. ⌜ now (out .exit) ≡ storeWrittenRows (now (rows .entry)) (now (d .entry)) (now (out .entry)) ⌝ }
+    ensures only { λ r. ⌜ StoreEndsOf (now (rows .entry)) (now (d .entry)) (now (out .entry)) r (now (out .exit)) ⌝ }
+{
+    if rows.len() % 6 != 0 {
+        return 201;
+    }
+    let v = storing::store_write(rows, d, out);
     code_of(v)
 }

@@ -113,7 +113,7 @@ pub fn present(r: Record) -> Record
 // ---- whether the bodies lie in the buffer
 
 // By a difference, since a place near the largest number plus its length would wrap.
-fn inside(b: Place, n: usize) -> bool
+pub fn inside(b: Place, n: usize) -> bool
     ensures { λ r. ⌜ r ≡ leb (b .at + b .len) n ⌝ }
 {
     if n < b.len {

@@ -1,0 +1,52 @@
+-- Any two outcomes that the contract of a public call allows are equal.
+use mathlib.Core.Path.{refl, sym, _∙_}
+use denote.Ref.{now}
+use Rattle.octets.proofs.Outcomes.{OneAnswer, OneShown, OneOutcome}
+use Rattle.storing.proofs.rows.count_rows as count-rows
+use Rattle.storing.proofs.rows.row_at as row-at
+use Rattle.storing.proofs.rows.put_rows as put-rows
+use Rattle.storing.proofs.tests.row_from as row-from
+use Rattle.storing.proofs.tests.rows_placed as rows-placed
+use Rattle.storing.proofs.tests.store_size as store-size
+use Rattle.storing.proofs.tests.row_size as row-size
+use Rattle.storing.proofs.making.put_store as put-store
+use Rattle.storing.proofs.store_list as store-list
+use Rattle.storing.proofs.store_name as store-name
+use Rattle.storing.proofs.store_raw as store-raw
+use Rattle.storing.proofs.store_write as store-write
+
+pub count-rows-one-outcome : OneAnswer count-rows.ended count-rows.Reads.Post
+count-rows-one-outcome κs a r q s t p o = p .0 ∙ sym (o .0)
+
+pub row-at-one-outcome : OneAnswer row-at.ended row-at.Reads.Post
+row-at-one-outcome κs a r q s t p o = p ∙ sym o
+
+pub put-rows-one-outcome : OneOutcome put-rows.ended (λ κs s. now (s .1 .1 .0)) put-rows.Reads.Post
+put-rows-one-outcome κs a r q s t p o = (refl, p ∙ sym o)
+
+pub store-list-one-outcome : OneOutcome store-list.ended (λ κs s. now (s .1 .0)) store-list.Reads.Post
+store-list-one-outcome κs a r q s t p o = (p .0 ∙ sym (o .0), p .1 .0 ∙ sym (o .1 .0))
+
+pub store-name-one-outcome : OneShown store-name.ended (λ κs r. now r) store-name.Reads.Post
+store-name-one-outcome κs a r q s t p o = p ∙ sym o
+
+pub store-raw-one-outcome : OneShown store-raw.ended (λ κs r. now r) store-raw.Reads.Post
+store-raw-one-outcome κs a r q s t p o = p ∙ sym o
+
+pub row-from-one-outcome : OneAnswer row-from.ended row-from.Reads.Post
+row-from-one-outcome κs a r q s t p o = p ∙ sym o
+
+pub rows-placed-one-outcome : OneAnswer rows-placed.ended rows-placed.Reads.Post
+rows-placed-one-outcome κs a r q s t p o = p ∙ sym o
+
+pub store-size-one-outcome : OneAnswer store-size.ended store-size.Reads.Post
+store-size-one-outcome κs a r q s t p o = p ∙ sym o
+
+pub row-size-one-outcome : OneAnswer row-size.ended row-size.Reads.Post
+row-size-one-outcome κs a r q s t p o = p .0 ∙ sym (o .0)
+
+pub put-store-one-outcome : OneOutcome put-store.ended (λ κs s. now (s .1 .1 .0)) put-store.Reads.Post
+put-store-one-outcome κs a r q s t p o = (p .next ∙ sym (o .next), p .content ∙ sym (o .content))
+
+pub store-write-one-outcome : OneOutcome store-write.ended (λ κs s. now (s .1 .1 .0)) store-write.Reads.Post
+store-write-one-outcome κs a r q s t p o = (p .0 ∙ sym (o .0), p .1 .0 ∙ sym (o .1 .0))

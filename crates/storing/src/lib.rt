@@ -1,0 +1,124 @@
+// The property store of a shortcut: its list, its names and values shown (FORMAT: Store list), and a store from a list (FORMAT: Store writing).
+mod making;
+mod rows;
+mod tests;
+
+use format::Fault;
+use format::Place;
+use format::StoreRow;
+use format::Verdict;
+ghost use mathlib.Core.Path.{_≡_};
+ghost use lib.ListN.{length};
+ghost use Rattle.format.specs.Numbers.{Numbered};
+ghost use Rattle.format.specs.StoreList.{storeList, storeListAnswer, storeListOutput, storeName, storeRaw};
+ghost use Rattle.format.specs.StoreWriting.{storeWriting, storeWriteAnswer, storeWriteOutput, StoreEnds};
+ghost use Rattle.storing.specs.Steps.Stored.{StoredIs, RowIs};
+
+// The verdict on a shortcut, and where the block stands that holds its store; the empty place where there is none.
+struct Stored {
+    verdict: Verdict,
+    block: Place,
+}
+
+fn stored_in(s: &[u8]) -> Stored
+    ensures { λ r. ⌜ StoredIs (now (s .entry)) r ⌝ }
+{
+    let o = reader::outline_of(s);
+    let next = o.next;
+    let held = o.held;
+    let firsts = o.firsts;
+    let g = reader::finish(s.len(), next, held);
+    let verdict = g.verdict;
+    let Verdict::Accepted(_) = verdict else {
+        return Stored {
+            verdict,
+            block: format::NO_PLACE,
+        };
+    };
+    Stored {
+        verdict,
+        block: blocks::block_from(s, firsts[8]),
+    }
+}
+
+// A row of six numbers for each storage and each value, in order, with places in the shortcut.
+pub fn store_list(s: &[u8], rows: &mut [u64]) -> Verdict
+    ensures answer { λ r. ⌜ r ≡ storeListAnswer (now (s .entry)) (now (rows .entry)) ⌝ }
+    ensures output { λ _. ⌜ now (rows .exit) ≡ storeListOutput (now (s .entry)) (now (rows .entry)) ⌝ }
+    ensures numbers { λ r. ⌜ Numbered r (storeList (now (s .entry)) (length (now (rows .entry)))) ⌝ }
+{
+    let t = stored_in(s);
+    let v = t.verdict;
+    let b = t.block;
+    let Verdict::Accepted(_) = v else {
+        return v;
+    };
+    if b.len == 0 {
+        return Verdict::Accepted(0);
+    }
+    let at = b.at + 8;
+    let l = octets::part(s, at, b.len - 8);
+    let n = rows::count_rows(l, at);
+    if rows.len() / 6 < n {
+        return Verdict::Refused(Fault::Room, 0);
+    }
+    rows::put_rows(l, at, rows);
+    Verdict::Accepted(n)
+}
+
+// The row of this number; zeros where there is none.
+fn row_of(s: &[u8], k: usize) -> StoreRow
+    ensures { λ r. ⌜ RowIs (now (s .entry)) k r ⌝ }
+{
+    let t = stored_in(s);
+    let b = t.block;
+    if b.len == 0 {
+        return rows::NO_ROW;
+    }
+    let at = b.at + 8;
+    rows::row_at(octets::part(s, at, b.len - 8), at, k)
+}
+
+// The name of the value in this row; empty where the row has none, or there is no such row.
+pub fn store_name(s: &[u8], k: usize) -> &[u8]
+    ensures { λ r. ⌜ now r ≡ storeName (now (s .entry)) k ⌝ }
+{
+    let r = row_of(s, k);
+    let b = r.name;
+    octets::part(s, b.at, b.len)
+}
+
+// Its raw bytes, or a storage's format identifier; empty where there is no such row.
+pub fn store_raw(s: &[u8], k: usize) -> &[u8]
+    ensures { λ r. ⌜ now r ≡ storeRaw (now (s .entry)) k ⌝ }
+{
+    let r = row_of(s, k);
+    let b = r.raw;
+    octets::part(s, b.at, b.len)
+}
+
+// The store alone, without a block around it, from rows with places in the body buffer d.
+pub fn store_write(rows: &[u64], d: &[u8], out: &mut [u8]) -> Verdict
+    ensures answer { λ v. ⌜ v ≡ storeWriteAnswer (now (rows .entry)) (now (d .entry)) (now (out .entry)) ⌝ }
+    ensures output { λ _. ⌜ now (out .exit) ≡ storeWriteOutput (now (rows .entry)) (now (d .entry)) (now (out .entry)) ⌝ }
+    ensures numbers { λ v. ⌜ Numbered v (storeWriting (now (rows .entry)) (now (d .entry)) (length (now (out .entry)))) ⌝ }
+    ensures only { λ v. ⌜ StoreEnds (now (rows .entry)) (now (d .entry)) (now (out .entry)) v (now (out .exit)) ⌝ }
+{
+    if !tests::rows_placed(rows, d.len()) {
+        return Verdict::Refused(Fault::Place, 0);
+    }
+    if rows.len() % 6 != 0 {
+        return Verdict::Refused(Fault::Unwritable, 0);
+    }
+    let n = tests::store_size(rows, d);
+    if n == 0 {
+        return Verdict::Refused(Fault::Unwritable, 0);
+    }
+    if 65448 < n {
+        return Verdict::Refused(Fault::Unwritable, 0);
+    }
+    if out.len() < n {
+        return Verdict::Refused(Fault::Room, 0);
+    }
+    Verdict::Accepted(making::put_store(rows, d, out))
+}
