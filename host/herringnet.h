@@ -5,15 +5,15 @@
  * In the repository the same archive is target/staticlib/libscheduler.a.
  *
  * Every function takes slices, each as a pointer and a length, and has no other condition than these:
- *   - a pointer with its length names memory that the caller may read, and for out and fields write; a null pointer
+ *   - a pointer with its length names memory that the caller may read, and where it is not const write; a null pointer
  *     may stand with length 0, and is an empty slice;
- *   - memory that is written (out, fields) overlaps no other slice of the same call. Nothing tests this: it is the
+ *   - memory that is written overlaps no other slice of the same call. Nothing tests this: it is the
  *     caller's duty.
  * A length counts elements: bytes of a uint8_t slice, numbers of a uint64_t slice.
  *
  * Every function answers one number: a number of enum herringnet_number + 256 x a value. The value is the length of a
- * success, or the position of a refusal. A refusal changes no byte of out and no number of fields. A success changes
- * only the first bytes of out, as many as the length says, and all of fields.
+ * success, or the position of a refusal. A refusal changes no byte of out and no number of fields or
+ * rows. A success changes only the first bytes of out, as many as the length says, and all of fields.
  *
  * The rules by which they answer are docs/FORMAT.md of the repository, and comments here name its headings.
  */
@@ -65,7 +65,8 @@ enum herringnet_number {
     HERRINGNET_ROOM = 12,       /* the room is too short */
     HERRINGNET_NOTARGET = 13,   /* no target text */
     HERRINGNET_TWICE = 14,      /* a block has the known signature of one before it */
-    HERRINGNET_FIELDS = 201,    /* the slice of fields has not 49 numbers; tested before all else */
+    HERRINGNET_STORE = 15,      /* the property store of a block */
+    HERRINGNET_FIELDS = 201,    /* fields are not 49 numbers, or rows not whole rows; tested first */
     HERRINGNET_VALUES = 202     /* a number of fields does not fit its field; tested next */
 };
 
@@ -88,6 +89,7 @@ static inline const char *herringnet_name(unsigned number)
     case HERRINGNET_ROOM: return "ROOM";
     case HERRINGNET_NOTARGET: return "NOTARGET";
     case HERRINGNET_TWICE: return "TWICE";
+    case HERRINGNET_STORE: return "STORE";
     case HERRINGNET_FIELDS: return "FIELDS";
     case HERRINGNET_VALUES: return "VALUES";
     default: return "OTHER";
@@ -167,7 +169,7 @@ enum herringnet_field {
     HERRINGNET_FIELD_COUNT = 49
 };
 
-/* Tests a shortcut by all rules (FORMAT: Order of reading). Success: its length. Refusals: 1 to 9 and 14. */
+/* Tests a shortcut by all rules (FORMAT: Order of reading). Success: its length. Refusals: 1 to 9, 14, 15. */
 uint64_t herringnet_check(const uint8_t *shortcut, size_t shortcut_len);
 
 /* The same verdict with the section at fault: HERRINGNET_FAULT_POSITION, and start and name of the section, which is a
@@ -200,6 +202,35 @@ uint64_t herringnet_read(const uint8_t *shortcut, size_t shortcut_len, uint64_t 
  * length. Refusals: FIELDS, VALUES, PLACE, UNWRITABLE, ROOM, in this order. */
 uint64_t herringnet_write(const uint64_t *fields, size_t fields_len, const uint8_t *body, size_t body_len,
                           uint8_t *out, size_t out_len);
+
+/* The numbers of a row of a property store's list (FORMAT: Store list). A name and raw bytes are a place (AT) and a
+ * length (LEN), both in bytes. Numbers that a row does not use are 0 when listed, and count for nothing when written. */
+enum herringnet_row {
+    HERRINGNET_ROW_KIND = 0,     /* a number of enum herringnet_row_kind */
+    HERRINGNET_ROW_NUMBER = 1,   /* of a value by number, 32 bits */
+    HERRINGNET_ROW_NAME_AT = 2,  /* of a value by name */
+    HERRINGNET_ROW_NAME_LEN = 3,
+    HERRINGNET_ROW_RAW_AT = 4,   /* of a value its raw bytes, of a storage its format identifier of 16 bytes */
+    HERRINGNET_ROW_RAW_LEN = 5,
+    HERRINGNET_ROW_COUNT = 6
+};
+
+enum herringnet_row_kind {
+    HERRINGNET_ROW_STORAGE = 0,
+    HERRINGNET_ROW_BY_NUMBER = 1,
+    HERRINGNET_ROW_BY_NAME = 2
+};
+
+/* Lists the property store of a shortcut: a row of HERRINGNET_ROW_COUNT numbers for each storage and each value, in
+ * order, with places in the shortcut. Success: how many rows; their numbers stand at the front of rows, the others are
+ * as they were. A shortcut without the block A0000009 has none. Refusals: as herringnet_check, then ROOM. */
+uint64_t herringnet_store_list(const uint8_t *shortcut, size_t shortcut_len, uint64_t *rows, size_t rows_len);
+
+/* Writes the property store that rows list, with places in body, into out: the store alone, without the eight bytes of
+ * a block. Success: its length. Refusals: FIELDS if rows_len is no multiple of HERRINGNET_ROW_COUNT, PLACE, UNWRITABLE
+ * where no store up to 65,448 bytes has this list, ROOM, in this order (FORMAT: Store writing). */
+uint64_t herringnet_store_write(const uint64_t *rows, size_t rows_len, const uint8_t *body, size_t body_len,
+                                uint8_t *out, size_t out_len);
 
 #ifdef __cplusplus
 }

@@ -1,4 +1,4 @@
-//! The seven proved functions, as they stand in the archive.
+//! The nine proved functions, as they stand in the archive.
 //!
 //! Every answer is one number (FORMAT: C numbers): its number, 0 for success, + 256 × a value, which is the length
 //! of a success or the position of a refusal. A refusal changes no byte of `out` and no number of `fields`. The other
@@ -28,9 +28,22 @@ extern "C" {
 
     // pub extern "C" fn herringnet_write(f: &[u64], d: &[u8], out: &mut [u8]) -> u64
     fn herringnet_write(f: *const u64, f_len: usize, d: *const u8, d_len: usize, out: *mut u8, out_len: usize) -> u64;
+
+    // pub extern "C" fn herringnet_store_list(s: &[u8], rows: &mut [u64]) -> u64
+    fn herringnet_store_list(s: *const u8, s_len: usize, rows: *mut u64, rows_len: usize) -> u64;
+
+    // pub extern "C" fn herringnet_store_write(rows: &[u64], d: &[u8], out: &mut [u8]) -> u64
+    fn herringnet_store_write(
+        rows: *const u64,
+        rows_len: usize,
+        d: *const u8,
+        d_len: usize,
+        out: *mut u8,
+        out_len: usize,
+    ) -> u64;
 }
 
-// In all seven calls pointer and length come from one slice, and a slice that is written to is borrowed by
+// In all nine calls pointer and length come from one slice, and a slice that is written to is borrowed by
 // nobody else: that is all that the functions need, since they have no other condition.
 
 /// The verdict on a shortcut; the value of a success is its length.
@@ -69,6 +82,18 @@ pub fn read(shortcut: &[u8], fields: &mut [u64]) -> u64 {
 /// Writes the record in `fields`, its bodies in `body`, to the front of `out`; the value of a success is the length.
 pub fn write(fields: &[u64], body: &[u8], out: &mut [u8]) -> u64 {
     unsafe { herringnet_write(fields.as_ptr(), fields.len(), body.as_ptr(), body.len(), out.as_mut_ptr(), out.len()) }
+}
+
+/// Puts the rows of a shortcut's property store at the front of `rows`, six numbers each; the value of a success is how
+/// many rows they are.
+pub fn store_list(shortcut: &[u8], rows: &mut [u64]) -> u64 {
+    unsafe { herringnet_store_list(shortcut.as_ptr(), shortcut.len(), rows.as_mut_ptr(), rows.len()) }
+}
+
+/// Writes the property store that `rows` list, their bytes in `body`, to the front of `out`; the value of a success is
+/// its length.
+pub fn store_write(rows: &[u64], body: &[u8], out: &mut [u8]) -> u64 {
+    unsafe { herringnet_store_write(rows.as_ptr(), rows.len(), body.as_ptr(), body.len(), out.as_mut_ptr(), out.len()) }
 }
 
 /// Two calls of the system for the command line, which Rust 1.63's library has no safe form of.

@@ -20,6 +20,7 @@ mod refusal;
 mod section;
 pub mod show;
 mod spot;
+pub mod store;
 pub mod text;
 mod unwritable;
 
@@ -27,13 +28,14 @@ pub use record::Record;
 pub use refusal::{Fault, Refusal};
 pub use section::{listed, listing, section, sections, Section, SectionName};
 pub use spot::{Spot, WrongField};
+pub use store::Store;
 pub use text::{StringName, Text};
 pub use unwritable::Cause;
 
 use refusal::answer;
 
 /// The requests whose rules this package and its archive follow; docs/requests of the repository has a note of each.
-pub const REQUESTS: [&str; 5] = ["01", "02", "03", "04", "05"];
+pub const REQUESTS: [&str; 6] = ["01", "02", "03", "04", "05", "06"];
 
 /// The SHA-256 of the archive that is linked, in hex.
 pub const ARCHIVE_DIGEST: &str = env!("HERRINGNET_DIGEST");
@@ -45,7 +47,7 @@ pub const LONGEST: usize = 65_536;
 ///
 /// # Errors
 ///
-/// Numbers 1 to 9 and 14, with the first byte of the field found wrong.
+/// Numbers 1 to 9, 14 and 15, with the first byte of the field found wrong.
 ///
 /// ```
 #[doc = include_str!("../examples/check.rs")]

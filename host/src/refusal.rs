@@ -35,6 +35,8 @@ pub enum Fault {
     NoTarget,
     /// 14: a block has the known signature of one before it.
     Twice,
+    /// 15: the property store of a block.
+    Store,
     /// 201, of the boundary alone: the slice of fields has not 49 numbers.
     Fields,
     /// 202, of the boundary alone: a field's number does not fit its field.
@@ -44,7 +46,7 @@ pub enum Fault {
 }
 
 /// Number, name and reason of every fault that has a name.
-const TABLE: [(Fault, u8, &str, &str); 16] = [
+const TABLE: [(Fault, u8, &str, &str); 17] = [
     (Fault::Long, 1, "LONG", "it has more than 65,536 bytes"),
     (Fault::Cut, 2, "CUT", "it is cut off inside a field or a part"),
     (Fault::Magic, 3, "MAGIC", "header size or class identifier is not that of a shortcut"),
@@ -59,6 +61,7 @@ const TABLE: [(Fault, u8, &str, &str); 16] = [
     (Fault::Room, 12, "ROOM", "the room is too short"),
     (Fault::NoTarget, 13, "NOTARGET", "it has no target text"),
     (Fault::Twice, 14, "TWICE", "a known block stands there twice"),
+    (Fault::Store, 15, "STORE", "the property store of a block is wrong"),
     (Fault::Fields, 201, "FIELDS", "a record has 49 numbers"),
     (Fault::Values, 202, "VALUES", "a number does not fit its field"),
 ];
@@ -159,7 +162,7 @@ mod tests {
         for number in 1..=255 {
             assert_eq!(Fault::of(number).number(), number);
         }
-        assert_eq!((1..=14).map(|n| Fault::of(n).name()).filter(|name| *name == "OTHER").count(), 0);
+        assert_eq!((1..=15).map(|n| Fault::of(n).name()).filter(|name| *name == "OTHER").count(), 0);
         assert_eq!(Fault::of(200), Fault::Other(200));
         assert_eq!(
             (Fault::Cut.to_string(), Fault::of(200).to_string()),

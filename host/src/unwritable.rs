@@ -139,13 +139,14 @@ fn blocks<'a>(record: &Record<'a>) -> Vec<Part<'a>> {
     vec![("blocks", block_why(record.blocks), alone)]
 }
 
-/// Two of one kind are told from other faults by reading them.
+/// Two of one kind and a wrong store are told from other faults by reading them.
 fn block_why(blocks: &[u8]) -> &'static str {
     let mut shortcut = Record::default().to_vec().unwrap_or_default();
     let end = shortcut.len().saturating_sub(4);
     shortcut.splice(end..end, blocks.iter().copied());
     match check(&shortcut) {
         Err(refusal) if refusal.fault == Fault::Twice => "two of them have one known signature",
+        Err(refusal) if refusal.fault == Fault::Store => "the property store of one is wrong",
         _ => "they are not allowed blocks end to end, or too long",
     }
 }

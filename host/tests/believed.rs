@@ -12,6 +12,7 @@ const CALLS: &[(&str, &[&str])] = &[
     ("shown", &["section_place", "section"]),
     ("target", &["target"]),
     ("keying", &["key"]),
+    ("storing", &["store_list", "store_name", "store_raw", "store_write"]),
     ("writer", &["write"]),
     ("rewriting", &["rewrite"]),
     ("lines", &["put_verdict", "put_listing", "put_key_line"]),

@@ -4,6 +4,7 @@ mod common;
 use common::shortcuts::{z, Said, Shortcuts};
 use common::{run_on, text, SAMPLE};
 use herringnet::record::{Header, Info, InfoUnicode, Label, Local, Network, NetworkUnicode, Record};
+use herringnet::store::{Storage, Store, NAMED};
 use herringnet::Text;
 use std::fs;
 use std::io::Write;
@@ -53,7 +54,7 @@ fn check_names_the_field() {
     flags[23] = 0x18;
     let mut drive = SAMPLE.to_vec();
     drive[267 + 0x1C + 4] = 7;
-    let rows: [(&str, &[u8], &str); 11] = [
+    let rows: [(&str, &[u8], &str); 12] = [
         (
             "7 PIECE at 100",
             &with_info(0x1C, 0x1B),
@@ -93,6 +94,11 @@ fn check_names_the_field() {
             &[&SAMPLE[..455], &SAMPLE[359..]].concat(),
             "TrackerDataBlock (at 455), BlockSignature is 0xA0000003, and so is that of the block at 359",
         ),
+        (
+            "15 STORE at 463",
+            &[&SAMPLE[..455], b"\x10\0\0\0\x09\0\0\xA0\x07\0\0\0\0\0\0\0\0\0\0\0"].concat(),
+            "PropertyStoreDataBlock (at 455), Serialized Property Storage (at 463), Storage Size is 0x7, less than 0x1C",
+        ),
     ];
     for (place, bytes, words) in rows {
         s.put("x.lnk", bytes);
@@ -116,6 +122,27 @@ fn check_shows_the_field_in_hex() {
     let lines = "\n  003C  00 00 00 00 00 00 00 00 00 00 00 00 00 00 00 00\n> 004C\na.lnk: ok 459\nlong.lnk: ";
     assert!(text(&said.out).contains(lines), "{}", text(&said.out));
     assert!(text(&said.out).ends_with("\n> 10000  00\n"), "{}", text(&said.out));
+}
+
+#[test]
+fn store_prints_storages_and_values() {
+    let s = Shortcuts::new("store");
+    let named = Storage::new(NAMED).with_name(b"c\0\0\0", b"\x13\0\0\0\x07\0\0\0");
+    let block = Store::default().with(named).with(Storage::new([0; 16]).with_number(9, b"\xFF")).to_block().unwrap();
+    s.put("store.lnk", &Record { blocks: &block, ..Record::default() }.to_vec().unwrap());
+    let lines = "storages              2\n\
+                 \x20 storage             {D5CDD505-2E9C-101B-9397-08002B2CF9AE}\n\
+                 \x20   values            1\n\
+                 \x20     value           \"c\": VT_UI4 7\n\
+                 \x20 storage             {00000000-0000-0000-0000-000000000000}\n\
+                 \x20   values            1\n\
+                 \x20     value           9: hex ff\n";
+    s.run(&["store", "store.lnk"]).is(0, lines, "");
+    s.run(&["store", "z.lnk"]).is(0, "storages              0\n", "");
+    let refused = "cut.lnk: refused 2 CUT at 76: it is cut off inside a field or a part";
+    let said = s.run(&["store", "cut.lnk"]);
+    assert_eq!((said.status, text(&said.out)), (1, ""));
+    assert!(said.err.contains(refused), "{}", said.err);
 }
 
 #[test]

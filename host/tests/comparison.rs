@@ -106,9 +106,11 @@ impl Comparison {
         self.sections(shortcut, &mut random);
         self.putting("target", [proved::target, independent::boundary_target], shortcut, &mut random);
         self.putting("key", [proved::key, independent::boundary_key], shortcut, &mut random);
+        let rows = self.store_list(shortcut, &mut random);
         if answer & 0xFF != 0 {
             return;
         }
+        self.stores(&rows, shortcut, &mut random);
         let record = independent::read(shortcut).unwrap();
         let fields = record.to_fields();
         self.write(&Writing { fields: &fields, body: shortcut }, &mut random);
@@ -204,6 +206,55 @@ impl Comparison {
             if answer & 0xFF != 0 {
                 break;
             }
+        }
+    }
+
+    /// The list of the store, into slices about its length; the list itself.
+    fn store_list(&mut self, shortcut: &[u8], random: &mut Random) -> Vec<u64> {
+        let mut whole = vec![0; shortcut.len()];
+        let answer = independent::boundary_store_list(shortcut, &mut whole);
+        whole.truncate(if answer & 0xFF == 0 { 6 * (answer >> 8) as usize } else { 0 });
+        let length = whole.len();
+        for room in [length, random.pick(&[length.saturating_sub(1), length / 2, length + 1, length + 7])] {
+            let fill = 0x5EED_0000_0000_0000 | self.number;
+            let (mut proved_rows, mut independent_rows) = (vec![fill; room + 1], vec![fill; room + 1]);
+            let proved = proved::store_list(shortcut, &mut proved_rows[..room]);
+            let independent = independent::boundary_store_list(shortcut, &mut independent_rows[..room]);
+            self.agree("store list", proved, independent, &|| hex(shortcut));
+            if proved_rows != independent_rows {
+                self.differ("rows", &format!("{:?}\n{:?}", proved_rows, independent_rows), &|| hex(shortcut));
+            }
+        }
+        whole
+    }
+
+    /// The list written again, which gives the store's own bytes, and disturbed ones.
+    fn stores(&mut self, rows: &[u64], shortcut: &[u8], random: &mut Random) {
+        if rows.is_empty() && random.chance(90) {
+            return;
+        }
+        self.store_write(rows, shortcut, random);
+        if let Some((start, _)) = independent::store(shortcut) {
+            let mut out = vec![0; shortcut.len()];
+            let length = (proved::store_write(rows, shortcut, &mut out) >> 8) as usize;
+            if out[..length] != shortcut[start + 8..start + 8 + length] {
+                self.differ("store write", "not the store's own bytes", &|| hex(shortcut));
+            }
+        }
+        for _ in 0..random.from_to(1, 3) {
+            let (rows, body) = disturb::disturbed_rows(rows, shortcut, random);
+            self.store_write(&rows, &body, random);
+        }
+    }
+
+    fn store_write(&mut self, rows: &[u64], body: &[u8], random: &mut Random) {
+        let answer = independent::boundary_store_write(rows, body, &mut self.independent_out);
+        let given = || format!("{:?}\n{}", rows, hex(body));
+        for room in rooms_about(answer, random) {
+            self.with_room("store write", room, &given, &|out| {
+                let proved = proved::store_write(rows, body, &mut *out.0);
+                (proved, independent::boundary_store_write(rows, body, out.1))
+            });
         }
     }
 

@@ -15,7 +15,7 @@ const INPUTS: u64 = 100_000;
 type Row = (u8, Part, usize, Why, &'static str, &'static str);
 
 #[rustfmt::skip]
-const ROWS: [Row; 91] = [
+const ROWS: [Row; 102] = [
     (3, Part::Header, 0, Why::Value, "HeaderSize", "not 0x4C"),
     (3, Part::Header, 4, Why::Value, "LinkCLSID", "not 01 14 02 00"),
     (4, Part::Header, 20, Why::Value, "LinkFlags", "to be clear"),
@@ -103,6 +103,17 @@ const ROWS: [Row; 91] = [
     (8, Part::Block, 8, Why::Past, "ItemIDSize", "the list has"),
     (8, Part::Block, 8, Why::Zero, "ItemIDSize", "ends the list"),
     (8, Part::Block, 8, Why::Lacking, "ItemIDSize", "cut off"),
+    (15, Part::Storage, 0, Why::Lacking, "Storage Size", "before the store's end"),
+    (15, Part::Storage, 0, Why::Zero, "Storage Size", "ends the store"),
+    (15, Part::Storage, 0, Why::Small, "Storage Size", "less than 0x1C"),
+    (15, Part::Storage, 0, Why::Past, "Storage Size", "the store has"),
+    (15, Part::Storage, 4, Why::Value, "Version", "not 0x53505331"),
+    (15, Part::Value, 0, Why::Lacking, "Value Size", "before the storage's end"),
+    (15, Part::Value, 0, Why::Zero, "Value Size", "ends the storage"),
+    (15, Part::Value, 0, Why::Small, "Value Size", "less than 0x9"),
+    (15, Part::Value, 0, Why::Past, "Value Size", "the storage has"),
+    (15, Part::Value, 4, Why::Past, "Name Size", "the value has"),
+    (15, Part::Value, 8, Why::Value, "Reserved", "not 0x0"),
     (14, Part::Block, 4, Why::Again, "BlockSignature", "that of the block at"),
     (2, Part::End, 0, Why::Cut, "TerminalBlock", "cut off"),
     (9, Part::End, 4, Why::Value, "", "after it"),

@@ -85,9 +85,8 @@ fn a_shortcut_on_a_share() {
     assert_eq!(canonical, [&shortcut[..76], &bytes(&blocks[3]), &shortcut[146..164], &[0; 4]].concat());
 }
 
-/// The shortcut with a change that the page tells: `byte 05 is 04`, `bytes 9E to A1 are ..`, a byte less or more.
-fn changed(change: &str) -> Vec<u8> {
-    let mut shortcut = on_a_share();
+/// A shortcut with a change that the page tells: `byte 05 is 04`, `bytes 9E to A1 are ..`, a byte less or more.
+fn changed(mut shortcut: Vec<u8>, change: &str) -> Vec<u8> {
     let words: Vec<&str> = change.split(':').next().unwrap().split(' ').collect();
     let place = |word: &str| usize::from_str_radix(word, 16).unwrap();
     match words[..] {
@@ -95,7 +94,7 @@ fn changed(change: &str) -> Vec<u8> {
         ["bytes", from, "to", to, "are", ..] => {
             shortcut.splice(place(from)..=place(to), from_hex(&words[5..].join(" ")));
         }
-        ["the", "last", "byte", ..] => shortcut.truncate(167),
+        ["the", "last", "byte", ..] => shortcut.truncate(shortcut.len() - 1),
         _ => shortcut.push(0),
     }
     shortcut
@@ -107,7 +106,7 @@ fn the_same_with_one_fault() {
     assert!(rows.len() > 20);
     for row in rows {
         println!("{}", row[0]);
-        is_refused(&changed(row[0]), row[1]);
+        is_answered(&changed(on_a_share(), row[0]), row[1]);
     }
 }
 
@@ -117,8 +116,12 @@ fn refusal(answer: &str) -> [u64; 4] {
     cells.try_into().unwrap()
 }
 
+/// A refusal, or `0, length 80`.
 #[track_caller]
-fn is_refused(shortcut: &[u8], answer: &str) {
+fn is_answered(shortcut: &[u8], answer: &str) {
+    if let Some(length) = answer.strip_prefix("0, length ") {
+        return assert_eq!(boundary::check(shortcut), 256 * number(length));
+    }
     let [fault, position, section, start] = refusal(answer);
     assert_eq!(boundary::check(shortcut), fault + 256 * position);
     let value = position + 65_537 * (start + 65_537 * section);
@@ -134,10 +137,26 @@ fn blocks_of_one_kind() {
         let named = row[0].split(':').next().unwrap().split(' ').flat_map(block);
         let mut shortcut = Record::default().to_vec().unwrap();
         shortcut.splice(76..76, named);
-        match row[1].strip_prefix("0, length ") {
-            Some(length) => assert_eq!(boundary::check(&shortcut), 256 * number(length)),
-            None => is_refused(&shortcut, row[1]),
-        }
+        is_answered(&shortcut, row[1]);
+    }
+}
+
+#[test]
+fn a_block_with_a_store() {
+    let text = under("A block with a store");
+    let shortcut = [&Record::default().to_vec().unwrap()[..76], &bytes(&blocks(text)[0])].concat();
+    is_answered(&shortcut, "0, length 192");
+    let list: Vec<u64> = blocks(text)[1].iter().flat_map(|line| line.split(' ').map(number)).collect();
+    let (mut rows, mut store) = (vec![0; list.len()], [0; 104]);
+    assert_eq!(boundary::store_list(&shortcut, &mut rows), 256 * 4);
+    assert_eq!(rows, list);
+    assert_eq!(boundary::store_write(&list, &shortcut, &mut store), 256 * 104);
+    assert_eq!(store, shortcut[84..188]);
+    let rows = table(text);
+    assert!(rows.len() > 15);
+    for row in rows {
+        println!("{}", row[0]);
+        is_answered(&changed(shortcut.clone(), row[0]), row[1]);
     }
 }
 

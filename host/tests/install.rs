@@ -170,7 +170,7 @@ fn completed(prefix: &Path, words: &[&str]) -> Vec<String> {
 #[test]
 fn bash_completes_words() {
     let prefix = installed("install_bash");
-    let all = ["check", "list", "target", "key", "show", "rewrite", "help", "--help", "--version"];
+    let all = ["check", "list", "target", "key", "show", "store", "rewrite", "help", "--help", "--version"];
     assert_eq!(completed(&prefix, &["herringnet", ""]), all);
     assert_eq!(completed(&prefix, &["herringnet", "re"]), ["rewrite"]);
     assert_eq!(completed(&prefix, &["herringnet", "help", "k"]), ["key"]);

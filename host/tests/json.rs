@@ -9,7 +9,7 @@ use herringnet::{check, Text};
 use schema::{misfit, misfit_of_all, parse, schema, Value};
 use std::collections::BTreeSet;
 
-const COMMANDS: [&str; 5] = ["check", "list", "target", "key", "show"];
+const COMMANDS: [&str; 6] = ["check", "list", "target", "key", "show", "store"];
 
 /// The lines as values.
 fn values(out: &[u8]) -> Vec<Value> {
@@ -153,7 +153,7 @@ fn all_of_show_is_in_it() {
     let values = values(&json.out);
     assert_eq!(shown.len(), values.len());
     for (shown, value) in shown.iter().zip(&values) {
-        let mut found = BTreeSet::from(["item".to_string(), "block".to_string()]);
+        let mut found = BTreeSet::from(["item", "block", "storage", "value"].map(str::to_string));
         names(value, &mut found);
         for line in shown.lines().skip(1) {
             let name = line.get(..22).unwrap().trim().to_lowercase().replace(' ', "_");

@@ -1,7 +1,9 @@
-//! The comparison's inputs often have what a cache key depends on.
+//! The comparison's inputs often have what a cache key depends on, and property stores of every shape.
 
 mod independent;
 mod inputs;
+
+use independent::Entry;
 
 const INPUTS: u64 = 20_000;
 
@@ -83,9 +85,59 @@ fn inputs_have_what_a_key_depends_on() {
             counts.iter_mut().zip(TRAITS).for_each(|(count, row)| *count += u64::from(row.1(&shortcut)));
         }
     }
+    are_often(accepted, counts, TRAITS.map(|row| row.0));
+}
+
+type StoreTrait = (&'static str, fn(&[Entry]) -> bool);
+
+const STORES: [StoreTrait; 10] = [
+    ("a store", |_| true),
+    ("a store without storages", |store| store.is_empty()),
+    ("several storages", |store| storages(store).count() > 1),
+    ("a storage without values", |store| {
+        storages(store).any(|place| matches!(store.get(place + 1), None | Some(Entry::Storage { .. })))
+    }),
+    ("values by number", |store| store.iter().any(|entry| matches!(entry, Entry::Number { .. }))),
+    ("several by name", |store| names(store).count() > 1),
+    ("an empty name", |store| names(store).any(|(name, _)| name == 0)),
+    ("a name of odd length", |store| names(store).any(|(name, _)| name % 2 == 1)),
+    ("a name and no raw bytes", |store| names(store).any(|(name, raw)| name > 0 && raw == 0)),
+    ("a number and no raw bytes", |store| {
+        store.iter().any(|entry| matches!(entry, Entry::Number { raw, .. } if raw.length == 0))
+    }),
+];
+
+/// Where the storages of a store stand among its entries.
+fn storages(store: &[Entry]) -> impl Iterator<Item = usize> + '_ {
+    (0..store.len()).filter(|&place| matches!(store[place], Entry::Storage { .. }))
+}
+
+/// The lengths of name and raw bytes of the values that have a name.
+fn names(store: &[Entry]) -> impl Iterator<Item = (usize, usize)> + '_ {
+    store.iter().filter_map(|entry| match entry {
+        Entry::Name { name, raw } => Some((name.length, raw.length)),
+        _ => None,
+    })
+}
+
+#[test]
+fn inputs_have_stores_of_every_shape() {
+    let mut counts = [0; STORES.len()];
+    let mut accepted = 0;
+    for bytes in (0..INPUTS).map(inputs::input) {
+        accepted += u64::from(independent::check(&bytes).is_ok());
+        if let Some((_, store)) = independent::store(&bytes) {
+            counts.iter_mut().zip(STORES).for_each(|(count, row)| *count += u64::from(row.1(&store)));
+        }
+    }
+    are_often(accepted, counts, STORES.map(|row| row.0));
+}
+
+/// Each count, of a trait with this name, is no small share of the accepted inputs.
+fn are_often<const N: usize>(accepted: u64, counts: [u64; N], names: [&str; N]) {
     println!("{} inputs, {} accepted", INPUTS, accepted);
-    let percent = counts.map(|count| 100.0 * count as f64 / f64::from(accepted));
-    for (share, (name, _)) in percent.iter().zip(TRAITS) {
+    let percent = counts.map(|count| 100.0 * count as f64 / accepted as f64);
+    for (share, name) in percent.iter().zip(names) {
         println!("{:5.1} % {}", share, name);
     }
     assert!(percent.iter().all(|&share| share >= LEAST));

@@ -245,6 +245,7 @@ fn wrong_others(long: &[u8]) -> Vec<Wrong<'_>> {
             "blocks",
             "one known signature",
         ),
+        (Record { blocks: b"\x0C\0\0\0\x09\0\0\xA0word", ..none() }, "blocks", "property store"),
         (Record { name: half.clone(), arguments: half, ..none() }, "length", "65,536"),
     ]
 }

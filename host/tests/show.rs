@@ -6,6 +6,7 @@ use common::text;
 use herringnet::record::{Header, Info, InfoUnicode, Label, Local, Network, NetworkUnicode, Record};
 use herringnet::show::field::members;
 use herringnet::show::{show, shown};
+use herringnet::store::{Storage, Store, NAMED};
 use herringnet::{check, sections, SectionName, StringName, Text};
 use std::collections::HashSet;
 
@@ -48,12 +49,20 @@ fn blocks() -> Vec<u8> {
         path_block(0xA000_0006, b"darwin", b""),
         path_block(0xA000_0007, b"", b"i\0\x42\x30"),
         block(0x88, 0xA000_0008, 7),
-        block(0x0C, 0xA000_0009, 0),
+        store(),
         known,
         list,
         block(9, 0x1234_5678, b'!'),
     ]
     .concat()
+}
+
+/// Values by number and by name, with types that are decoded and others.
+fn store() -> Vec<u8> {
+    let numbers = Storage::new([0x30; 16]).with_number(2, b"\x13\0\0\0\x07\0\0\0").with_number(5, b"\x0C\0");
+    let named = Storage::new(NAMED).with_name(b"c\0o\0r\0e\0\0\0", b"\x1F\0\0\0\x03\0\0\0g\x001\0\0\0\0\0");
+    let store = Store::default().with(numbers).with(named.with_name(b"odd", b"")).with(Storage::new([7; 16]));
+    store.to_block().unwrap()
 }
 
 /// A shortcut with everything in it.
@@ -91,7 +100,7 @@ fn left_out(shortcut: &[u8]) -> HashSet<usize> {
         let inside: Vec<usize> = match block.bytes[4] {
             1 | 6 | 7 => (end(8, 1)..268).chain(end(268, 2)..788).collect(),
             3 => (8..16).chain(end(16, 1)..0x60).collect(),
-            2 | 4 | 8 | 9 | 0x78 => (8..block.length()).collect(),
+            2 | 4 | 8 | 0x78 => (8..block.length()).collect(),
             _ => Vec::new(),
         };
         inside.into_iter().map(move |place| block.start + place)

@@ -12,7 +12,7 @@ fn exported(source: &str) -> BTreeSet<&str> {
 
 #[test]
 fn declarations_follow_the_rattle_source() {
-    assert_eq!(exported(BOUNDARY).len(), 7);
+    assert_eq!(exported(BOUNDARY).len(), 9);
     assert_eq!(exported(BOUNDARY), exported(SCHEDULER));
 }
 

@@ -72,9 +72,9 @@ fn the_expected_output_is_that_of_the_independent_side() {
     assert!(expected(&rows()) == EXPECTED);
 }
 
-/// The last rows: two blocks of one kind, and large ones.
+/// The last rows: two blocks of one kind, property stores, and large ones.
 fn made() -> Vec<Vec<u8>> {
-    inputs::pairs().into_iter().chain(inputs::large()).collect()
+    [inputs::pairs(), inputs::stores(), inputs::large()].concat()
 }
 
 #[test]

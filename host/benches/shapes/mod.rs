@@ -9,7 +9,7 @@ struct Texts<'a> {
 }
 
 pub const SMALL: [&str; 3] = ["local", "network", "environment"];
-pub const LONG: [&str; 6] = ["string", "items", "blocks", "texts", "overlap", "unended"];
+pub const LONG: [&str; 7] = ["string", "items", "blocks", "store", "texts", "overlap", "unended"];
 
 /// A small shape by its name, or a long one by its name, a hyphen and its KiB.
 pub fn shape(name: &str) -> Option<Vec<u8>> {
@@ -29,6 +29,7 @@ fn long(kind: &str, length: usize) -> Option<Vec<u8>> {
         "string" => Some(long_string(length)),
         "items" => Some(many_items(length)),
         "blocks" => Some(many_blocks(length)),
+        "store" => Some(many_values(length)),
         "texts" => Some(long_texts(length)),
         "overlap" => Some(overlapping_texts(length)),
         "unended" => Some(unended_text(length)),
@@ -229,6 +230,33 @@ fn many_blocks(length: usize) -> Vec<u8> {
         let signature = if number % 2 == 0 { 0xA000_000A } else { 0xA000_000D };
         block(&mut bytes, signature, 12);
     }
+    put(&mut bytes, 0);
+    bytes
+}
+
+/// A property store of small values by number in one storage, and one with names in another.
+fn many_values(length: usize) -> Vec<u8> {
+    let mut bytes = header(2);
+    little_info(&mut bytes);
+    let block = bytes.len();
+    let each = (length - block - 8 - 2 * 28 - 8) / 2 / 17;
+    put(&mut bytes, 0);
+    put(&mut bytes, 0xA000_0009);
+    let named = [0x05, 0xD5, 0xCD, 0xD5, 0x9C, 0x2E, 0x1B, 0x10, 0x93, 0x97, 0x08, 0x00, 0x2B, 0x2C, 0xF9, 0xAE];
+    for (identifier, number) in [([0x30; 16], 77), (named, 4)] {
+        put(&mut bytes, 28 + 17 * each as u32);
+        put(&mut bytes, 0x5350_5331);
+        bytes.extend(identifier);
+        for _ in 0..each {
+            put(&mut bytes, 17);
+            put(&mut bytes, number);
+            bytes.extend([0, 0x63, 0, 0, 0, 0x13, 0, 0, 0]);
+        }
+        put(&mut bytes, 0);
+    }
+    put(&mut bytes, 0);
+    let size = bytes.len() - block;
+    put_size(&mut bytes, block, size);
     put(&mut bytes, 0);
     bytes
 }

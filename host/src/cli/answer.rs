@@ -3,9 +3,10 @@ use super::command::Command;
 use super::input::Input;
 use herringnet::json::Json;
 use herringnet::show::field::{members, text_json, Field};
+use herringnet::show::stores::storages;
 use herringnet::show::text::{Bytes, Hex, Spaced};
 use herringnet::show::{lines, shown};
-use herringnet::{check, fault, key, listed, sections, target, Refusal, Section, Spot, Text, WrongField};
+use herringnet::{check, fault, key, listed, sections, target, Refusal, Section, Spot, Store, Text, WrongField};
 use std::ops::Range;
 
 /// The answer to a command.
@@ -28,6 +29,7 @@ impl<'a> Answer<'a> {
             Command::Target => target(shortcut).map(Answer::Target),
             Command::Key => key(shortcut).map(Answer::Key),
             Command::Show => shown(shortcut).map(Answer::Fields),
+            Command::Store => Store::read(shortcut).map(|store| Answer::Fields(vec![storages(&store)])),
             Command::Rewrite => return None,
         };
         Some(answer.map_err(|refusal| Refused::new(command, shortcut, refusal)))

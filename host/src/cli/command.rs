@@ -8,6 +8,7 @@ pub enum Command {
     Target,
     Key,
     Show,
+    Store,
     Rewrite,
 }
 
@@ -21,7 +22,7 @@ struct Page {
     text: &'static str,
 }
 
-const PAGES: [Page; 6] = [
+const PAGES: [Page; 7] = [
     Page {
         word: "check",
         line: "say of each shortcut whether it is accepted, or which field is wrong, and why",
@@ -31,8 +32,8 @@ Prints a line for each shortcut: FILE: ok and its length, or FILE: refused with 
 the name, the position, the section, the field, its value and what is wrong with it:
   x.lnk: refused 7 PIECE at 100: LinkInfo (at 76), CommonPathSuffixOffset is 0x1B, before the
          end of the head at 0x1C
-Fields have their names from MS-SHLLINK. A structure inside the section is named after it, and
-offsets in hex count from the start of what is named last.
+Fields have their names from MS-SHLLINK, those of a property store from MS-PROPSTORE. A structure
+inside the section is named after it, and offsets in hex count from the start of what is named last.
 ",
     },
     Page {
@@ -83,6 +84,18 @@ too. Times are UTC. With several files a line with the file's name and a colon s
 ",
     },
     Page {
+        word: "store",
+        line: "print the property store: formats, numbers or names, and values",
+        usage: &["[FILE].."],
+        text: "\
+Prints the property store of a shortcut: each storage by its format identifier, and each value in
+it by its number or name and its content, as show does among the blocks. A shortcut without the
+block A0000009 has no storages. Numbers, truth values, texts, times and identifiers are decoded,
+after the name of their type; other types, and bytes that do not fit their type, stand in hex.
+With several files a line with the file's name and a colon stands before each.
+",
+    },
+    Page {
         word: "rewrite",
         line: "write the canonical form: the shortest shortcut with the same record",
         usage: &["[FILE]", "-o OUTPUT [FILE]", "--in-place FILE..", "--suffix SUFFIX FILE.."],
@@ -102,8 +115,8 @@ written, the files are still done.
 
 impl Command {
     /// All of them, each at its number.
-    pub const ALL: [Command; 6] =
-        [Command::Check, Command::List, Command::Target, Command::Key, Command::Show, Command::Rewrite];
+    pub const ALL: [Command; 7] =
+        [Command::Check, Command::List, Command::Target, Command::Key, Command::Show, Command::Store, Command::Rewrite];
 
     /// The command with this word.
     pub fn of(word: &str) -> Option<Command> {

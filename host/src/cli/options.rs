@@ -29,7 +29,8 @@ pub struct Choice {
     pub lines: &'static [&'static str],
 }
 
-const PRINTING: &[Command] = &[Command::Check, Command::List, Command::Target, Command::Key, Command::Show];
+const PRINTING: &[Command] =
+    &[Command::Check, Command::List, Command::Target, Command::Key, Command::Show, Command::Store];
 const REWRITE: &[Command] = &[Command::Rewrite];
 
 /// All options, in the order of help.

@@ -145,12 +145,12 @@ impl Run {
             Command::Key => [text, b" ", &name].concat(),
             Command::Check | Command::Rewrite => [&name, &b": "[..], text].concat(),
             Command::Target if self.several => [&name, &b": "[..], one_colon(text).as_bytes()].concat(),
-            Command::List | Command::Show if self.several => {
+            Command::List | Command::Show | Command::Store if self.several => {
                 // An empty line stands between two inputs, unless zero bytes part them.
                 let gap: &[u8] = if console.has_written() && !self.zero { b"\n" } else { b"" };
                 [gap, &name, b":\n", text].concat()
             }
-            Command::Target | Command::List | Command::Show => text.to_vec(),
+            Command::Target | Command::List | Command::Show | Command::Store => text.to_vec(),
         });
     }
 

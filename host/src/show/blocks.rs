@@ -1,7 +1,8 @@
 //! Items and blocks as fields: their places and sizes, and what in them can name a file, a folder or a machine.
 use super::field::Field;
-use super::names;
+use super::{names, stores};
 use crate::json::Json;
+use crate::store::Store;
 use crate::{Section, SectionName};
 
 /// Items that stand end to end from a place on, in a list that was accepted: each begins with its size.
@@ -22,14 +23,14 @@ pub fn item_list(place: usize, bytes: &[u8]) -> Field {
     Field::list("items", format!("{} in {} bytes at {}", found.len(), bytes.len(), place), found)
 }
 
-/// All blocks among the sections of an accepted shortcut.
-pub fn blocks(sections: &[Section]) -> Field {
+/// All blocks among the sections of an accepted shortcut, and the store of the one that has it.
+pub fn blocks(sections: &[Section], store: &Store) -> Field {
     let blocks = sections.iter().filter(|section| section.name == SectionName::Block);
-    let found: Vec<Field> = blocks.map(block).collect();
+    let found: Vec<Field> = blocks.map(|one| block(one, store)).collect();
     Field::list("blocks", found.len(), found)
 }
 
-fn block(block: &Section) -> Field {
+fn block(block: &Section, store: &Store) -> Field {
     let signature = number(block.bytes, 4);
     let name = names::block(signature);
     let (place, size) = (block.start, block.length());
@@ -41,11 +42,11 @@ fn block(block: &Section) -> Field {
     ]);
     let named = name.unwrap_or("unknown block");
     let line = format!("{:08X} {}, {} bytes at {}", signature, named, size, place);
-    Field::new("block", line, json).group(inside(signature, block))
+    Field::new("block", line, json).group(inside(signature, block, store))
 }
 
 /// What a block says, for those that can name something.
-fn inside(signature: u32, block: &Section) -> Vec<Field> {
+fn inside(signature: u32, block: &Section, store: &Store) -> Vec<Field> {
     let bytes = block.bytes;
     match signature {
         0xA000_0001 | 0xA000_0006 | 0xA000_0007 => vec![
@@ -54,6 +55,7 @@ fn inside(signature: u32, block: &Section) -> Vec<Field> {
         ],
         0xA000_0003 => vec![Field::bytes("machine name", up_to_zero(part(bytes, 16, 32), 1))],
         0xA000_0005 => vec![Field::hex("special folder", number(bytes, 8)), Field::number("offset", number(bytes, 12))],
+        0xA000_0009 => vec![stores::storages(store)],
         0xA000_000B => {
             let identifier = names::identifier(part(bytes, 8, 24));
             let json = Json::string(&identifier);

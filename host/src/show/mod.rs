@@ -2,11 +2,14 @@
 mod blocks;
 pub mod field;
 pub mod names;
+pub mod property;
+pub mod stores;
 pub mod text;
 pub mod time;
 
 use crate::json::Json;
 use crate::record::{Header, Info, Label, Local, Network, Window};
+use crate::store::Store;
 use crate::text::StringName;
 use crate::{section, sections, target, Record, Refusal, SectionName};
 use field::Field;
@@ -49,7 +52,7 @@ pub fn shown(shortcut: &[u8]) -> Result<Vec<Field>, Refusal> {
     for name in StringName::ALL {
         fields.push(record.string(name).map_or(Field::absent(name.words()), |text| Field::text(name.words(), text)));
     }
-    fields.push(blocks::blocks(&sections(shortcut)?));
+    fields.push(blocks::blocks(&sections(shortcut)?, &Store::read(shortcut)?));
     Ok(fields)
 }
 

@@ -1,4 +1,4 @@
-//! The fields that reading can find wrong, by the names of MS-SHLLINK.
+//! The fields that reading can find wrong, by the names of MS-SHLLINK and, of a property store, MS-PROPSTORE.
 use super::part::{parts, Kind, Part};
 use super::rule::{Rule, CLASS};
 use super::Spot;
@@ -13,7 +13,7 @@ pub struct WrongField {
     pub structure: &'static str,
     /// Where that structure starts in the shortcut.
     pub start: usize,
-    /// Its name in MS-SHLLINK.
+    /// Its name in MS-SHLLINK or, of a property store, in MS-PROPSTORE.
     pub name: &'static str,
     /// Where its bytes stand in the shortcut, as far as they are there.
     pub place: Range<usize>,
@@ -36,13 +36,15 @@ enum Where {
     LongHead,
     /// In blocks with one of these signatures.
     In(&'static [u32]),
+    /// Inside the size of its part: the zero size that ends a store or a storage is a part without further fields.
+    Within,
 }
 
 use Rule::{
-    Apart, AtLeast, AtMost, Bytes, Clear, Ended, Fits, Head, HotKey, Is, Item, Label, Once, Present, Signature,
-    Structure, Text,
+    Apart, AtLeast, AtMost, Bytes, Clear, Ended, Fits, Head, HotKey, Is, Label, Name, Once, Present, Signature,
+    Structure, Text, Walked,
 };
-use Where::{Everywhere, In, LongHead};
+use Where::{Everywhere, In, LongHead, Within};
 
 /// A field: structure, offset, width, name, where it exists, and its rules in the order of the tests.
 struct Row(Kind, usize, usize, &'static str, Where, &'static [Rule]);
@@ -55,7 +57,7 @@ const DARWIN: &[u32] = &[0xA000_0006];
 const ABOVE_1: u32 = !3;
 
 #[rustfmt::skip]
-const ROWS: [Row; 35] = [
+const ROWS: [Row; 40] = [
     Row(Kind::Header, 0, 4, "HeaderSize", Everywhere, &[Is(0x4C)]),
     Row(Kind::Header, 4, 16, "LinkCLSID", Everywhere, &[Bytes(&CLASS)]),
     Row(Kind::Header, 20, 4, "LinkFlags", Everywhere, &[Clear(0xF800_0000)]),
@@ -63,7 +65,7 @@ const ROWS: [Row; 35] = [
     Row(Kind::Header, 64, 2, "HotKey", Everywhere, &[HotKey]),
     Row(Kind::Header, 66, 10, "Reserved1 to Reserved3", Everywhere, &[Bytes(&[0; 10])]),
     Row(Kind::List, 0, 2, "IDListSize", Everywhere, &[Fits]),
-    Row(Kind::Items, 0, 2, "ItemIDSize", Everywhere, &[Item]),
+    Row(Kind::Items, 0, 2, "ItemIDSize", Everywhere, &[Walked(2)]),
     Row(Kind::Info, 0, 4, "LinkInfoSize", Everywhere, &[AtLeast(0x1C), Fits]),
     Row(Kind::Info, 4, 4, "LinkInfoHeaderSize", Everywhere, &[Head]),
     Row(Kind::Info, 8, 4, "LinkInfoFlags", Everywhere, &[Clear(ABOVE_1)]),
@@ -90,6 +92,11 @@ const ROWS: [Row; 35] = [
     Row(Kind::Block, 8, 260, "DarwinDataAnsi", In(DARWIN), &[Ended(1)]),
     Row(Kind::Block, 268, 520, "TargetUnicode", In(TARGETS), &[Ended(2)]),
     Row(Kind::Block, 268, 520, "DarwinDataUnicode", In(DARWIN), &[Ended(2)]),
+    Row(Kind::Storage, 0, 4, "Storage Size", Everywhere, &[Walked(28)]),
+    Row(Kind::Storage, 4, 4, "Version", Within, &[Is(0x5350_5331)]),
+    Row(Kind::Value, 0, 4, "Value Size", Everywhere, &[Walked(9)]),
+    Row(Kind::Value, 4, 4, "Name Size", Within, &[Name]),
+    Row(Kind::Value, 8, 1, "Reserved", Within, &[Is(0)]),
     Row(Kind::End, 0, 4, "TerminalBlock", Everywhere, &[]),
 ];
 
@@ -99,14 +106,16 @@ impl Row {
         let there = match self.4 {
             Everywhere => true,
             LongHead => part.has_long_head(),
+            Within => offset < part.field(0),
             In(signatures) => part.number(4, 4).map_or(false, |number| signatures.contains(&(number as u32))),
         };
         self.0 == part.kind && there && (self.1 == offset || part.kind == Kind::Items)
     }
 }
 
-/// The field that the position of a refusal names, and what is wrong with it. Two structures of LinkInfo can have a
-/// field at one place, as overlaps are tested last: then it is that of the first in which a rule is broken.
+/// The field that the position of a refusal names, and what is wrong with it. Two structures can have a field at one
+/// place, as overlaps in LinkInfo are tested last, and a storage that lacks its last size is found wrong at its end: then
+/// it is that of the first in which a rule is broken.
 pub fn found(spot: &Spot, shortcut: &[u8]) -> Option<WrongField> {
     parts(spot, shortcut).iter().find_map(|part| wrong_in(part, spot.refusal.position.checked_sub(part.start)?))
 }

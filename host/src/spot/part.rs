@@ -16,6 +16,10 @@ pub enum Kind {
     Network,
     String,
     Block,
+    /// A storage of a property store, up to the store's end.
+    Storage,
+    /// A value of a storage, up to that storage's end.
+    Value,
     End,
 }
 
@@ -68,7 +72,7 @@ impl<'a> Part<'a> {
             }
     }
 
-    /// Its name, where MS-SHLLINK has one.
+    /// Its name, where MS-SHLLINK or MS-PROPSTORE has one.
     pub fn structure(&self) -> &'static str {
         match self.kind {
             Kind::Header => "ShellLinkHeader",
@@ -79,6 +83,8 @@ impl<'a> Part<'a> {
             Kind::Network => "CommonNetworkRelativeLink",
             Kind::String => "StringData",
             Kind::Block => "ExtraData",
+            Kind::Storage => "Serialized Property Storage",
+            Kind::Value => "Serialized Property Value",
             Kind::End => "TerminalBlock",
         }
     }
@@ -98,7 +104,18 @@ impl<'a> Part<'a> {
             Kind::Info => "LinkInfo's end",
             Kind::Volume => "VolumeID's end",
             Kind::Network => "CommonNetworkRelativeLink's end",
+            Kind::Storage => "the store's end",
+            Kind::Value => "the storage's end",
             _ => "the file's end",
+        }
+    }
+
+    /// What it is one of many in, in words.
+    pub fn whole(&self) -> &'static str {
+        match self.kind {
+            Kind::Storage => "store",
+            Kind::Value => "storage",
+            _ => "list",
         }
     }
 
@@ -121,6 +138,7 @@ pub fn parts<'a>(spot: &Spot, shortcut: &'a [u8]) -> Vec<Part<'a>> {
         SectionName::Header => vec![whole(Kind::Header, rest)],
         SectionName::Items => vec![whole(Kind::List, rest), items(whole(Kind::List, rest), 2)],
         SectionName::Info => info(whole(Kind::Info, declared(rest)), spot.refusal.fault),
+        SectionName::Block if spot.refusal.fault == Fault::Store => store(whole(Kind::Block, declared(rest))),
         SectionName::Block => vec![whole(Kind::Block, rest), items(whole(Kind::Block, declared(rest)), 8)],
         SectionName::End => vec![whole(Kind::End, rest)],
         _ => vec![whole(Kind::String, rest)],
@@ -149,6 +167,31 @@ fn info(info: Part, fault: Fault) -> Vec<Part> {
     let network = info.inner(Kind::Network, 20).filter(|_| flags & 2 != 0);
     let inner = [volume, network].into_iter().flatten().filter(|_| fault == Fault::Piece);
     std::iter::once(info).chain(inner).collect()
+}
+
+/// A block with its store.
+fn store(block: Part) -> Vec<Part> {
+    let storages = run(block, 8, Kind::Storage);
+    std::iter::once(block).chain(storages.into_iter().flat_map(with_values)).collect()
+}
+
+/// A storage, and after it its values.
+fn with_values(storage: Part) -> Vec<Part> {
+    let own = Part { bytes: declared(storage.bytes), ..storage };
+    std::iter::once(storage).chain(run(own, 24, Kind::Value)).collect()
+}
+
+/// Storages or values from an offset on, each up to the end of what holds it. The last has a zero size, or is where a
+/// size was due.
+fn run<'a>(part: Part<'a>, from: usize, kind: Kind) -> Vec<Part<'a>> {
+    let mut found = Vec::new();
+    let mut next = Some(from);
+    while let Some((at, bytes)) = next.and_then(|at| Some((at, part.bytes.get(at..)?))) {
+        let here = Part { kind, start: part.start + at, bytes, ..part };
+        next = Some(here.field(0)).filter(|&size| size > 0).map(|size| at + size);
+        found.push(here);
+    }
+    found
 }
 
 /// The first block with the signature of that at a start. All that stands before it is accepted if a terminal follows.

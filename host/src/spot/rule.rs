@@ -20,8 +20,8 @@ pub enum Rule {
     AtMost(u64),
     /// What the size or count promises is there.
     Fits,
-    /// A size in an item list.
-    Item,
+    /// A size in a list, a store or a storage, where parts of at least so many bytes follow one another up to a zero.
+    Walked(usize),
     /// LinkInfo's head.
     Head,
     /// An offset field is 0 unless this bit of the structure's flags is set.
@@ -40,6 +40,8 @@ pub enum Rule {
     Ended(usize),
     /// No block before this one has the signature.
     Once,
+    /// The name of a value, with its length in this field.
+    Name,
 }
 
 impl Rule {
@@ -55,7 +57,8 @@ impl Rule {
             Rule::AtLeast(least) if value < least => is(format!(", less than 0x{:X}", least)),
             Rule::AtMost(most) if value > most => is(format!(", more than 0x{:X}", most)),
             Rule::Fits => too_much(part, value).and_then(is),
-            Rule::Item => wrong_item(part, at, value as usize).and_then(is),
+            Rule::Walked(least) => wrong_size(part, at, (width, least), value as usize).and_then(is),
+            Rule::Name => wrong_name(part, value as usize).and_then(is),
             Rule::Head => wrong_head(part, value as usize).and_then(is),
             Rule::Present(bit) if !self.is_present(part) && value != 0 => {
                 is(format!(", not 0, though bit {} of the flags is clear", bit))
@@ -127,15 +130,21 @@ fn too_much(part: &Part, value: u64) -> Option<String> {
     (asked > left as u64).then(|| format!("{}, and the file has {} left", characters, bytes(left)))
 }
 
-fn wrong_item(part: &Part, at: usize, size: usize) -> Option<String> {
-    let left = part.bytes.len() - at;
+/// A size of so many bytes, and the least that it can be.
+fn wrong_size(part: &Part, at: usize, (width, least): (usize, usize), size: usize) -> Option<String> {
+    let (left, whole) = (part.bytes.len() - at, part.whole());
     match size {
-        0 if left == 2 => None,
-        0 => Some(format!(", which ends the list, and {} of it follow", bytes(left - 2))),
-        1 => Some(", less than 0x2".to_string()),
-        _ if size > left => Some(format!(", and the list has {} from there on", bytes(left))),
+        0 if left == width => None,
+        0 => Some(format!(", which ends the {}, and {} of it follow", whole, bytes(left - width))),
+        _ if size < least => Some(format!(", less than 0x{:X}", least)),
+        _ if size > left => Some(format!(", and the {} has {} from there on", whole, bytes(left))),
         _ => None,
     }
+}
+
+fn wrong_name(value: &Part, length: usize) -> Option<String> {
+    let room = value.field(0).saturating_sub(9);
+    (length > room).then(|| format!(", and the value has {} after its head", bytes(room)))
 }
 
 fn wrong_head(part: &Part, head: usize) -> Option<String> {

@@ -91,6 +91,38 @@ static void records(const uint8_t *s, size_t n)
     answer("write no fields", herringnet_write(NULL, 0, s, n, out, sizeof out));
 }
 
+static void numbers(const uint64_t *row, size_t n)
+{
+    for (size_t i = 0; i < n; i++)
+        printf("%" PRIu64 "%s", row[i], i + 1 < n ? " " : "\n");
+}
+
+/* One storage with one value: written, put into a block in place of the terminal, and listed there. */
+static void stores(uint8_t *s, size_t n)
+{
+    const uint8_t body[] = "0123456789abcdefrv64";
+    const uint64_t rows[] = {HERRINGNET_ROW_STORAGE, 0, 0, 0, 0, 16, HERRINGNET_ROW_BY_NUMBER, 5, 0, 0, 16, 4};
+    uint64_t listed[13];
+    size_t all = sizeof rows / sizeof rows[0], block = n - 4, in = sizeof body - 1;
+    answer("store in 44", herringnet_store_write(rows, all, body, in, s + block + 8, 44));
+    answer("store of 11 numbers", herringnet_store_write(rows, all - 1, body, in, s + block + 8, 45));
+    answer("store from less", herringnet_store_write(rows, all, body, in - 1, s + block + 8, 45));
+    answer("store of a value alone", herringnet_store_write(rows + 6, 6, body, in, s + block + 8, 45));
+    answer("store", herringnet_store_write(rows, all, body, in, s + block + 8, 45));
+    bytes(s + block + 8, 45);
+    memcpy(s + block, "\x35\0\0\0\x09\0\0\xa0", 8);
+    memset(s + block + 53, 0, 4);
+    memset(listed, 0xEE, sizeof listed);
+    answer("rows in 11", herringnet_store_list(s, block + 57, listed, all - 1));
+    numbers(listed, 1);
+    answer("rows", herringnet_store_list(s, block + 57, listed, 13));
+    numbers(listed, 13);
+    answer("rows of one less", herringnet_store_list(s, block + 56, listed, 13));
+    s[block + 8 + 4] ^= 1;
+    answer("rows of a wrong version", herringnet_store_list(s, block + 57, listed, 13));
+    answer("rows of nothing", herringnet_store_list(NULL, 0, NULL, 0));
+}
+
 static void names(void)
 {
     for (unsigned number = 0; number < 256; number++)
@@ -110,6 +142,7 @@ int main(void)
     targets(s, n);
     keys(s, n);
     records(s, n);
+    stores(s, n);
     names();
     return 0;
 }

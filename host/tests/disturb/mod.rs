@@ -1,5 +1,9 @@
 //! Records disturbed after reading, so that the writer meets what no reader makes.
 
+mod rows;
+
+pub use rows::disturbed_rows;
+
 use crate::independent::{FIELDS, LIMIT};
 use crate::inputs::Random;
 

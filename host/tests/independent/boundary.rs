@@ -1,6 +1,6 @@
 //! The calls as the C boundary gives them: number + 256 x value.
 
-use super::{check, key, section, target, walk, write, Record, Refusal, FIELDS};
+use super::{check, key, section, store_list, store_write, target, walk, write, Record, Refusal, FIELDS};
 
 pub const WRONG_COUNT: u64 = 201;
 pub const NO_RECORD: u64 = 202;
@@ -60,5 +60,16 @@ pub fn boundary_write(fields: &[u64], body: &[u8], out: &mut [u8]) -> u64 {
     match Record::from_fields(fields) {
         Some(record) => answer(write(&record, body, out)),
         None => NO_RECORD,
+    }
+}
+
+pub fn boundary_store_list(shortcut: &[u8], rows: &mut [u64]) -> u64 {
+    answer(store_list(shortcut, rows))
+}
+
+pub fn boundary_store_write(rows: &[u64], body: &[u8], out: &mut [u8]) -> u64 {
+    match rows.len() % 6 {
+        0 => answer(store_write(rows, body, out)),
+        _ => WRONG_COUNT,
     }
 }

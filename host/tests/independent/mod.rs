@@ -7,6 +7,7 @@ mod boundary;
 mod info;
 mod key;
 mod record;
+mod store;
 mod texts;
 mod writer;
 mod wrong;
@@ -16,6 +17,8 @@ mod wrong;
 pub use boundary::*;
 pub use key::key;
 pub use record::*;
+#[allow(unused_imports)]
+pub use store::{store, store_list, store_write, Entry};
 #[allow(unused_imports)]
 pub use texts::*;
 pub use writer::write;
@@ -38,6 +41,7 @@ pub const UNWRITABLE: u8 = 11;
 pub const ROOM: u8 = 12;
 pub const NOTARGET: u8 = 13;
 pub const TWICE: u8 = 14;
+pub const STORE: u8 = 15;
 
 pub const SECTION_HEADER: u8 = 0;
 pub const SECTION_ITEMS: u8 = 1;
@@ -385,10 +389,10 @@ fn judge_block(rest: &[u8], size: usize, kinds: &mut Kinds) -> Result<u32, Wrong
     if !fits_signature(size, signature) {
         return Err(Wrong::new(BLOCK, Part::Block, 0, Why::Value));
     }
-    match wrong_inside(block, signature) {
-        None if kinds.has_stood(signature) => Err(Wrong::new(TWICE, Part::Block, 4, Why::Again)),
-        None => Ok(signature),
-        Some((at, why)) => Err(Wrong::new(BLOCK, Part::Block, at, why)),
+    judge_inside(block, signature)?;
+    match kinds.has_stood(signature) {
+        true => Err(Wrong::new(TWICE, Part::Block, 4, Why::Again)),
+        false => Ok(signature),
     }
 }
 
@@ -408,14 +412,16 @@ fn fits_signature(size: usize, signature: u32) -> bool {
     }
 }
 
-/// Where a block whose size fits its signature goes wrong after these two.
+/// What a block holds after its signature, which its size fits.
 #[inline(always)]
-fn wrong_inside(block: &[u8], signature: u32) -> Option<(usize, Why)> {
-    match signature {
+fn judge_inside(block: &[u8], signature: u32) -> Result<(), Wrong> {
+    let wrong = match signature {
         0xA000_0001 | 0xA000_0006 | 0xA000_0007 => endless_text(block).map(|at| (at, Why::Unended)),
+        0xA000_0009 => return store::walk(block, |_| ()),
         0xA000_000C => wrong_item(&block[8..]).map(|(at, why)| (8 + at, why)),
         _ => None,
-    }
+    };
+    wrong.map_or(Ok(()), |(at, why)| Err(Wrong::new(BLOCK, Part::Block, at, why)))
 }
 
 /// Where the first text of a block of 0x314 bytes stands that has no zero.

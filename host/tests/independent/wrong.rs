@@ -1,4 +1,4 @@
-//! What is found wrong, and where: the field, by the words of requests 04 and 05 and the reading of their open points.
+//! What is found wrong, and where: the field, by the words of requests 04 to 06 and the reading of their open points.
 
 /// A refusal: the first byte of the field found wrong, and the section at fault by its number in the listing and its
 /// first byte.
@@ -40,6 +40,8 @@ pub enum Part {
     Network,
     String,
     Block,
+    Storage,
+    Value,
     End,
 }
 
@@ -62,9 +64,9 @@ pub enum Why {
     Shared,
     /// It is not 0, though what it would lead to is absent.
     Absent,
-    /// Two zero bytes before the end of a list.
+    /// A size of zero before the end of what it should end.
     Zero,
-    /// A list ends where a size is due.
+    /// A list, a store or a storage ends where a size is due.
     Lacking,
     /// A block before this one has it.
     Again,

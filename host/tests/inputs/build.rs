@@ -41,6 +41,8 @@ pub struct Draft {
     pub fields: Vec<Field>,
     pub pieces: Vec<Piece>,
     pub starts: Vec<usize>,
+    /// Start and end of the last property store.
+    pub store: Option<(usize, usize)>,
     /// Whether parts may be built wrong now and then.
     sloppy: bool,
     stretch: Stretch,
@@ -96,6 +98,7 @@ impl Draft {
             fields: Vec::new(),
             pieces: Vec::new(),
             starts: Vec::new(),
+            store: None,
             sloppy,
             stretch,
             extra,
@@ -124,10 +127,11 @@ impl Draft {
         let length = self.bytes.len();
         self.fields.retain(|field| field.at + field.width <= length);
         self.pieces.retain(|piece| piece.end <= length);
+        self.store = self.store.filter(|&(_, end)| end <= length);
         length > 80
     }
 
-    fn slip(&self, random: &mut Random) -> bool {
+    pub fn slip(&self, random: &mut Random) -> bool {
         random.chance(6) && self.sloppy
     }
 
@@ -144,11 +148,11 @@ impl Draft {
         self.bytes[at..at + width].copy_from_slice(&(number as u64).to_le_bytes()[..width]);
     }
 
-    fn field(&mut self, at: usize, width: usize, least: usize, end: usize) {
+    pub fn field(&mut self, at: usize, width: usize, least: usize, end: usize) {
         self.fields.push(Field { at, width, least, end });
     }
 
-    fn random_bytes(&mut self, random: &mut Random, count: usize) {
+    pub fn random_bytes(&mut self, random: &mut Random, count: usize) {
         let end = self.bytes.len() + count;
         while self.bytes.len() < end {
             // Seven bytes of each number, and by its last bits often a zero among them.
@@ -474,8 +478,7 @@ impl Draft {
         let start = self.bytes.len();
         self.starts.push(start);
         let (mut signature, least) = KNOWN_BLOCKS[known.unwrap_or(5)];
-        let grows = matches!(known, Some(7 | 8));
-        let mut size = least + if grows { random.below(20) } else { 0 };
+        let mut size = least + if known == Some(7) { random.below(20) } else { 0 };
         if random.chance(30) || known.is_none() {
             signature = random.pick(&OTHER_SIGNATURES);
             size = random.from_to(8, 40);
@@ -485,13 +488,13 @@ impl Draft {
         }
         self.bytes.extend((size as u32).to_le_bytes());
         self.bytes.extend(signature.to_le_bytes());
-        if signature == 0xA000_000C && !self.slip(random) {
-            self.item_run(random, 4, 0);
-            size = self.bytes.len() - start;
-            self.set(start, 4, size);
-        } else {
-            self.random_bytes(random, size - 8);
+        match signature {
+            0xA000_0009 if !self.slip(random) => self.store(random),
+            0xA000_000C if !self.slip(random) => self.item_run(random, 4, 0),
+            _ => self.random_bytes(random, size - 8),
         }
+        size = self.bytes.len() - start;
+        self.set(start, 4, size);
         if size == 0x314 && !self.slip(random) {
             self.block_texts(random, start);
         }
@@ -522,16 +525,18 @@ impl Draft {
 }
 
 /// Kinds of known blocks, to be taken from the end: of many blocks short ones, so that inputs stay short, and of few
-/// often enough the environment.
+/// often enough the property store and the environment.
 fn some_kinds(random: &mut Random, count: usize) -> Vec<usize> {
     let mut kinds: Vec<usize> = match count > 3 {
         true => vec![5, 6, 8, 9, 10],
         false => (0..KNOWN_BLOCKS.len()).collect(),
     };
     random.shuffle(&mut kinds);
-    if (1..=3).contains(&count) && random.chance(30) {
-        kinds.retain(|&kind| kind != 0);
-        kinds.insert(kinds.len() - random.below(count), 0);
+    for (wanted, percent) in [(8, 25), (0, 30)] {
+        if (1..=3).contains(&count) && random.chance(percent) {
+            kinds.retain(|&kind| kind != wanted);
+            kinds.insert(kinds.len() - random.below(count), wanted);
+        }
     }
     kinds
 }

@@ -19,11 +19,13 @@ pub fn damage(draft: &mut Draft, random: &mut Random) {
 
 /// Two or three faults in one section, so that the order of its tests is seen.
 pub fn several(draft: &mut Draft, random: &mut Random) {
+    let store = draft.store.filter(|_| random.chance(60));
     let in_info = !draft.pieces.is_empty() && random.chance(75);
     for _ in 0..random.from_to(2, 3) {
-        match in_info {
-            true => info(draft, random),
-            false => header(draft, random),
+        match store {
+            Some((from, to)) => edge_between(draft, random, from, to),
+            None if in_info => info(draft, random),
+            None => header(draft, random),
         }
     }
 }

@@ -8,6 +8,8 @@ mod damage;
 mod large;
 mod pairs;
 mod random;
+mod store;
+mod stores;
 
 pub use build::Draft;
 #[allow(unused_imports)]
@@ -15,6 +17,8 @@ pub use large::large;
 #[allow(unused_imports)]
 pub use pairs::pairs;
 pub use random::Random;
+#[allow(unused_imports)]
+pub use stores::stores;
 
 const SEED: u64 = 0x4C4E_4B20_6865_7272;
 
@@ -40,10 +44,10 @@ pub fn input(number: u64) -> Vec<u8> {
     draft.bytes
 }
 
-/// How often each number was answered, 0 to 14.
+/// How often each number was answered, 0 to 15.
 #[derive(Default)]
 pub struct Tally {
-    pub counts: [u64; 15],
+    pub counts: [u64; 16],
     pub calls: u64,
 }
 
