@@ -1,4 +1,5 @@
-pub mod WroteLaws
 pub mod LayoutLaws
+pub mod WroteLaws
+pub mod SlotLaws
 pub mod FitsLaws
 pub mod OneOutcome

@@ -3,20 +3,27 @@ use mathlib.Core.Path.{sym, _∙_}
 use denote.Ref.{now}
 use Rattle.octets.proofs.Outcomes.{OneOutcome}
 use Rattle.canonical.proofs.put_canonical as put-canonical
-use Rattle.canonical.proofs.info.put_info_if as put-info-if
+use Rattle.canonical.proofs.heads.put_volume_head as put-volume-head
+use Rattle.canonical.proofs.heads.put_network_head as put-network-head
+use Rattle.canonical.proofs.heads.put_info_head as put-info-head
 use Rattle.canonical.proofs.numbers.add_u16 as add-u16
 use Rattle.canonical.proofs.numbers.add_u32 as add-u32
 use Rattle.canonical.proofs.numbers.add_u64 as add-u64
 use Rattle.canonical.proofs.numbers.add_fields as add-fields
 use Rattle.canonical.proofs.texts.put_body as put-body
 use Rattle.canonical.proofs.texts.put_text as put-text
-use Rattle.canonical.proofs.texts.put_text_if as put-text-if
 
 pub put-canonical-one-outcome : OneOutcome put-canonical.ended (λ κs s. now (s .0)) put-canonical.Reads.Post
 put-canonical-one-outcome κs a r q s t p o = (p .0 ∙ sym (o .0), p .1 ∙ sym (o .1))
 
-pub put-info-if-one-outcome : OneOutcome put-info-if.ended (λ κs s. now (s .1 .0)) put-info-if.Reads.Post
-put-info-if-one-outcome κs a r q s t p o = (p .next ∙ sym (o .next), p .content ∙ sym (o .content))
+pub put-volume-head-one-outcome : OneOutcome put-volume-head.ended (λ κs s. now (s .0)) put-volume-head.Reads.Post
+put-volume-head-one-outcome κs a r q s t p o = (p .next ∙ sym (o .next), p .content ∙ sym (o .content))
+
+pub put-network-head-one-outcome : OneOutcome put-network-head.ended (λ κs s. now (s .0)) put-network-head.Reads.Post
+put-network-head-one-outcome κs a r q s t p o = (p .next ∙ sym (o .next), p .content ∙ sym (o .content))
+
+pub put-info-head-one-outcome : OneOutcome put-info-head.ended (λ κs s. now (s .0)) put-info-head.Reads.Post
+put-info-head-one-outcome κs a r q s t p o = (p .next ∙ sym (o .next), p .content ∙ sym (o .content))
 
 pub add-u16-one-outcome : OneOutcome add-u16.ended (λ κs s. now (s .0)) add-u16.Reads.Post
 add-u16-one-outcome κs a r q s t p o = (p .next ∙ sym (o .next), p .content ∙ sym (o .content))
@@ -35,6 +42,3 @@ put-body-one-outcome κs a r q s t p o = (p .next ∙ sym (o .next), p .content 
 
 pub put-text-one-outcome : OneOutcome put-text.ended (λ κs s. now (s .0)) put-text.Reads.Post
 put-text-one-outcome κs a r q s t p o = (p .next ∙ sym (o .next), p .content ∙ sym (o .content))
-
-pub put-text-if-one-outcome : OneOutcome put-text-if.ended (λ κs s. now (s .1 .0)) put-text-if.Reads.Post
-put-text-if-one-outcome κs a r q s t p o = (p .next ∙ sym (o .next), p .content ∙ sym (o .content))

@@ -1,29 +1,35 @@
 // Puts the canonical bytes of a record into a lent buffer (FORMAT: Canonical form). A function that puts answers the place after what it put.
-mod info;
+mod heads;
 pub mod numbers;
 pub mod texts;
 
-use crate::info::put_info_if;
+use crate::heads::put_info_head;
+use crate::heads::put_network_head;
+use crate::heads::put_volume_head;
 use crate::numbers::add_u16;
 use crate::numbers::add_u32;
 use crate::numbers::add_u64;
 use crate::texts::put_body;
+use crate::texts::put_text;
 use format::Header;
 use format::Place;
 use format::Record;
-use sizes::Starts;
+use format::Shape;
 ghost use mathlib.Core.Path.{_≡_};
-ghost use Prim.Native.Nat.{_+_, _≤_};
+ghost use mathlib.Core.List.{[]};
+ghost use mathlib.Core.Bool.{true, cond};
+ghost use Prim.Native.Nat.{_+_, _-_, _≤_};
 ghost use lib.ListN.{length};
 ghost use Rattle.octets.specs.Parts.{put};
 ghost use Rattle.octets.specs.Steps.Puts.{Wrote};
-ghost use Rattle.format.specs.Contents.{bytesAt, bodiesOf};
+ghost use Rattle.format.specs.Contents.{bytesAt, contents};
 ghost use Rattle.format.specs.Writing.{ifThere, headerBytes, itemsBytes, stringBytes, blocksBytes, canonical};
-ghost use Rattle.sizes.specs.Steps.InBuffer.{InBuffer, StringsInBuffer};
-ghost use Rattle.sizes.specs.Steps.Sizes.{charactersIn, writtenIf, writtenStrings};
-ghost use Rattle.sizes.specs.Steps.Starts.{startsOf};
-ghost use Rattle.canonical.specs.Steps.Puts.{Room, RoomFor};
-ghost use Rattle.canonical.specs.Steps.Layout.{magicBytes, markBytes, viewBytes, stringsBytes};
+ghost use Rattle.format.specs.Steps.Lengths.{beside, writtenRow};
+ghost use Rattle.format.specs.Steps.Shape.{shapeOf, rowsFrom};
+ghost use Rattle.format.specs.Steps.Flat.{bodyBytes, slotsBytes, infoTo, infoFlat};
+ghost use Rattle.sizes.specs.Steps.Sizes.{sizesOf};
+ghost use Rattle.canonical.specs.Steps.Puts.{charactersIn, charactersKind, charactersRow, InBuffer, RowInBuffer, Room, slotsSize, RoomFor};
+ghost use Rattle.canonical.specs.Steps.Layout.{magicBytes, markBytes, viewBytes};
 
 // ---- the header
 
@@ -74,7 +80,7 @@ fn put_header(out: &mut [u8], at: usize, h: Header) -> usize
     put_view(out, p, h)
 }
 
-// ---- the item list
+// ---- the bodies, each as its kind is written
 
 // Its size, the items, and two zero bytes.
 fn put_items(out: &mut [u8], at: usize, d: &[u8], b: Place) -> usize
@@ -89,21 +95,6 @@ fn put_items(out: &mut [u8], at: usize, d: &[u8], b: Place) -> usize
     let p = put_body(out, p, d, b);
     add_u16(out, p, 0)
 }
-
-fn put_items_if(there: bool, out: &mut [u8], at: usize, d: &[u8], b: Place) -> usize
-    requires { ⌜ InBuffer (now d) b ⌝ }
-    requires { ⌜ Room (now out) at (writtenIf there b 4) ⌝ }
-    ensures written { λ r. ⌜ Wrote (now (out .entry)) at
-        (ifThere there itemsBytes (bytesAt (now (d .entry)) b))
-        (writtenIf there b 4) (now (out .exit)) r ⌝ }
-{
-    if there {
-        return put_items(out, at, d, b);
-    }
-    at
-}
-
-// ---- the strings
 
 // How many characters stand in n bytes.
 fn characters_in(unicode: bool, n: usize) -> u16
@@ -130,52 +121,6 @@ fn put_string(out: &mut [u8], at: usize, d: &[u8], unicode: bool, b: Place) -> u
     put_body(out, p, d, b)
 }
 
-fn put_string_if(there: bool, out: &mut [u8], at: usize, d: &[u8], unicode: bool, b: Place) -> usize
-    requires { ⌜ InBuffer (now d) b ⌝ }
-    requires { ⌜ Room (now out) at (writtenIf there b 2) ⌝ }
-    ensures written { λ r. ⌜ Wrote (now (out .entry)) at
-        (ifThere there (stringBytes unicode) (bytesAt (now (d .entry)) b))
-        (writtenIf there b 2) (now (out .exit)) r ⌝ }
-{
-    if there {
-        return put_string(out, at, d, unicode, b);
-    }
-    at
-}
-
-// Name, relative path, working directory, arguments, icon.
-fn put_strings(out: &mut [u8], at: usize, q: Record, d: &[u8]) -> usize
-    requires { ⌜ StringsInBuffer (now d) q ⌝ }
-    requires { ⌜ Room (now out) at (writtenStrings q) ⌝ }
-    ensures written { λ r. ⌜ Wrote (now (out .entry)) at
-        (stringsBytes (now (d .entry)) q)
-        (writtenStrings q) (now (out .exit)) r ⌝ }
-{
-    let flags = q.header.flags;
-    let unicode = format::strings_unicode(flags);
-    let p = put_string_if(format::name_there(flags), out, at, d, unicode, q.name);
-    let p = put_string_if(
-        format::relative_there(flags),
-        out,
-        p,
-        d,
-        unicode,
-        q.relative,
-    );
-    let p = put_string_if(format::workdir_there(flags), out, p, d, unicode, q.workdir);
-    let p = put_string_if(
-        format::arguments_there(flags),
-        out,
-        p,
-        d,
-        unicode,
-        q.arguments,
-    );
-    put_string_if(format::icon_there(flags), out, p, d, unicode, q.icon)
-}
-
-// ---- the blocks, and the whole
-
 // The blocks, and a zero terminal block.
 fn put_blocks(out: &mut [u8], at: usize, d: &[u8], b: Place) -> usize
     requires { ⌜ InBuffer (now d) b ⌝ }
@@ -188,17 +133,108 @@ fn put_blocks(out: &mut [u8], at: usize, d: &[u8], b: Place) -> usize
     add_u32(out, p, 0)
 }
 
+fn put_items_if(there: bool, out: &mut [u8], at: usize, d: &[u8], b: Place) -> usize
+    requires inside { ⌜ (there ≡ true → InBuffer (now d) b) ⌝ }
+    requires room { ⌜ Room (now out) at (cond there (b .len + 4) 0) ⌝ }
+    ensures written { λ r. ⌜ Wrote (now (out .entry)) at
+        (ifThere there itemsBytes (bytesAt (now (d .entry)) b))
+        (cond there (b .len + 4) 0) (now (out .exit)) r ⌝ }
+{
+    if there {
+        return put_items(out, at, d, b);
+    }
+    at
+}
+
+// LinkInfo's texts stand before the strings.
+fn put_slot(k: usize, out: &mut [u8], at: usize, d: &[u8], unicode: bool, b: Place) -> usize
+    requires { ⌜ InBuffer (now d) b ⌝ }
+    requires { ⌜ Room (now out) at (b .len + beside (charactersKind k unicode)) ⌝ }
+    ensures written { λ r. ⌜ Wrote (now (out .entry)) at
+        (bodyBytes (charactersKind k unicode) (bytesAt (now (d .entry)) b))
+        (b .len + beside (charactersKind k unicode)) (now (out .exit)) r ⌝ }
+{
+    if k < format::STRINGS {
+        return put_text(out, at, d, unicode, b);
+    }
+    put_string(out, at, d, unicode, b)
+}
+
+// The bodies of characters in the slots from one to before another.
+fn put_slots(
+    out: &mut [u8],
+    at: usize,
+    row: [Place; 16],
+    s: Shape,
+    d: &[u8],
+    from: usize,
+    to: usize,
+) -> usize
+    requires inside { ⌜ RowInBuffer (now d) row s ⌝ }
+    requires span { ⌜ (from ≤ to) × (to ≤ 16) ⌝ }
+    requires room { ⌜ Room (now out) at (slotsSize row from (rowsFrom (charactersRow s) from (to - from))) ⌝ }
+    ensures written { λ r. ⌜ Wrote (now (out .entry)) at
+        (slotsBytes (now (d .entry)) row from (rowsFrom (charactersRow s) from (to - from)))
+        (slotsSize row from (rowsFrom (charactersRow s) from (to - from))) (now (out .exit)) r ⌝ }
+{
+    let there = s.there;
+    let wide = s.wide;
+    let mut p = at;
+    let mut k = from;
+    while k < to {
+        if there[k] {
+            p = put_slot(k, out, p, d, wide[k], row[k]);
+        }
+        k += 1;
+    }
+    p
+}
+
+// ---- the whole
+
+// LinkInfo: each head before the bodies that it leads to.
+fn put_info(
+    there: bool,
+    out: &mut [u8],
+    at: usize,
+    q: Record,
+    s: Shape,
+    sizes: [u32; 16],
+    d: &[u8],
+) -> usize
+    requires shape { ⌜ s ≡ shapeOf (q .header .flags) (q .link) ⌝ }
+    requires sized { ⌜ sizes ≡ writtenRow q ⌝ }
+    requires inside { ⌜ RowInBuffer (now d) (q .places) s ⌝ }
+    requires room { ⌜ Room (now out) at (cond there (infoTo (q .link) sizes) 0) ⌝ }
+    ensures written { λ r. ⌜ Wrote (now (out .entry)) at
+        (cond there (infoFlat (now (d .entry)) q s sizes) [])
+        (cond there (infoTo (q .link) sizes) 0) (now (out .exit)) r ⌝ }
+{
+    if !there {
+        return at;
+    }
+    let l = q.link;
+    let row = q.places;
+    let p = put_info_head(out, at, l, sizes);
+    let p = put_volume_head(out, p, l, sizes);
+    let p = put_slots(out, p, row, s, d, format::LABEL, format::NET);
+    let p = put_network_head(out, p, l, sizes);
+    put_slots(out, p, row, s, d, format::NET, format::STRINGS)
+}
+
 // The sections in file order, from the buffer's start on. Answers their length.
-pub fn put_canonical(out: &mut [u8], q: Record, s: Starts, d: &[u8]) -> usize
+pub fn put_canonical(out: &mut [u8], q: Record, s: Shape, sizes: [u32; 16], d: &[u8]) -> usize
     requires fits { ⌜ RoomFor (now d) (now out) q ⌝ }
-    requires starts { ⌜ s ≡ startsOf q ⌝ }
-    ensures { λ r. ⌜ r ≡ length (canonical (bodiesOf (now (d .entry)) q)) ⌝ }
-    ensures { λ _. ⌜ now (out .exit) ≡ put (now (out .entry)) 0 (canonical (bodiesOf (now (d .entry)) q)) ⌝ }
+    requires shape { ⌜ s ≡ shapeOf (q .header .flags) (q .link) ⌝ }
+    requires sized { ⌜ sizes ≡ sizesOf q ⌝ }
+    ensures { λ r. ⌜ r ≡ length (canonical (contents (now (d .entry)) q)) ⌝ }
+    ensures { λ _. ⌜ now (out .exit) ≡ put (now (out .entry)) 0 (canonical (contents (now (d .entry)) q)) ⌝ }
 {
     let flags = q.header.flags;
+    let row = q.places;
     let p = put_header(out, 0, q.header);
-    let p = put_items_if(format::items_there(flags), out, p, d, q.items);
-    let p = put_info_if(format::info_there(flags), out, p, q.info, s.info, d);
-    let p = put_strings(out, p, q, d);
-    put_blocks(out, p, d, q.blocks)
+    let p = put_items_if(format::items_there(flags), out, p, d, row[format::ITEMS]);
+    let p = put_info(format::info_there(flags), out, p, q, s, sizes, d);
+    let p = put_slots(out, p, row, s, d, format::STRINGS, format::BLOCKS);
+    put_blocks(out, p, d, row[format::BLOCKS])
 }

@@ -6,10 +6,8 @@ ghost use lib.ListN.{length, replicate};
 ghost use Rattle.octets.specs.Characters.{bytesOf};
 ghost use Rattle.octets.specs.Steps.Puts.{Wrote};
 ghost use Rattle.format.specs.Contents.{bytesAt};
-ghost use Rattle.format.specs.Writing.{ifThere, textBytes};
-ghost use Rattle.sizes.specs.Steps.InBuffer.{InBuffer};
-ghost use Rattle.sizes.specs.Steps.Sizes.{writtenText, writtenTextIf};
-ghost use Rattle.canonical.specs.Steps.Puts.{Room};
+ghost use Rattle.format.specs.Writing.{textBytes};
+ghost use Rattle.canonical.specs.Steps.Puts.{writtenText, InBuffer, Room};
 
 // The bytes of the body at its place in the body buffer d.
 pub fn put_body(out: &mut [u8], at: usize, d: &[u8], b: Place) -> usize
@@ -19,7 +17,8 @@ pub fn put_body(out: &mut [u8], at: usize, d: &[u8], b: Place) -> usize
 {
     let from = b.at;
     let n = b.len;
-    octets::put_bytes(out, at, octets::part(d, from, n));
+    let end = from + n;
+    octets::put_bytes(out, at, &d[from..end]);
     at + n
 }
 
@@ -46,25 +45,4 @@ pub fn put_text(out: &mut [u8], at: usize, d: &[u8], unicode: bool, b: Place) ->
 {
     let p = put_body(out, at, d, b);
     put_end(out, p, unicode)
-}
-
-// A string that is there or not.
-pub fn put_text_if(
-    there: bool,
-    out: &mut [u8],
-    at: usize,
-    d: &[u8],
-    unicode: bool,
-    b: Place,
-) -> usize
-    requires { ⌜ InBuffer (now d) b ⌝ }
-    requires { ⌜ Room (now out) at (writtenTextIf there unicode b) ⌝ }
-    ensures written { λ r. ⌜ Wrote (now (out .entry)) at
-        (ifThere there (textBytes unicode) (bytesAt (now (d .entry)) b))
-        (writtenTextIf there unicode b) (now (out .exit)) r ⌝ }
-{
-    if there {
-        return put_text(out, at, d, unicode, b);
-    }
-    at
 }

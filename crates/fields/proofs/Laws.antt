@@ -1,29 +1,26 @@
 -- What the tests of the numbers tell, and the parts of a record put together.
-use mathlib.Core.Path.{_≡_, refl, ap, _∙_}
-use mathlib.Core.List.{List, [], _∷_, _++_}
+use mathlib.Core.Path.{_≡_, refl, sym, ap, _∙_}
+use mathlib.Core.List.{List, [], _∷_, _++_, append-nil}
 use mathlib.Core.Bool.{Bool, true, _&&_}
-use Prim.Native.Nat.{ℕ, _<_}
+use Prim.Native.Nat.{ℕ, zero, suc, _+_, _*_, _≤_, _<_}
 use native.Mathlib.Omega.{arith}
-use lib.ListN.{length, getD, drop-of-length-le}
+use native.Mathlib.Nat.{zero-add, add-zero}
+use lib.ListN.{length, getD, set, drop-of-length-le}
+use lib.Seq.{ext-getD}
 use lib.Dec.{ltb}
 use lib.IntN.{ℤ}
 use borrow.Author.Tests.{ltb-true}
 use Rattle.octets.specs.Parts.{put}
-use Rattle.octets.proofs.PartLaws.{put-put}
+use Rattle.octets.proofs.PartLaws.{putting, put-more, put-put}
 use Rattle.format.specs.declared.Place.{Place}
 use Rattle.format.specs.declared.Header.{Header}
-use Rattle.format.specs.declared.Label.{Label}
-use Rattle.format.specs.declared.Volume.{Volume}
-use Rattle.format.specs.declared.Network.{Network}
-use Rattle.format.specs.declared.Info.{Info}
+use Rattle.format.specs.declared.Link.{Link}
 use Rattle.format.specs.declared.Record.{Record}
-use Rattle.format.specs.Tests.{oneOr0}
+use Rattle.format.specs.Tests.{noPlace, oneOr0}
 use Rattle.format.specs.Header.{signed}
-use Rattle.format.specs.Volume.{labelOf}
-use Rattle.format.specs.Bodies.{labelKind}
 use Rattle.format.specs.Writing.{bits}
 use Rattle.format.proofs.Bools.{and-true, every-out}
-use Rattle.fields.specs.Fields.{fieldCount, numbersOf, placesOf, fieldsOf, wordAt, flagAt, headerNumbers, infoNumbers, areRecord, trueAt, slotAt, headerFrom, volumeFrom, networkFrom, infoFrom, recordFrom}
+use Rattle.fields.specs.Fields.{fieldCount, numbersOf, pairs, fieldsOf, wordAt, flagAt, headerNumbers, infoNumbers, areRecord, headerFrom, linkFrom, slotAt, rowFrom, placesFrom, recordFrom}
 
 module _ (f : List ℕ) where
   abbrev Word : ℕ → Type 0
@@ -104,61 +101,30 @@ module _ (f : List ℕ) where
   unfolding headerFrom
   header-is e = rw e
 
-  pub volume-is : {b : Place} {l : Label} → b ≡ slotAt f 1 → l ≡ labelOf (trueAt f 13) b
-      → _≡_ {A = Volume} (record { drive = getD f 11 0; serial = getD f 12 0; label = l }) (volumeFrom f)
-  unfolding volumeFrom
-  volume-is e k = rw (k, e)
-
-  pub network-is : {a b c d : Place} → a ≡ slotAt f 3 → b ≡ slotAt f 4 → c ≡ slotAt f 5 → d ≡ slotAt f 6
-      → _≡_ {A = Network}
-      (record {
-        flags = getD f 14 0;
-        provider = getD f 15 0;
-        unicode = trueAt f 16;
-        net = a;
-        device = b;
-        «net_unicode» = c;
-        «device_unicode» = d;
-      }) (networkFrom f)
-  unfolding networkFrom
-  network-is e g h k = rw (e, g, h, k)
-
-  pub info-is : {v : Volume} {a : Place} {n : Network} {b c d : Place} → v ≡ volumeFrom f → a ≡ slotAt f 2 → n ≡ networkFrom f → b ≡ slotAt f 7
-      → c ≡ slotAt f 8 → d ≡ slotAt f 9
-      → _≡_ {A = Info}
-      (record {
-        flags = getD f 9 0;
-        long = trueAt f 10;
-        volume = v;
-        local = a;
-        network = n;
-        suffix = b;
-        «local_unicode» = c;
-        «suffix_unicode» = d;
-      }) (infoFrom f)
-  unfolding infoFrom
-  info-is e g h k l m = rw (e, g, h, k, l, m)
-
-  pub record-is : {h : Header} {a : Place} {i : Info} {b c d e g k : Place} → h ≡ headerFrom f → a ≡ slotAt f 0 → i ≡ infoFrom f → b ≡ slotAt f 10
-      → c ≡ slotAt f 11 → d ≡ slotAt f 12 → e ≡ slotAt f 13 → g ≡ slotAt f 14 → k ≡ slotAt f 15
-      → _≡_ {A = Record}
-      (record {
-        header = h;
-        items = a;
-        info = i;
-        name = b;
-        relative = c;
-        workdir = d;
-        arguments = e;
-        icon = g;
-        blocks = k;
-      }) (recordFrom f)
+  pub record-is : {h : Header} {l : Link} {ps : List Place} → h ≡ headerFrom f → l ≡ linkFrom f → ps ≡ placesFrom f
+      → _≡_ {A = Record} (record { header = h; link = l; places = ps }) (recordFrom f)
   unfolding recordFrom
-  record-is p q r s t u v w x = rw (p, q, r, s, t, u, v, w, x)
+  record-is p q r = rw (p, q, r)
+
+  -- ---- the row of slots
+
+  row-at : (k n j : ℕ) → j < n → getD (rowFrom f k n) j noPlace ≡ slotAt f (k + j)
+  row-at k zero j h = absurd (omega arith)
+  row-at k (suc n) zero h = rw add-zero
+  row-at k (suc n) (suc j) h =
+      let i : k + 1 + j ≡ k + suc j = omega arith in
+      rw i at (row-at (k + 1) n j (omega arith))
+
+  -- a row that has them all
+  pub row-whole : (row : List Place) → length row ≡ 16 → ((j : ℕ) → j < 16 → getD row j noPlace ≡ slotAt f j) → row ≡ placesFrom f
+  unfolding placesFrom
+  row-whole row l h =
+      ext-getD noPlace row (rowFrom f 0 16) l
+      (λ j k. let b : j < 16 = omega arith in h j b ∙ sym (rw zero-add at (row-at 0 16 j b)))
 
 -- the numbers of a record from those that are computed
-pub numbers-are : (q : Record) {x u v w : ℕ} {b : Bool} → x ≡ bits (q .header .«icon_index») → u ≡ oneOr0 (q .info .long)
-    → b ≡ labelKind (q .info .volume .label) → v ≡ oneOr0 b → w ≡ oneOr0 (q .info .network .unicode)
+pub numbers-are : (q : Record) {x u v w : ℕ} → x ≡ bits (q .header .«icon_index») → u ≡ oneOr0 (q .link .long) → v ≡ oneOr0 (q .link .«label_unicode»)
+    → w ≡ oneOr0 (q .link .«network_unicode»)
     → (q .header .flags
     ∷ q .header .attributes
     ∷ q .header .creation
@@ -168,23 +134,55 @@ pub numbers-are : (q : Record) {x u v w : ℕ} {b : Bool} → x ≡ bits (q .hea
     ∷ x
     ∷ q .header .command
     ∷ q .header .hotkey
-    ∷ q .info .flags
+    ∷ q .link .flags
     ∷ u
-    ∷ q .info .volume .drive
-    ∷ q .info .volume .serial
+    ∷ q .link .drive
+    ∷ q .link .serial
     ∷ v
-    ∷ q .info .network .flags
-    ∷ q .info .network .provider
+    ∷ q .link .«network_flags»
+    ∷ q .link .provider
     ∷ w
     ∷ []) ≡ numbersOf q
 unfolding numbersOf
-numbers-are q e g h k l = rw (e, g, k, h, l)
+numbers-are q e g h k = rw (e, g, h, k)
 
--- all 49 numbers put one after another leave nothing of what was there
-module _ (d : List ℕ) (q : Record) {x y n p : List ℕ} (size : length d ≡ fieldCount) (numbers : n ≡ numbersOf q) (places : p ≡ placesOf q) where
-  pub filled : x ≡ put d 0 n → y ≡ put x 17 p → y ≡ fieldsOf q
-  unfolding fieldsOf numbersOf placesOf put
-  filled h k =
-      rw (k, h, places, numbers)
-      (put-put d 0 (numbersOf q) (placesOf q) refl (omega (arith, size))
-      ∙ ap (λ (t : List ℕ). (numbersOf q ++ placesOf q) ++ t) (drop-of-length-le d {i = fieldCount} (omega (arith, size))))
+-- ---- the pairs
+
+pub pairs-at : (ps : List Place) (k : ℕ) → getD (pairs ps) (2 * k) 0 ≡ getD ps k noPlace .at
+pairs-at [] k = refl
+pairs-at (p ∷ ps) zero = refl
+pairs-at (p ∷ ps) (suc k) = let e : 2 * suc k ≡ suc (suc (2 * k)) = omega arith in rw e (pairs-at ps k)
+
+pub pairs-len : (ps : List Place) (k : ℕ) → getD (pairs ps) (2 * k + 1) 0 ≡ getD ps k noPlace .len
+pairs-len [] k = refl
+pairs-len (p ∷ ps) zero = refl
+pairs-len (p ∷ ps) (suc k) = let e : 2 * suc k + 1 ≡ suc (suc (2 * k + 1)) = omega arith in rw e (pairs-len ps k)
+
+pub length-pairs : (ps : List Place) → length (pairs ps) ≡ 2 * length ps
+length-pairs [] = refl
+length-pairs (p ∷ ps) = omega (arith, length-pairs ps)
+
+-- the pair of slot k more
+pub pair-more : (d : List ℕ) (ps : List Place) (k : ℕ) {x : List ℕ} → x ≡ putting d 17 (pairs ps) (2 * k) → 17 + 2 * length ps ≤ length d → k < length ps
+    → set (set x (17 + 2 * k) (getD ps k noPlace .at)) (17 + 2 * k + 1) (getD ps k noPlace .len) ≡ putting d 17 (pairs ps) (2 * (k + 1))
+pair-more d ps k {x} e h l =
+    let m = length-pairs ps in
+    let one : set x (17 + 2 * k) (getD ps k noPlace .at) ≡ putting d 17 (pairs ps) (2 * k + 1)
+    = rw (← pairs-at ps k) (put-more d 17 (pairs ps) (2 * k) e (omega arith) (omega arith)) in
+    let i : 17 + 2 * k + 1 ≡ 17 + (2 * k + 1) = omega arith in
+    let j : 2 * k + 1 + 1 ≡ 2 * (k + 1) = omega arith in
+    rw (i, ← pairs-len ps k, ← j) (put-more d 17 (pairs ps) (2 * k + 1) one (omega arith) (omega arith))
+
+-- a put as long as the buffer leaves nothing of what was there
+put-over : (d w : List ℕ) → length d ≡ length w → put d 0 w ≡ w
+unfolding put
+put-over d w e = ap (λ (t : List ℕ). w ++ t) (drop-of-length-le d {i = 0 + length w} (omega arith)) ∙ append-nil w
+
+-- all 49 numbers, put one after another
+pub filled : (d : List ℕ) (q : Record) {x y n : List ℕ} → length d ≡ fieldCount → length (q .places) ≡ 16 → n ≡ numbersOf q → x ≡ put d 0 n → y ≡ put x 17 (pairs (q .places)) → y ≡ fieldsOf q
+unfolding fieldsOf numbersOf
+filled d q size row numbers h k =
+    let m = length-pairs (q .places) in
+    k
+    ∙ rw (h, numbers) (put-put d 0 (numbersOf q) (pairs (q .places)) refl (omega (arith, size)))
+    ∙ put-over d (numbersOf q ++ pairs (q .places)) (omega (arith, size))

@@ -1,28 +1,27 @@
 -- From a record to its numbers and back, and from numbers to their record and back.
-use mathlib.Core.Path.{_≡_, refl, ap}
+use mathlib.Core.Path.{_≡_, refl, sym, ap, _∙_}
 use mathlib.Core.List.{List, [], _∷_}
 use mathlib.Core.Bool.{Bool, true, false}
-use Prim.Native.Nat.{ℕ, zero, suc, _<_, _-_, _^_}
+use Prim.Native.Nat.{ℕ, zero, suc, _+_, _*_, _<_, _-_, _^_}
 use native.Mathlib.Omega.{arith}
-use lib.ListN.{length, getD}
+use lib.ListN.{length, getD, length-append}
+use lib.Seq.{getD-append-add}
 use lib.Dec.{ltb, eqb}
 use borrow.Author.Tests.{lt-ltb, le-ltb}
-use Rattle.format.specs.declared.Place.{Place}
-use Rattle.format.specs.declared.Label.{Label}
-use Rattle.format.specs.declared.Label.the-variants.{Byte, Unicode}
+use Rattle.format.specs.declared.Header.{Header}
+use Rattle.format.specs.declared.Link.{Link}
 use Rattle.format.specs.declared.Record.{Record}
-use Rattle.format.specs.Tests.{oneOr0}
+use Rattle.format.specs.Tests.{place, oneOr0}
 use Rattle.format.specs.Header.{signed}
-use Rattle.format.specs.Volume.{labelOf}
-use Rattle.format.specs.Bodies.{labelKind, labelPlace}
+use Rattle.format.specs.Bodies.{placeIn}
 use Rattle.format.specs.Writing.{bits}
 use Rattle.format.proofs.Bools.{by-order}
-use Rattle.format.proofs.Ranges.{FitsRecord}
+use Rattle.format.proofs.Ranges.{FitsHeader, FitsRecord}
 use Rattle.format.proofs.HeaderLaws.{signed-bits, bits-fit, signed-fits}
-use Rattle.fields.specs.Fields.{fieldCount, numbersOf, placesOf, fieldsOf, headerNumbers, infoNumbers, areRecord, headerFrom, volumeFrom, networkFrom, infoFrom, recordFrom}
-use Rattle.fields.proofs.Laws.{header-fits, info-fits, both-parts}
+use Rattle.fields.specs.Fields.{fieldCount, numbersOf, pairs, fieldsOf, headerNumbers, infoNumbers, areRecord, headerFrom, linkFrom, slotAt, placesFrom, recordFrom}
+use Rattle.fields.proofs.Laws.{header-fits, info-fits, both-parts, record-is, row-whole, pairs-at, pairs-len, length-pairs}
 
--- ---- one number, one choice, one label
+-- ---- one number, one choice
 
 flag-back : (b : Bool) → eqb (oneOr0 b) 1 ≡ b
 flag-back true = refl
@@ -33,18 +32,6 @@ flag-kept zero h = refl
 flag-kept (suc zero) h = refl
 flag-kept (suc (suc n)) h = absurd (omega arith)
 
-label-back : (l : Label) → labelOf (eqb (oneOr0 (labelKind l)) 1) (labelPlace l) ≡ l
-label-back (Byte b) = refl
-label-back (Unicode b) = refl
-
-kind-kept : (b : Bool) (p : Place) → labelKind (labelOf b p) ≡ b
-kind-kept true p = refl
-kind-kept false p = refl
-
-place-kept : (b : Bool) (p : Place) → labelPlace (labelOf b p) ≡ p
-place-kept true p = refl
-place-kept false p = refl
-
 bits-kept : (n : ℕ) → n < 4294967296 → bits (signed n) ≡ n
 unfolding bits signed
 bits-kept n h =
@@ -54,25 +41,41 @@ bits-kept n h =
 
 -- ---- the record
 
-pub record-back : (q : Record) → FitsRecord q → recordFrom (fieldsOf q) ≡ q
-unfolding recordFrom headerFrom infoFrom volumeFrom networkFrom fieldsOf numbersOf placesOf
-record-back q t =
-    rw (signed-bits (q .header .«icon_index») (t .header .«icon_index»), flag-back (q .info .long), label-back (q .info .volume .label), flag-back (q .info .network .unicode))
+header-back : (q : Record) → FitsHeader (q .header) → q .header ≡ headerFrom (fieldsOf q)
+unfolding headerFrom fieldsOf numbersOf
+header-back q t = rw (signed-bits (q .header .«icon_index») (t .«icon_index»))
+
+link-back : (q : Record) → q .link ≡ linkFrom (fieldsOf q)
+unfolding linkFrom fieldsOf numbersOf
+link-back q = rw (flag-back (q .link .long), flag-back (q .link .«label_unicode»), flag-back (q .link .«network_unicode»))
+
+slot-back : (q : Record) (k : ℕ) → placeIn q k ≡ slotAt (fieldsOf q) k
+unfolding fieldsOf numbersOf
+slot-back q k =
+    let ps = q .places in
+    let a = getD-append-add (numbersOf q) (pairs ps) (2 * k) 0 ∙ pairs-at ps k in
+    let i : 17 + 2 * k + 1 ≡ 17 + (2 * k + 1) = omega arith in
+    let n = rw (← i) at (getD-append-add (numbersOf q) (pairs ps) (2 * k + 1) 0 ∙ pairs-len ps k) in
+    sym (rw (a, n))
+
+pub record-back : (q : Record) → FitsRecord q → length (q .places) ≡ 16 → recordFrom (fieldsOf q) ≡ q
+record-back q t row =
+    sym (record-is (fieldsOf q) (header-back q (t .header)) (link-back q) (row-whole (fieldsOf q) (q .places) row (λ j h. slot-back q j)))
 
 -- its numbers are as many as there are fields, and are a record
-pub fields-counted : (q : Record) → length (fieldsOf q) ≡ fieldCount
-unfolding fieldsOf numbersOf placesOf
-fields-counted q = refl
+pub fields-counted : (q : Record) → length (q .places) ≡ 16 → length (fieldsOf q) ≡ fieldCount
+unfolding fieldsOf numbersOf
+fields-counted q row = omega (arith, length-pairs (q .places))
 
 flag-small : (b : Bool) → ltb (oneOr0 b) 2 ≡ true
 flag-small true = refl
 flag-small false = refl
 
 pub fields-record : (q : Record) → FitsRecord q → areRecord (fieldsOf q) ≡ true
-unfolding areRecord headerNumbers infoNumbers fieldsOf numbersOf placesOf
+unfolding areRecord headerNumbers infoNumbers fieldsOf numbersOf
 fields-record q t =
     let h = t .header in
-    let i = t .info in
+    let l = t .link in
     let word : (n : ℕ) → n < 4294967296 → ltb n 4294967296 ≡ true = λ n k. lt-ltb n 4294967296 k in
     rw (
       word (q .header .flags) (h .flags),
@@ -81,19 +84,19 @@ fields-record q t =
       word (bits (q .header .«icon_index»)) (bits-fit (q .header .«icon_index») (h .«icon_index»)),
       word (q .header .command) (h .command),
       lt-ltb (q .header .hotkey) 65536 (h .hotkey),
-      word (q .info .flags) (i .flags),
-      flag-small (q .info .long),
-      word (q .info .volume .drive) (i .drive),
-      word (q .info .volume .serial) (i .serial),
-      flag-small (labelKind (q .info .volume .label)),
-      word (q .info .network .flags) (i .networkFlags),
-      word (q .info .network .provider) (i .provider),
-      flag-small (q .info .network .unicode),
+      word (q .link .flags) (l .flags),
+      flag-small (q .link .long),
+      word (q .link .drive) (l .drive),
+      word (q .link .serial) (l .serial),
+      flag-small (q .link .«label_unicode»),
+      word (q .link .«network_flags») (l .networkFlags),
+      word (q .link .provider) (l .provider),
+      flag-small (q .link .«network_unicode»),
     )
 
 -- what filled the fields with them has both, of a record that fits
-pub round-trip : (q : Record) → FitsRecord q → {x : List ℕ} → x ≡ fieldsOf q → (x ≡ fieldsOf q) × ((areRecord x ≡ true) × (recordFrom x ≡ q))
-round-trip q t e = (e, (rw e (fields-record q t), rw e (record-back q t)))
+pub round-trip : (q : Record) → FitsRecord q → length (q .places) ≡ 16 → {x : List ℕ} → x ≡ fieldsOf q → (x ≡ fieldsOf q) × ((areRecord x ≡ true) × (recordFrom x ≡ q))
+round-trip q t row e = (e, (rw e (fields-record q t), rw e (record-back q t row)))
 
 -- ---- the numbers
 
@@ -103,7 +106,7 @@ pub record Longs (f : List ℕ) : Type 0 where
 
 -- the record that they are fits
 pub record-fits : (f : List ℕ) → Longs f → areRecord f ≡ true → FitsRecord (recordFrom f)
-unfolding recordFrom headerFrom infoFrom volumeFrom networkFrom
+unfolding recordFrom headerFrom linkFrom
 record-fits f w e =
     let parts = both-parts f e in
     let h = header-fits f (parts .0) in
@@ -120,7 +123,7 @@ record-fits f w e =
         command = h .command;
         hotkey = h .hotkey;
       };
-      info = record { flags = i .flags; drive = i .drive; serial = i .serial; networkFlags = i .network; provider = i .provider };
+      link = record { flags = i .flags; drive = i .drive; serial = i .serial; networkFlags = i .network; provider = i .provider };
     }
 
 abbrev spelled : (ℕ → ℕ) → ℕ → List ℕ
@@ -132,7 +135,7 @@ spelled-whole [] = refl
 spelled-whole (x ∷ f) = ap (λ (t : List ℕ). x ∷ t) (spelled-whole f)
 
 pub fields-back : (f : List ℕ) → length f ≡ fieldCount → areRecord f ≡ true → fieldsOf (recordFrom f) ≡ f
-unfolding recordFrom headerFrom infoFrom volumeFrom networkFrom fieldsOf numbersOf placesOf
+unfolding recordFrom headerFrom linkFrom placesFrom fieldsOf numbersOf
 fields-back f l e =
     let parts = both-parts f e in
     let h = header-fits f (parts .0) in
@@ -141,8 +144,6 @@ fields-back f l e =
     rw (
       bits-kept (getD f 6 0) (h .icon),
       flag-kept (getD f 10 0) (i .long),
-      kind-kept (eqb (getD f 13 0) 1) _,
       flag-kept (getD f 13 0) (i .kind),
       flag-kept (getD f 16 0) (i .unicode),
-      place-kept (eqb (getD f 13 0) 1) _,
     ) s

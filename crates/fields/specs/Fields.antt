@@ -1,20 +1,15 @@
 -- FORMAT: The record as numbers. 49 of them, in one fixed order.
-use Prim.Native.Nat.{ℕ, _+_, _*_}
+use Prim.Native.Nat.{ℕ, zero, suc, _+_, _*_}
 use mathlib.Core.List.{List, [], _∷_, _++_}
 use mathlib.Core.Bool.{Bool, _&&_}
 use lib.ListN.{length, getD}
 use lib.Dec.{ltb, eqb}
 use Rattle.format.specs.declared.Place.{Place}
-use Rattle.format.specs.declared.Label.the-variants.{Unicode}
 use Rattle.format.specs.declared.Header.{Header}
-use Rattle.format.specs.declared.Volume.{Volume}
-use Rattle.format.specs.declared.Network.{Network}
-use Rattle.format.specs.declared.Info.{Info}
+use Rattle.format.specs.declared.Link.{Link}
 use Rattle.format.specs.declared.Record.{Record}
 use Rattle.format.specs.Tests.{place, oneOr0}
 use Rattle.format.specs.Header.{signed}
-use Rattle.format.specs.Volume.{labelOf}
-use Rattle.format.specs.Bodies.{labelKind, bodies}
 use Rattle.format.specs.Writing.{bits, every}
 
 abbrev pub fieldCount : ℕ
@@ -35,14 +30,14 @@ numbersOf q =
     ∷ bits (q .header .«icon_index»)
     ∷ q .header .command
     ∷ q .header .hotkey
-    ∷ q .info .flags
-    ∷ oneOr0 (q .info .long)
-    ∷ q .info .volume .drive
-    ∷ q .info .volume .serial
-    ∷ oneOr0 (labelKind (q .info .volume .label))
-    ∷ q .info .network .flags
-    ∷ q .info .network .provider
-    ∷ oneOr0 (q .info .network .unicode)
+    ∷ q .link .flags
+    ∷ oneOr0 (q .link .long)
+    ∷ q .link .drive
+    ∷ q .link .serial
+    ∷ oneOr0 (q .link .«label_unicode»)
+    ∷ q .link .«network_flags»
+    ∷ q .link .provider
+    ∷ oneOr0 (q .link .«network_unicode»)
     ∷ []
 
 -- place and length of each
@@ -50,12 +45,10 @@ abbrev pub pairs : List Place → List ℕ
 pairs [] = []
 pairs (b ∷ bs) = b .at ∷ b .len ∷ pairs bs
 
-unfoldable pub placesOf : Record → List ℕ
-placesOf q = pairs (bodies q)
-
+-- the numbers, then the row slot by slot
 unfoldable pub fieldsOf : Record → List ℕ
-unfolding numbersOf placesOf
-fieldsOf q = numbersOf q ++ placesOf q
+unfolding numbersOf
+fieldsOf q = numbersOf q ++ pairs (q .places)
 
 -- ---- to the record: which numbers are one, and which one they are
 
@@ -80,10 +73,6 @@ module _ (f : List ℕ) where
   abbrev pub trueAt : ℕ → Bool
   trueAt i = eqb (getD f i 0) 1
 
-  -- the place in slot k, as the table of bodies counts them
-  abbrev pub slotAt : ℕ → Place
-  slotAt k = place (getD f (17 + 2 * k) 0) (getD f (17 + 2 * k + 1) 0)
-
   unfoldable pub headerFrom : Header
   headerFrom = record {
     flags = getD f 0 0;
@@ -97,43 +86,30 @@ module _ (f : List ℕ) where
     hotkey = getD f 8 0;
   }
 
-  unfoldable pub volumeFrom : Volume
-  volumeFrom = record { drive = getD f 11 0; serial = getD f 12 0; label = labelOf (trueAt 13) (slotAt 1) }
-
-  unfoldable pub networkFrom : Network
-  networkFrom = record {
-    flags = getD f 14 0;
-    provider = getD f 15 0;
-    unicode = trueAt 16;
-    net = slotAt 3;
-    device = slotAt 4;
-    «net_unicode» = slotAt 5;
-    «device_unicode» = slotAt 6;
-  }
-
-  unfoldable pub infoFrom : Info
-  unfolding volumeFrom networkFrom
-  infoFrom = record {
+  unfoldable pub linkFrom : Link
+  linkFrom = record {
     flags = getD f 9 0;
     long = trueAt 10;
-    volume = volumeFrom;
-    local = slotAt 2;
-    network = networkFrom;
-    suffix = slotAt 7;
-    «local_unicode» = slotAt 8;
-    «suffix_unicode» = slotAt 9;
+    drive = getD f 11 0;
+    serial = getD f 12 0;
+    «label_unicode» = trueAt 13;
+    «network_flags» = getD f 14 0;
+    provider = getD f 15 0;
+    «network_unicode» = trueAt 16;
   }
 
+  -- the place in slot k
+  abbrev pub slotAt : ℕ → Place
+  slotAt k = place (getD f (17 + 2 * k) 0) (getD f (17 + 2 * k + 1) 0)
+
+  -- n slots from k on
+  abbrev pub rowFrom : ℕ → ℕ → List Place
+  rowFrom k zero = []
+  rowFrom k (suc n) = slotAt k ∷ rowFrom (k + 1) n
+
+  unfoldable pub placesFrom : List Place
+  placesFrom = rowFrom 0 16
+
   unfoldable pub recordFrom : Record
-  unfolding headerFrom infoFrom
-  recordFrom = record {
-    header = headerFrom;
-    items = slotAt 0;
-    info = infoFrom;
-    name = slotAt 10;
-    relative = slotAt 11;
-    workdir = slotAt 12;
-    arguments = slotAt 13;
-    icon = slotAt 14;
-    blocks = slotAt 15;
-  }
+  unfolding headerFrom linkFrom placesFrom
+  recordFrom = record { header = headerFrom; link = linkFrom; places = placesFrom }

@@ -17,14 +17,13 @@ use Rattle.format.specs.declared.Verdict.the-variants.{Accepted, Refused
 use Rattle.format.specs.declared.Spot.{Spot}
 use Rattle.format.specs.Tests.{Outcome, got, refused, _else_at_, tests, andThen, section, noSection, spotAt}
 use Rattle.format.specs.Shortcut.{Sections, most, sections, shortcut, recordOf, noRecord, verdictOf, heldBy, reading}
-use Rattle.format.specs.Bodies.{placed, bodies, allInside}
+use Rattle.format.specs.Bodies.{placeIn, allInside, placed}
 use Rattle.format.specs.Contents.{Contents, present, bodiesOf, contents}
 use Rattle.format.specs.Demands.{Refuses}
 use Rattle.format.proofs.Chains.{passed, got-elim, no-value}
 use Rattle.format.proofs.WholeLaws.{decode}
-use Rattle.format.proofs.PlaceLaws.{mapped, all-in}
+use Rattle.format.proofs.PlaceLaws.{mapped, slot-inside}
 use Rattle.format.proofs.ReadingLaws.{decode-is}
-use Rattle.format.proofs.TableLaws.{placed-present}
 use Rattle.format.proofs.FoundLaws.{read-present, read-inside}
 
 pub record Whole (s : List ℕ) (c : Sections) (n : ℕ) : Type 0 where
@@ -85,14 +84,6 @@ refused-read s {f} {p} e = go (shortcut s) refl e
 abbrev In : ℕ → Place → Type 0
 In n b = b .at + b .len ≤ n
 
--- the bodies that a target and a key are made of
-pub record BodiesIn (n : ℕ) (r : Record) : Type 0 where
-  pub local : In n (r .info .local)
-  pub net : In n (r .info .network .net)
-  pub suffix : In n (r .info .suffix)
-  pub workdir : In n (r .workdir)
-  pub arguments : In n (r .arguments)
-
 module _ (s : List ℕ) (r : Record) (n : ℕ) (e : reading s ≡ record { verdict = Accepted n; held = r }) where
   reads : Read s r n
   reads = accepted-read s r n e
@@ -110,19 +101,18 @@ module _ (s : List ℕ) (r : Record) (n : ℕ) (e : reading s ≡ record { verdi
       ap present (sym (x .held)) ∙ read-present s (x .sections) n ((shortcut-whole s (x .sections) n (x .is)) .read) ∙ x .held
 
   -- its bodies lie inside
-  pub accepted-inside : placed (length s) r ≡ true
-  accepted-inside =
+  all-inside : allInside (length s) (r .places) ≡ true
+  all-inside =
       let x = reads in
       let w = shortcut-whole s (x .sections) n (x .is) in
-      let i = read-inside s (x .sections) n (w .read) (omega (arith, w .all)) in
-      placed-present r (length s) ∙ ap (λ (q : Record). allInside (length s) (bodies q)) (accepted-present ∙ sym (x .held)) ∙ i
+      ap (λ (q : Record). allInside (length s) (q .places)) (sym (x .held)) ∙ read-inside s (x .sections) n (w .read) (omega (arith, w .all))
 
-  pub accepted-bodies : BodiesIn (length s) r
-  accepted-bodies =
-      let inside = ap (λ (q : Record). allInside (length s) (bodies q)) (sym accepted-present) ∙ sym (placed-present r (length s)) ∙ accepted-inside in
-      let (items, (label, (local, (net, (device, (netUnicode, (deviceUnicode, (suffix, (localUnicode, (suffixUnicode, (name, (relative, (workdir, (arguments, rest))))))))))))))
-      = all-in (length s) (bodies r) inside in
-      record { local = local; net = net; suffix = suffix; workdir = workdir; arguments = arguments }
+  pub accepted-inside : placed (length s) r ≡ true
+  unfolding placed present
+  accepted-inside = ap (λ (q : Record). allInside (length s) (q .places)) accepted-present ∙ all-inside
+
+  pub accepted-bodies : (k : ℕ) → In (length s) (placeIn r k)
+  accepted-bodies k = slot-inside (length s) (r .places) k all-inside
 
   pub accepted-decode : decode s ≡ got (contents s r) n
   unfolding contents

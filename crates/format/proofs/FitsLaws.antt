@@ -23,17 +23,17 @@ use Rattle.format.specs.Items.{items}
 use Rattle.format.specs.Blocks.{blocks}
 use Rattle.format.specs.Volume.{volumeSize, volumeAt}
 use Rattle.format.specs.Network.{networkFlags, networkSize, networkAt}
-use Rattle.format.specs.Info.{infoSize, hasLocal, hasNetwork, infoRules, infoFields, info, noInfo}
+use Rattle.format.specs.Info.{infoSize, hasLocal, hasNetwork, infoRules, infoFields, info, noInfo, linkOf}
 use Rattle.format.specs.Shortcut.{Section, Tail, found, sectionIf, stringSection, tail, sections}
 use Rattle.format.specs.Demands.{Accepts}
 use Rattle.format.proofs.Record.{the-row}
-use Rattle.format.proofs.Ranges.{FitsSigned, FitsHeader, FitsInfo, FitsRecord}
-use Rattle.format.proofs.Chains.{tests-elim, got-elim}
+use Rattle.format.proofs.Ranges.{FitsSigned, FitsHeader, FitsLink, FitsRecord}
+use Rattle.format.proofs.Chains.{tests-elim}
 use Rattle.format.proofs.Sized.{sizedTests}
 use Rattle.format.proofs.HeaderLaws.{header-law}
 use Rattle.format.proofs.InfoLaws.{infoValue}
 use Rattle.format.proofs.TypedLaws.{kept-below}
-use Rattle.format.proofs.PlaceLaws.{found-elim, Always, chain-always, then-always}
+use Rattle.format.proofs.PlaceLaws.{found-elim, Always, chain-always, then-always, section-always}
 use Rattle.format.proofs.AcceptedLaws.{accepted-read, shortcut-whole}
 
 -- ---- a value of the type
@@ -45,11 +45,9 @@ magnitude-fits (negsuc n) h = h
 -- a struct's value has its fields' values, and a number's is below the power of two that its type has
 pub type-fits : (r : Record) (vs : List Val) → Is the-row r vs → FitsRecord r
 type-fits r vs g =
-    let (header, (items, (info, others))) = g .1 .1 in
+    let (header, (link, places)) = g .1 .1 in
     let (flags, (attributes, (creation, (access, (write, (size, (icon, (command, (hotkey, z))))))))) = header .1 .1 in
-    let (infoFlags, (long, (volume, (local, (network, texts))))) = info .1 .1 in
-    let (drive, (serial, label)) = volume .1 .1 in
-    let (networkFlags, (provider, names)) = network .1 .1 in
+    let (infoFlags, (long, (drive, (serial, (label, (networkFlags, (provider, z))))))) = link .1 .1 in
     record {
       header = record {
         flags = flags .1;
@@ -62,7 +60,7 @@ type-fits r vs g =
         command = command .1;
         hotkey = hotkey .1;
       };
-      info = record { flags = infoFlags .1; drive = drive .1; serial = serial .1; networkFlags = networkFlags .1; provider = provider .1 };
+      link = record { flags = infoFlags .1; drive = drive .1; serial = serial .1; networkFlags = networkFlags .1; provider = provider .1 };
     }
 
 -- ---- what is read from bytes
@@ -82,7 +80,7 @@ module _ (l : List ℕ) (bs : Bytes l) where
       (number-below 4 v 4 vs, kept-below (providerThere (networkFlags v)) (u32At v 16) (number-below 4 v 16 vs))
   network-below false p o = (omega arith, omega arith)
 
-  info-below : (p : ℕ) → FitsInfo (infoFields p l)
+  info-below : (p : ℕ) → FitsLink (linkOf (infoFields p l))
   info-below p =
       let v = volume-below (hasLocal l) p (u32At l 12) in
       let n = network-below (hasNetwork l) p (u32At l 20) in
@@ -101,19 +99,21 @@ module _ (s : List ℕ) (bs : Bytes s) where
         c n e;
   }
 
-  info-read : (p : ℕ) (i : Info) (n : ℕ) → info p (drop p s) ≡ got i n → FitsInfo i
+  info-read : (p : ℕ) (i : Info) (n : ℕ) → info p (drop p s) ≡ got i n → FitsLink (linkOf i)
   info-read p =
       let t : List ℕ = drop p s in
       let l : List ℕ = take (infoSize t) t in
-      tests-elim (λ i n. FitsInfo i) (section 2 p) (sizedTests 2 4 infoSize (λ n. leb 0x1C n else INFO at 0 ∷ []) infoRules infoValue t) (infoFields p l) (infoSize t)
+      tests-elim (λ i n. FitsLink (linkOf i)) (section 2 p) (sizedTests 2 4 infoSize (λ n. leb 0x1C n else INFO at 0 ∷ []) infoRules infoValue t) (infoFields p l) (infoSize t)
       (λ c. info-below l (bytes-take (infoSize t) t (bytes-drop p s bs)) p)
 
-  info-section : (b : Bool) → Always s (sectionIf b noInfo info) (λ c. FitsInfo (c .read))
-  info-section true = record { always = λ p c n e. found-elim info p (drop p s) (λ c n. FitsInfo (c .read)) (λ i n j. info-read p i n j) c n e }
-  info-section false = record { always = λ p c n e. got-elim (λ c n. FitsInfo (c .read)) e (record { flags = omega arith; drive = omega arith; serial = omega arith; networkFlags = omega arith; provider = omega arith }) }
+  info-section : (b : Bool) → Always s (sectionIf b noInfo info) (λ c. FitsLink (linkOf (c .read)))
+  info-section b =
+      section-always s info b noInfo (λ i. FitsLink (linkOf i))
+      (λ e. record { flags = omega arith; drive = omega arith; serial = omega arith; networkFlags = omega arith; provider = omega arith })
+      (λ e. info-read)
 
   abbrev TailFits : Tail → Type 0
-  TailFits c = Unit {0} × (FitsInfo (c .1 .0 .read) × Unit {0})
+  TailFits c = Unit {0} × (FitsLink (linkOf (c .1 .0 .read)) × Unit {0})
 
   sections-read : Always s sections (λ c. FitsHeader (c .0 .read) × TailFits (c .1))
   unfolding sections
@@ -132,4 +132,4 @@ accepted-fits s r e bs =
     let x = accepted-read s r (length s) e in
     let w = shortcut-whole s (x .sections) (length s) (x .is) in
     let z = sections-read s bs .always 0 (x .sections) (length s) (w .read) in
-    subst FitsRecord (x .held) (record { header = z .0; info = z .1 .1 .0 })
+    subst FitsRecord (x .held) (record { header = z .0; link = z .1 .1 .0 })

@@ -1,7 +1,7 @@
 -- What reading gives: zeros for what is absent, the blocks of a walk, bodies inside the file, and sections end to end.
-use mathlib.Core.Path.{_≡_, refl}
+use mathlib.Core.Path.{_≡_, refl, ap}
 use mathlib.Core.List.{List, [], _∷_, _++_}
-use mathlib.Core.Bool.{Bool, true, false, cond}
+use mathlib.Core.Bool.{Bool, true, false, _&&_, cond}
 use Prim.Native.Nat.{ℕ, _+_, _-_, _≤_, _<_}
 use native.Mathlib.Omega.{arith}
 use lib.ListN.{length, take, drop, length-take, length-drop}
@@ -14,21 +14,22 @@ use Rattle.octets.proofs.CharacterLaws.{characters-fit, bytes-of-le, bytes-of-a
 use Rattle.format.specs.declared.Place.{Place}
 use Rattle.format.specs.declared.Info.{Info}
 use Rattle.format.specs.declared.Header.{Header}
+use Rattle.format.specs.declared.Volume.{Volume}
 use Rattle.format.specs.declared.Network.{Network}
 use Rattle.format.specs.declared.Fault.the-variants.{Info as INFO}
 use Rattle.format.specs.Tests.{got, place, noPlace, _else_at_, Reader, chain, _then_, section}
 use Rattle.format.specs.Header.{header}
 use Rattle.format.specs.Items.{itemsLength, itemsRules, items}
 use Rattle.format.specs.Pieces.{textEnds, textLength, textPiece, textPlace, testsOf}
-use Rattle.format.specs.Volume.{labelUnicode, labelOffset, labelOf, noVolume, volumeAt, volumeFields, volumeRules, volumePiece}
+use Rattle.format.specs.Volume.{labelUnicode, labelOffset, labelOf, labelPlace, labelKind, noVolume, volumeAt, volumeFields, volumeRules, volumePiece}
 use Rattle.format.specs.Network.{networkFlags, hasDevice, networkUnicode, networkHead, networkAt, networkFields, noNetwork, networkHeadTests, networkRules, networkPiece, hasDeviceUnicode}
-use Rattle.format.specs.Info.{infoSize, infoHead, longHead, hasLocal, hasNetwork, infoHeadTests, infoRules, infoFields, info, noInfo, hasLocalUnicode}
-use Rattle.format.specs.Presence.{itemsThere, infoThere, nameBit, relativeBit, workdirBit, argumentsBit, iconBit, stringThere, stringsUnicode, providerThere}
+use Rattle.format.specs.Info.{infoSize, infoHead, longHead, hasLocal, hasNetwork, infoHeadTests, infoRules, infoFields, info, noInfo, hasLocalUnicode, linkOf, infoPlaces}
+use Rattle.format.specs.Presence.{itemsThere, infoThere, nameBit, relativeBit, workdirBit, argumentsBit, iconBit, stringThere, stringsUnicode, deviceThere, providerThere, deviceUnicodeThere}
 use Rattle.format.specs.Strings.{stringLength, string}
 use Rattle.format.specs.Blocks.{blocks}
-use Rattle.format.specs.Shortcut.{Section, Tail, Sections, blocksOf, found, sectionIf, stringSection, tail, sections, sum, recordOf}
-use Rattle.format.specs.Bodies.{labelPlace, bodies, allInside}
-use Rattle.format.specs.Contents.{presentNetwork, presentInfo, present}
+use Rattle.format.specs.Shortcut.{noLink, Section, Tail, Sections, blocksOf, found, sectionIf, stringSection, tail, sections, sum, recordOf}
+use Rattle.format.specs.Bodies.{bodyTable, zeroed, allInside}
+use Rattle.format.specs.Contents.{presentLink, present}
 use Rattle.format.specs.Listing.{Row, row, blockRows, rowsOf, EndToEnd}
 use Rattle.format.proofs.Bools.{choose-twice}
 use Rattle.format.proofs.Chains.{Pass, pass-split, tests-elim, chain-elim}
@@ -42,32 +43,88 @@ use Rattle.format.proofs.PlaceLaws.{found-elim, Always, chain-always, t
 
 -- ---- zeros for what is absent; the blocks of a walk
 
-network-present : (p : ℕ) (v : List ℕ) → presentNetwork (networkFields p v) ≡ networkFields p v
-network-present p v =
-    rw (
-      choose-twice (providerThere (networkFlags v)) (u32At v 16) 0,
-      choose-twice (hasDevice v) (place (p + u32At v 12) (textLength false (drop (u32At v 12) v))) noPlace,
-      choose-twice (networkUnicode v) (place (p + u32At v 20) (textLength true (drop (u32At v 20) v))) noPlace,
-      choose-twice (hasDeviceUnicode v) (place (p + u32At v 24) (textLength true (drop (u32At v 24) v))) noPlace,
-    )
+-- what belongs to a part that is there or not: d stands for the absent part
+part-kept : {A B : Type 0} (b : Bool) (a d : A) (g : A → B) → cond b (g (cond b a d)) (g d) ≡ g (cond b a d)
+part-kept true a d g = refl
+part-kept false a d g = refl
 
-network-there : (b : Bool) (p : ℕ) (v : List ℕ) → cond b (presentNetwork (cond b (networkFields p v) noNetwork)) noNetwork ≡ cond b (networkFields p v) noNetwork
-network-there true p v = network-present p v
-network-there false p v = refl
+inner-kept : {A B : Type 0} (b : Bool) (a d : A) (P : A → Bool) (g : A → B) → cond (P a) (g a) (g d) ≡ g a → cond (b && P (cond b a d)) (g (cond b a d)) (g d) ≡ g (cond b a d)
+inner-kept true a d P g e = e
+inner-kept false a d P g e = refl
 
-info-present : (p : ℕ) (l : List ℕ) → presentInfo (infoFields p l) ≡ infoFields p l
-info-present p l =
+module _ (p : ℕ) (l : List ℕ) where
+  abbrev i : Info
+  i = infoFields p l
+
+  abbrev volume : Volume
+  volume = volumeFields (p + u32At l 12) (take (u32At (drop (u32At l 12) l) 0) (drop (u32At l 12) l))
+
+  abbrev volume-kept : {B : Type 0} (g : Volume → B) → cond (hasLocal l) (g (i .volume)) (g noVolume) ≡ g (i .volume)
+  volume-kept g = part-kept (hasLocal l) volume noVolume g
+
+  abbrev v : List ℕ
+  v = take (u32At (drop (u32At l 20) l) 0) (drop (u32At l 20) l)
+
+  abbrev network : Network
+  network = networkFields (p + u32At l 20) v
+
+  abbrev network-kept : {B : Type 0} (g : Network → B) → cond (hasNetwork l) (g (i .network)) (g noNetwork) ≡ g (i .network)
+  network-kept g = part-kept (hasNetwork l) network noNetwork g
+
+  abbrev name-kept : {B : Type 0} (P : Network → Bool) (g : Network → B) → cond (P network) (g network) (g noNetwork) ≡ g network
+      → cond (hasNetwork l && P (i .network)) (g (i .network)) (g noNetwork) ≡ g (i .network)
+  name-kept P g e = inner-kept (hasNetwork l) network noNetwork P g e
+
+  link-present : presentLink (linkOf i) ≡ linkOf i
+  link-present =
+      rw (
+        volume-kept (λ v. v .drive),
+        volume-kept (λ v. v .serial),
+        volume-kept (λ v. labelKind (v .label)),
+        network-kept (λ n. n .flags),
+        name-kept (λ n. providerThere (n .flags)) (λ n. n .provider) (choose-twice (providerThere (networkFlags v)) (u32At v 16) 0),
+        network-kept (λ n. n .unicode),
+      )
+
+-- LinkInfo's slots, with zeros for what is absent
+abbrev keptInfo : ℕ → Info → List Place
+keptInfo flags i = take 9 (drop 1 (zeroed (bodyTable flags (linkOf i)) (noPlace ∷ infoPlaces i)))
+
+places-present : (flags p : ℕ) (l : List ℕ) → infoThere flags ≡ true → keptInfo flags (infoFields p l) ≡ infoPlaces (infoFields p l)
+places-present flags p l e =
+    let v : List ℕ = v p l in
     rw (
-      choose-twice (hasLocal l) (volumeFields (p + u32At l 12) (take (u32At (drop (u32At l 12) l) 0) (drop (u32At l 12) l))) noVolume,
+      e,
+      volume-kept p l (λ v. labelPlace (v .label)),
       choose-twice (hasLocal l) (place (p + u32At l 16) (textLength false (drop (u32At l 16) l))) noPlace,
-      network-there (hasNetwork l) (p + u32At l 20) (take (u32At (drop (u32At l 20) l) 0) (drop (u32At l 20) l)),
+      network-kept p l (λ n. n .net),
+      name-kept p l (λ n. deviceThere (n .flags)) (λ n. n .device) (choose-twice (hasDevice v) _ noPlace),
+      name-kept p l (λ n. n .unicode) (λ n. n .«net_unicode») (choose-twice (networkUnicode v) _ noPlace),
+      name-kept p l (λ n. deviceUnicodeThere (n .unicode) (n .flags)) (λ n. n .«device_unicode») (choose-twice (hasDeviceUnicode v) _ noPlace),
       choose-twice (hasLocalUnicode l) (place (p + u32At l 28) (textLength true (drop (u32At l 28) l))) noPlace,
       choose-twice (longHead l) (place (p + u32At l 32) (textLength true (drop (u32At l 32) l))) noPlace,
     )
 
 module _ (f : List ℕ) where
-  abbrev string-always : (flags k : ℕ) → Always f (stringSection flags k) (λ c. cond (stringThere k flags) (c .read) noPlace ≡ c .read)
-  string-always flags k = section-always f (string (k + 1) (stringsUnicode flags)) (stringThere k flags) noPlace (λ b. b) (λ p a n e. refl)
+  abbrev Kept : Bool → Place → Type 0
+  Kept there b = cond there b noPlace ≡ b
+
+  body-always : (P : Reader Place) (b : Bool) → Always f (sectionIf b noPlace P) (λ c. Kept b (c .read))
+  body-always P b = section-always f P b noPlace (Kept b) (λ e. rw e) (λ e p a n i. rw e)
+
+  abbrev string-always : (flags k : ℕ) → Always f (stringSection flags k) (λ c. Kept (stringThere k flags) (c .read))
+  string-always flags k = body-always (string (k + 1) (stringsUnicode flags)) (stringThere k flags)
+
+  abbrev KeptInfo : ℕ → Info → Type 0
+  KeptInfo flags i = (cond (infoThere flags) (presentLink (linkOf i)) noLink ≡ linkOf i) × (keptInfo flags i ≡ infoPlaces i)
+
+  info-always : (flags : ℕ) → Always f (sectionIf (infoThere flags) noInfo info) (λ c. KeptInfo flags (c .read))
+  info-always flags =
+      section-always f info (infoThere flags) noInfo (KeptInfo flags) (λ e. (rw e, rw e)) (λ e p a n.
+      let s : List ℕ = drop p f in
+      let l : List ℕ = take (infoSize s) s in
+      tests-elim (λ a n. KeptInfo flags a) (section 2 p) (sizedTests 2 4 infoSize (λ n. leb 0x1C n else INFO at 0 ∷ []) infoRules infoValue s)
+      (infoFields p l) (infoSize s) (λ c. (rw e (link-present p l), places-present flags p l e)) a n)
 
   -- the blocks are what a walk from their start on gives
   abbrev Walk : Section (List ℕ) → Type 0
@@ -79,21 +136,18 @@ module _ (f : List ℕ) where
   abbrev Known : ℕ → Tail → Type 0
   Known flags c =
       let (items, (info, (name, (relative, (workdir, (arguments, (icon, blocks))))))) = c in
-      (cond (itemsThere flags) (items .read) noPlace ≡ items .read)
-      × ((cond (infoThere flags) (presentInfo (info .read)) noInfo ≡ info .read)
-      × ((cond (stringThere nameBit flags) (name .read) noPlace ≡ name .read)
-      × ((cond (stringThere relativeBit flags) (relative .read) noPlace ≡ relative .read)
-      × ((cond (stringThere workdirBit flags) (workdir .read) noPlace ≡ workdir .read)
-      × ((cond (stringThere argumentsBit flags) (arguments .read) noPlace ≡ arguments .read)
-      × ((cond (stringThere iconBit flags) (icon .read) noPlace ≡ icon .read) × Walk blocks))))))
+      Kept (itemsThere flags) (items .read)
+      × (KeptInfo flags (info .read)
+      × (Kept (stringThere nameBit flags) (name .read)
+      × (Kept (stringThere relativeBit flags) (relative .read)
+      × (Kept (stringThere workdirBit flags) (workdir .read)
+      × (Kept (stringThere argumentsBit flags) (arguments .read)
+      × (Kept (stringThere iconBit flags) (icon .read) × Walk blocks))))))
 
   tail-always : (flags : ℕ) → Always f (tail flags) (Known flags)
   tail-always flags =
-      then-always f (section-always f items (itemsThere flags) noPlace (λ b. b) (λ p a n e. refl))
-      (then-always f (section-always f info (infoThere flags) noInfo presentInfo (λ p a n e.
-      let s : List ℕ = drop p f in
-      tests-elim (λ a n. presentInfo a ≡ a) (section 2 p) (sizedTests 2 4 infoSize (λ n. leb 0x1C n else INFO at 0 ∷ []) infoRules infoValue s)
-      (infoFields p (take (infoSize s) s)) (infoSize s) (λ c. info-present p (take (infoSize s) s)) a n e))
+      then-always f (body-always items (itemsThere flags))
+      (then-always f (info-always flags)
       (then-always f (string-always flags nameBit)
       (then-always f (string-always flags relativeBit)
       (then-always f (string-always flags workdirBit)
@@ -112,7 +166,8 @@ module _ (f : List ℕ) where
   unfolding sections present
   read-present c n e =
       let (z, (items, (info, (name, (relative, (workdir, (arguments, (icon, walk)))))))) = known-always .always 0 c n e in
-      rw (items, info, name, relative, workdir, arguments, icon)
+      let places = ap (λ (ps : List Place). (c .1 .0 .read) ∷ ps ++ drop 10 (recordOf c .places)) (info .1) in
+      rw (items, name, relative, workdir, arguments, icon, info .0) (ap (λ (ps : List Place). record { header = c .0 .read; link = linkOf (c .1 .1 .0 .read); places = ps }) places)
 
   -- and its blocks are those of a walk
   pub read-walk : (c : Sections) (n : ℕ) → sections 0 f ≡ got c n → Walk (blocksOf c)
@@ -195,14 +250,6 @@ volume-inside h p l true i o n k e =
     (le-leb (p + o + labelOffset v + textLength (labelUnicode v) (drop (labelOffset v) v)) n (omega (arith, length-drop o l)))
 volume-inside h p l false i o n k e = le-leb (0 + 0) n (omega arith)
 
-abbrev networkBodies : Network → List Place
-networkBodies n = n .net ∷ n .device ∷ n .«net_unicode» ∷ n .«device_unicode» ∷ []
-
-abbrev infoBodies : Info → List Place
-infoBodies i =
-    labelPlace (i .volume .label) ∷ i .local ∷ i .network .net ∷ i .network .device ∷ i .network .«net_unicode» ∷ i .network .«device_unicode»
-    ∷ i .suffix ∷ i .«local_unicode» ∷ i .«suffix_unicode» ∷ []
-
 record NetworkInside (n : ℕ) (k : Network) : Type 0 where
   net : Inside n (k .net)
   device : Inside n (k .device)
@@ -230,15 +277,15 @@ network-inside h p l false i o n k e =
 
 -- nine places, each inside
 nine : (n : ℕ) (i : Info) → Inside n (labelPlace (i .volume .label)) → Inside n (i .local) → NetworkInside n (i .network) → Inside n (i .suffix)
-    → Inside n (i .«local_unicode») → Inside n (i .«suffix_unicode») → allInside n (infoBodies i) ≡ true
+    → Inside n (i .«local_unicode») → Inside n (i .«suffix_unicode») → allInside n (infoPlaces i) ≡ true
 nine n i a b c d e g = rw (a, b, c .net, c .device, c .netUnicode, c .deviceUnicode, d, e, g)
 
-info-inside : (f : List ℕ) (p : ℕ) (i : Info) (n : ℕ) → info p (drop p f) ≡ got i n → allInside (p + n) (infoBodies i) ≡ true
+info-inside : (f : List ℕ) (p : ℕ) (i : Info) (n : ℕ) → info p (drop p f) ≡ got i n → allInside (p + n) (infoPlaces i) ≡ true
 info-inside f p i n =
     let s : List ℕ = drop p f in
     let m : ℕ = infoSize s in
     let l : List ℕ = take m s in
-    tests-elim (λ i n. allInside (p + n) (infoBodies i) ≡ true) (section 2 p) (sizedTests 2 4 infoSize (λ n. leb 0x1C n else INFO at 0 ∷ []) infoRules infoValue s) (infoFields p l) m
+    tests-elim (λ i n. allInside (p + n) (infoPlaces i) ≡ true) (section 2 p) (sizedTests 2 4 infoSize (λ n. leb 0x1C n else INFO at 0 ∷ []) infoRules infoValue s) (infoFields p l) m
     (λ c.
     let k : p + length l ≤ p + m = omega (arith, length-take m s) in
     let g = sized-holds 2 4 infoSize (λ n. leb 0x1C n else INFO at 0 ∷ []) infoRules infoValue s c in
@@ -294,7 +341,7 @@ module _ (f : List ℕ) where
   none-inside : (n : ℕ) → allInside n (noPlace ∷ []) ≡ true
   none-inside n = one n noPlace (le-leb (0 + 0) n (omega arith))
 
-  no-info-inside : (n : ℕ) → allInside n (infoBodies noInfo) ≡ true
+  no-info-inside : (n : ℕ) → allInside n (infoPlaces noInfo) ≡ true
   no-info-inside n =
       let z : Inside n noPlace = le-leb (0 + 0) n (omega arith) in
       nine n noInfo z z (record { net = z; device = z; netUnicode = z; deviceUnicode = z }) z z z
@@ -317,7 +364,7 @@ module _ (f : List ℕ) where
   tailBodies c =
       let (items, (info, (name, (relative, (workdir, (arguments, (icon, blocks))))))) = c in
       (items .read ∷ [])
-      ++ (infoBodies (info .read)
+      ++ (infoPlaces (info .read)
       ++ ((name .read ∷ [])
       ++ ((relative .read ∷ [])
       ++ ((workdir .read ∷ [])
@@ -327,14 +374,14 @@ module _ (f : List ℕ) where
   tail-lies : (flags : ℕ) → Lies f (tail flags) tailRows tailBodies
   tail-lies flags =
       then-lies f (section-lies f items 1 (λ b. b ∷ []) (itemsThere flags) noPlace none-inside (items-inside f))
-      (then-lies f (section-lies f info 2 infoBodies (infoThere flags) noInfo no-info-inside (info-inside f))
+      (then-lies f (section-lies f info 2 infoPlaces (infoThere flags) noInfo no-info-inside (info-inside f))
       (then-lies f (string-lies flags nameBit 3)
       (then-lies f (string-lies flags relativeBit 4)
       (then-lies f (string-lies flags workdirBit 5)
       (then-lies f (string-lies flags argumentsBit 6)
       (then-lies f (string-lies flags iconBit 7) blocks-lies))))))
 
-  sections-lie : Lies f sections rowsOf (λ c. bodies (recordOf c))
+  sections-lie : Lies f sections rowsOf (λ c. recordOf c .places)
   unfolding sections
   sections-lie = chain-lies f (λ h. tail (h .read .flags)) (found-lies f header 0 (λ h. []) (λ p a n e. refl)) (λ h. tail-lies (h .read .flags))
 
@@ -345,5 +392,5 @@ module _ (f : List ℕ) where
       rw z at (sections-lie .listed 0 c n e)
 
   -- the bodies lie inside
-  pub read-inside : (c : Sections) (n : ℕ) → sections 0 f ≡ got c n → n ≤ length f → allInside (length f) (bodies (recordOf c)) ≡ true
-  read-inside c n e h = inside-more (0 + n) (length f) (bodies (recordOf c)) (omega arith) (sections-lie .inside 0 c n e)
+  pub read-inside : (c : Sections) (n : ℕ) → sections 0 f ≡ got c n → n ≤ length f → allInside (length f) (recordOf c .places) ≡ true
+  read-inside c n e h = inside-more (0 + n) (length f) (recordOf c .places) (omega arith) (sections-lie .inside 0 c n e)

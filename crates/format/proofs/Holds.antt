@@ -16,10 +16,11 @@ use Rattle.format.specs.Pieces.{Piece, textEnds, textPiece, structTests,
 use Rattle.format.specs.Volume.{labelUnicode, labelOffset, labelLeast, volumeRules, volumePiece}
 use Rattle.format.specs.Network.{networkFlags, hasDevice, networkUnicode, networkHead, networkPieces, networkHeadTests, networkPiece, hasDeviceUnicode}
 use Rattle.format.specs.Info.{infoHead, longHead, headOk, infoFlags, hasLocal, hasNetwork, infoPieces, infoHeadTests, hasLocalUnicode}
-use Rattle.format.specs.Presence.{itemsThere, infoThere, nameBit, relativeBit, workdirBit, argumentsBit, iconBit, localThere, networkThere, localUnicodeThere, deviceThere, deviceUnicodeThere}
+use Rattle.format.specs.Presence.{localThere, networkThere, localUnicodeThere, deviceThere, deviceUnicodeThere}
 use Rattle.format.specs.Shortcut.{most}
 use Rattle.format.specs.Contents.{NetworkContents, InfoContents, Contents}
-use Rattle.format.specs.Writing.{canonical, writable, writableIf, writableHeader, writableItems, writableText, writableVolume, writableNetwork, writableInfo, writableStringOf, writableBlocks}
+use Rattle.format.specs.Writing.{every, canonical, writable, writableIf, writableHeader, writableText, writableLink, writableBodies}
+use Rattle.format.specs.Steps.LinkInfo.{writableVolume, writableNetwork, writableInfo}
 use Rattle.format.proofs.Bools.{every-out, every-in}
 use Rattle.format.proofs.Chains.{Pass, pass-split, pass-join, pass-inside, inside-pass}
 use Rattle.format.proofs.Intervals.{allApart, placesOf, tests-apart, apart-tests}
@@ -226,26 +227,14 @@ writable-info i w =
 
 pub record Writable (c : Contents) : Type 0 where
   pub header : writableHeader (c .header) ≡ true
-  pub items : writableIf (itemsThere (c .header .flags)) writableItems (c .items) ≡ true
-  pub info : writableIf (infoThere (c .header .flags)) writableInfo (c .info) ≡ true
-  pub name : writableStringOf c nameBit (c .name) ≡ true
-  pub relative : writableStringOf c relativeBit (c .relative) ≡ true
-  pub workdir : writableStringOf c workdirBit (c .workdir) ≡ true
-  pub arguments : writableStringOf c argumentsBit (c .arguments) ≡ true
-  pub icon : writableStringOf c iconBit (c .icon) ≡ true
-  pub blocks : writableBlocks (c .blocks) ≡ true
+  pub link : writableLink (c .header .flags) (c .link) ≡ true
+  pub bodies : every (writableBodies c) ≡ true
   pub short : leb (length (canonical c)) most ≡ true
 
 pub all-writable : (c : Contents) → writable c ≡ true → Writable c
 unfolding writable
-all-writable c e =
-    let (a, (b, (d, (f, (g, (h, (i, (j, (k, (l, z)))))))))) = every-out (_ ∷ _ ∷ _ ∷ _ ∷ _ ∷ _ ∷ _ ∷ _ ∷ _ ∷ _ ∷ []) e in
-    record { header = a; items = b; info = d; name = f; relative = g; workdir = h; arguments = i; icon = j; blocks = k; short = l }
+all-writable c e = let (a, (b, (d, (f, z)))) = every-out (_ ∷ _ ∷ _ ∷ _ ∷ []) e in record { header = a; link = b; bodies = d; short = f }
 
 pub writable-all : (c : Contents) → Writable c → writable c ≡ true
 unfolding writable
-writable-all c w =
-    every-in (_ ∷ _ ∷ _ ∷ _ ∷ _ ∷ _ ∷ _ ∷ _ ∷ _ ∷ _ ∷ []) (
-      w .header,
-      (w .items, (w .info, (w .name, (w .relative, (w .workdir, (w .arguments, (w .icon, (w .blocks, (w .short, tt))))))))),
-    )
+writable-all c w = every-in (_ ∷ _ ∷ _ ∷ _ ∷ []) (w .header, (w .link, (w .bodies, (w .short, tt))))

@@ -18,7 +18,8 @@ use Rattle.format.specs.Info.{infoSize, infoHead, longHead, infoFlags, h
 use Rattle.format.specs.Presence.{localThere, networkThere, localUnicodeThere}
 use Rattle.format.specs.Shortcut.{most}
 use Rattle.format.specs.Contents.{VolumeContents, NetworkContents, InfoContents}
-use Rattle.format.specs.Writing.{textBytes, twoFields, volumeBytes, networkBytes, infoVolumeBytes, localBytes, infoNetworkBytes, suffixBytes, localUnicodeBytes, suffixUnicodeBytes, volumeStart, localStart, networkStart, suffixStart, localUnicodeStart, suffixUnicodeStart, infoLength, infoBytes, writableText, writableVolume, writableNetwork, writableInfo}
+use Rattle.format.specs.Writing.{textBytes, twoFields, volumeBytes, networkBytes, infoVolumeBytes, localBytes, infoNetworkBytes, suffixBytes, localUnicodeBytes, suffixUnicodeBytes, volumeStart, localStart, networkStart, suffixStart, localUnicodeStart, suffixUnicodeStart, infoLength, infoBytes, writableText}
+use Rattle.format.specs.Steps.LinkInfo.{writableVolume, writableNetwork, writableInfo}
 use Rattle.format.proofs.Bools.{and-true, or-true, choose-twice}
 use Rattle.format.proofs.Intervals.{total, pack, Ordered, end, ordered-apart}
 use Rattle.format.proofs.Chains.{Pass, pass-split, pass-join, Ok, Fits, Law, IfThere, ok-there, there-ok}

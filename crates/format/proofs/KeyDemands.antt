@@ -20,6 +20,7 @@ use Rattle.format.specs.Tests.{Outcome, got, refused, bit, section, noSe
 use Rattle.format.proofs.AnswerLaws.{nowhere}
 use Rattle.format.specs.Presence.{workdirBit, argumentsBit, stringThere, stringsUnicode}
 use Rattle.format.specs.Shortcut.{Sections, shortcut, verdictOf}
+use Rattle.format.specs.Bodies.{placeIn, stringSlot}
 use Rattle.format.specs.Contents.{bytesAt}
 use Rattle.format.specs.Writing.{outputOf}
 use Rattle.format.specs.Demands.{Accepts, Refuses}
@@ -90,19 +91,20 @@ inCharacters u (somePart x) = somePart (characters u x)
 pub record Tells (s : List ℕ) (r : Record) : Type 0 where
   pub unicode : keyIn s .unicode ≡ stringsUnicode (r .header .flags)
   pub target : keyIn s .target ≡ partIf (hasTarget r) (targetText s r)
-  pub arguments : keyIn s .arguments ≡ partIf (stringThere argumentsBit (r .header .flags)) (bytesAt s (r .arguments))
-  pub workdir : keyIn s .workdir ≡ partIf (stringThere workdirBit (r .header .flags)) (bytesAt s (r .workdir))
+  pub arguments : keyIn s .arguments ≡ partIf (stringThere argumentsBit (r .header .flags)) (bytesAt s (placeIn r (stringSlot argumentsBit)))
+  pub workdir : keyIn s .workdir ≡ partIf (stringThere workdirBit (r .header .flags)) (bytesAt s (placeIn r (stringSlot workdirBit)))
 
 pub record-tells : (s : List ℕ) (r : Record) → Accepts s r → Tells s r
 unfolding Accepts keyIn keyOf
 record-tells s r e =
     let x = accepted-read s r (length s) e in
     let k : keyBy s (shortcut s) ≡ keyOf s (x .sections) = ap (keyBy s) (x .is) in
+    let stringPart : ℕ → Record → Part = λ b q. partIf (stringThere b (q .header .flags)) (bytesAt s (placeIn q (stringSlot b))) in
     record {
       unicode = ap (λ (k : Key). k .unicode) k ∙ rw (x .held);
-      target = ap (λ (k : Key). k .target) k ∙ rw (x .held);
-      arguments = ap (λ (k : Key). k .arguments) k ∙ rw (x .held);
-      workdir = ap (λ (k : Key). k .workdir) k ∙ rw (x .held);
+      target = ap (λ (k : Key). k .target) k ∙ ap (λ (q : Record). partIf (hasTarget q) (targetText s q)) (x .held);
+      arguments = ap (λ (k : Key). k .arguments) k ∙ ap (stringPart argumentsBit) (x .held);
+      workdir = ap (λ (k : Key). k .workdir) k ∙ ap (stringPart workdirBit) (x .held);
     }
 
 -- two shortcuts whose arguments differ, in being there, in length or in any character, have different keys
@@ -115,9 +117,9 @@ other-arguments s t out other r q n m a b differ e f same =
     let u : stringsUnicode (r .header .flags) ≡ stringsUnicode (q .header .flags) = sym (k .unicode) ∙ p .unicode ∙ l .unicode in
     let w = sym (k .arguments) ∙ p .arguments ∙ l .arguments in
     differ
-    (read-as (stringsUnicode (r .header .flags)) (stringThere argumentsBit (r .header .flags)) (bytesAt s (r .arguments))
+    (read-as (stringsUnicode (r .header .flags)) (stringThere argumentsBit (r .header .flags)) (bytesAt s (placeIn r (stringSlot argumentsBit)))
     ∙ ap (inCharacters (stringsUnicode (r .header .flags))) w
-    ∙ rw (← u) (sym (read-as (stringsUnicode (r .header .flags)) (stringThere argumentsBit (q .header .flags)) (bytesAt t (q .arguments)))))
+    ∙ rw (← u) (sym (read-as (stringsUnicode (r .header .flags)) (stringThere argumentsBit (q .header .flags)) (bytesAt t (placeIn q (stringSlot argumentsBit))))))
   where
     read-as : (u b : Bool) (x : List ℕ) → partIf b (characters u x) ≡ inCharacters u (partIf b x)
     read-as u true x = refl

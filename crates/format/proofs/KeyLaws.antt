@@ -15,6 +15,7 @@ use Rattle.format.specs.Tests.{got, bit, oneOr0}
 use Rattle.format.specs.Presence.{workdirBit, argumentsBit, stringThere}
 use Rattle.format.specs.Blocks.{firstPlace}
 use Rattle.format.specs.Shortcut.{most, Sections, blocksOf, shortcut, recordOf}
+use Rattle.format.specs.Bodies.{placeIn, stringSlot}
 use Rattle.format.specs.Contents.{bytesAt}
 use Rattle.format.specs.Target.{hasTarget, targetText}
 use Rattle.format.specs.Key.{Part, noPart, somePart, partIf, Key, SameParts, blockText, keyOf, partBytes, keyBytes}
@@ -116,8 +117,8 @@ key-fits s c h =
     let text = drop 8 (bytesAt s b) in
     record {
       target = if-fits (hasTarget r) (targetText s r) (omega (arith, text-small s r));
-      arguments = if-fits (stringThere argumentsBit (r .header .flags)) (bytesAt s (r .arguments)) (omega (arith, body-small s (r .arguments)));
-      workdir = if-fits (stringThere workdirBit (r .header .flags)) (bytesAt s (r .workdir)) (omega (arith, body-small s (r .workdir)));
+      arguments = if-fits (stringThere argumentsBit (r .header .flags)) (bytesAt s (placeIn r (stringSlot argumentsBit))) (omega (arith, body-small s (placeIn r (stringSlot argumentsBit))));
+      workdir = if-fits (stringThere workdirBit (r .header .flags)) (bytesAt s (placeIn r (stringSlot workdirBit))) (omega (arith, body-small s (placeIn r (stringSlot workdirBit))));
       environment = if-fits (leb 1 (b .len)) (blockText s b) (omega (arith, body-small s b, length-drop 8 (bytesAt s b), length-take (beforeZero text) text));
     }
 

@@ -18,7 +18,8 @@ use Rattle.format.specs.Tests.{got, bit, place}
 use Rattle.format.specs.Presence.{infoThere, workdirBit, argumentsBit, stringThere, stringsUnicode, localThere, networkThere}
 use Rattle.format.specs.Blocks.{blocks, firstPlace}
 use Rattle.format.specs.Shortcut.{blocksOf, sum, recordOf}
-use Rattle.format.specs.Contents.{InfoContents, Contents, bytesAt, bodiesOf, contents}
+use Rattle.format.specs.Bodies.{placeIn, stringSlot, blocksSlot}
+use Rattle.format.specs.Contents.{InfoContents, Contents, bytesAt, bodyIn, infoIn, bodiesOf, contents}
 use Rattle.format.specs.Writing.{ifThere, textBytes, networkBytes, infoBytes, stringBytes, stringPart, canonical}
 use Rattle.format.specs.Demands.{Accepts}
 use Rattle.format.specs.Target.{targeted, hasTarget, separator, joined, targetText}
@@ -46,9 +47,9 @@ abbrev pub keyFrom : Contents → Part → Key
 keyFrom c e = record {
   unicode = stringsUnicode (c .header .flags);
   target =
-      partIf (targeted (c .header .flags) (c .info .flags)) (wholeText (c .info));
-  arguments = partIf (stringThere argumentsBit (c .header .flags)) (c .arguments);
-  workdir = partIf (stringThere workdirBit (c .header .flags)) (c .workdir);
+      partIf (targeted (c .header .flags) (c .link .flags)) (wholeText (infoIn c));
+  arguments = partIf (stringThere argumentsBit (c .header .flags)) (bodyIn c (stringSlot argumentsBit));
+  workdir = partIf (stringThere workdirBit (c .header .flags)) (bodyIn c (stringSlot workdirBit));
   environment = e;
 }
 
@@ -59,11 +60,11 @@ environmentOf s p lengths = environment s (firstPlace s 0xA0000001 p lengths)
 -- the blocks as reading walked over them, and the key
 pub record Made (s : List ℕ) (r : Record) : Type 0 where
   pub start : ℕ
-  pub at : r .blocks .at ≡ start
+  pub at : placeIn r blocksSlot .at ≡ start
   pub lengths : List ℕ
   pub count : ℕ
   pub walk : blocks start (drop start s) ≡ got lengths count
-  pub body : contents s r .blocks ≡ take (sum lengths) (drop start s)
+  pub body : bodyIn (contents s r) blocksSlot ≡ take (sum lengths) (drop start s)
   pub is : keyIn s ≡ keyFrom (contents s r) (environmentOf s start lengths)
 
 pub made : (s : List ℕ) (r : Record) → Accepts s r → Made s r
@@ -74,16 +75,16 @@ made s r e =
     let c : bodiesOf s (recordOf (x .sections)) ≡ contents s r = ap (bodiesOf s) (x .held ∙ sym (accepted-present s r (length s) e)) in
     record {
       start = b .start;
-      at = ap (λ (q : Record). q .blocks .at) (sym (x .held));
+      at = ap (λ (q : Record). placeIn q blocksSlot .at) (sym (x .held));
       lengths = b .read;
       count = b .len;
       walk = read-walk s (x .sections) (length s) ((shortcut-whole s (x .sections) (length s) (x .is)) .read);
-      body = ap (λ (c : Contents). c .blocks) (sym c);
+      body = ap (λ (c : Contents). bodyIn c blocksSlot) (sym c);
       is = ap (keyBy s) (x .is) ∙ ap (λ (c : Contents). keyFrom c (environmentOf s (b .start) (b .read))) c;
     }
 
 -- the blocks' lengths add up to their body's
-pub body-long : {s : List ℕ} {r : Record} (m : Made s r) → length (contents s r .blocks) ≡ sum (m .lengths)
+pub body-long : {s : List ℕ} {r : Record} (m : Made s r) → length (bodyIn (contents s r) blocksSlot) ≡ sum (m .lengths)
 body-long {s} m =
     let w = blocks-walked [] (m .start) (drop (m .start) s) (m .lengths) (m .count) (m .walk) in
     ap length (m .body) ∙ length-take-le (sum (m .lengths)) (drop (m .start) s) (omega (arith, w .adds, w .inside))
@@ -172,20 +173,20 @@ environment-few s p lengths =
 
 -- what holds the parts, after a header that is longer than all else in a key
 held-few : (c : Contents)
-    → 76 + length (ifThere (infoThere (c .header .flags)) infoBytes (c .info)) + length (stringPart c workdirBit (c .workdir)) + length (stringPart c argumentsBit (c .arguments)) + length (c .blocks)
+    → 76 + length (ifThere (infoThere (c .header .flags)) infoBytes (infoIn c)) + length (stringPart c workdirBit) + length (stringPart c argumentsBit) + length (bodyIn c blocksSlot)
     ≤ length (canonical c)
 unfolding canonical
 held-few c = simp (length-append, length-little) (omega arith)
 
-key-few : (c : Contents) (e : Part) → bytesIn e ≤ length (c .blocks) → length (keyBytes (keyFrom c e)) ≤ length (canonical c)
+key-few : (c : Contents) (e : Part) → bytesIn e ≤ length (bodyIn c blocksSlot) → length (keyBytes (keyFrom c e)) ≤ length (canonical c)
 key-few c e h =
     let f = c .header .flags in
     omega (
       arith,
       length-key (keyFrom c e),
-      target-few (not (bit 8 f)) (infoThere f) (c .info),
-      string-few (stringThere argumentsBit f) (stringsUnicode f) (c .arguments),
-      string-few (stringThere workdirBit f) (stringsUnicode f) (c .workdir),
+      target-few (not (bit 8 f)) (infoThere f) (infoIn c),
+      string-few (stringThere argumentsBit f) (stringsUnicode f) (bodyIn c (stringSlot argumentsBit)),
+      string-few (stringThere workdirBit f) (stringsUnicode f) (bodyIn c (stringSlot workdirBit)),
       held-few c,
     )
 

@@ -16,7 +16,8 @@ use Rattle.format.specs.declared.Record.{Record}
 use Rattle.format.specs.Tests.{got, place}
 use Rattle.format.specs.Blocks.{slotAt, blockSize, blocksAfter, blocks, firstPlace}
 use Rattle.format.specs.Shortcut.{sum}
-use Rattle.format.specs.Contents.{Contents, contents, Same}
+use Rattle.format.specs.Bodies.{blocksSlot}
+use Rattle.format.specs.Contents.{Contents, bodyIn, contents, Same}
 use Rattle.format.specs.Demands.{Accepts}
 use Rattle.format.specs.Key.{partIf, environment, keyIn}
 use Rattle.format.proofs.Chains.{no-value, drop-take}
@@ -69,9 +70,9 @@ unfolding Same
 same-record-same-key s r t q a b e =
     let m = made s r a in
     let o = made t q b in
-    let l : sum (m .lengths) ≡ sum (o .lengths) = sym (body-long m) ∙ ap (λ (c : Contents). length (c .blocks)) e ∙ body-long o in
+    let l : sum (m .lengths) ≡ sum (o .lengths) = sym (body-long m) ∙ ap (λ (c : Contents). length (bodyIn c blocksSlot)) e ∙ body-long o in
     let u : take (sum (m .lengths)) (drop (m .start) s) ≡ take (sum (m .lengths)) (drop (o .start) t)
-    = rw (← l) at (sym (m .body) ∙ ap (λ (c : Contents). c .blocks) e ∙ o .body) in
+    = rw (← l) at (sym (m .body) ∙ ap (λ (c : Contents). bodyIn c blocksSlot) e ∙ o .body) in
     let d : m .lengths ≡ o .lengths
     = lengths-told (m .start) (o .start) (drop (m .start) s) (drop (o .start) t) (m .lengths) (o .lengths) (m .count) (o .count) (m .walk) (o .walk) l u in
     let v : environmentOf s (m .start) (m .lengths) ≡ environmentOf t (o .start) (o .lengths)

@@ -1,6 +1,7 @@
 pub mod Bools
 pub mod Ranges
 pub mod Chains
+pub mod RowLaws
 pub mod WrongLaws
 pub mod Intervals
 pub mod Holds
@@ -15,6 +16,8 @@ pub mod FieldLaws
 pub mod VolumeLaws
 pub mod NetworkLaws
 pub mod InfoLaws
+pub mod LinkLaws
+pub mod FlatLaws
 pub mod BlockLaws
 pub mod RepeatLaws
 pub mod EachLaws
@@ -29,7 +32,6 @@ pub mod OnceLaws
 pub mod OnceRows
 pub mod FitsLaws
 pub mod BodyLaws
-pub mod TableLaws
 pub mod TargetLaws
 pub mod KeyLaws
 pub mod KeyRows
@@ -44,6 +46,7 @@ pub mod StoreDemands
 pub mod KeyDemands
 pub mod KeyRoom
 pub mod KeySame
+pub mod NamedLaws
 pub mod ProbeLaws
 pub mod AnswerLaws
 pub mod OneOutcome

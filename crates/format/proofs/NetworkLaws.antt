@@ -14,7 +14,8 @@ use Rattle.format.specs.Network.{networkFlags, hasDevice, networkUnicode
 use Rattle.format.specs.Presence.{deviceThere, providerThere, deviceUnicodeThere}
 use Rattle.format.specs.Shortcut.{most}
 use Rattle.format.specs.Contents.{NetworkContents}
-use Rattle.format.specs.Writing.{textBytes, twoFields, netBytes, deviceBytes, netUnicodeBytes, deviceUnicodeBytes, netStart, deviceStart, netUnicodeStart, deviceUnicodeStart, networkLength, networkBytes, writableText, writableNetwork}
+use Rattle.format.specs.Writing.{textBytes, twoFields, netBytes, deviceBytes, netUnicodeBytes, deviceUnicodeBytes, netStart, deviceStart, netUnicodeStart, deviceUnicodeStart, networkLength, networkBytes, writableText}
+use Rattle.format.specs.Steps.LinkInfo.{writableNetwork}
 use Rattle.format.proofs.Bools.{choose-twice}
 use Rattle.format.proofs.Intervals.{total, pack, Ordered, end, ordered-apart}
 use Rattle.format.proofs.Chains.{Pass, pass-split, pass-join, Ok, Fits, IfThere, ok-there, there-ok}

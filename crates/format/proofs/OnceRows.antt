@@ -3,7 +3,7 @@ use mathlib.Core.Path.{_≡_, refl}
 use mathlib.Core.List.{List, [], _∷_, _++_}
 use mathlib.Core.Bool.{true}
 use Prim.Native.Nat.{ℕ}
-use lib.ListN.{length}
+use lib.ListN.{length, replicate, set}
 use Rattle.octets.specs.Numbers.{number, numberAt, little}
 use Rattle.octets.specs.Characters.{units, beforeZero}
 use Rattle.octets.specs.Parts.{put}
@@ -12,10 +12,9 @@ use Rattle.format.specs.Tests.{place, noPlace}
 use Rattle.format.specs.declared.Record.{Record}
 use Rattle.format.specs.Header.{identifierOk, signed}
 use Rattle.format.specs.Items.{itemTests}
-use Rattle.format.specs.Info.{noInfo}
 use Rattle.format.specs.Blocks.{slotOf, sizeFits, insideTests, blocksFrom}
-use Rattle.format.specs.Shortcut.{sections, shortcut, reading, noHeader}
-use Rattle.format.specs.Bodies.{placed}
+use Rattle.format.specs.Shortcut.{sections, shortcut, reading, noHeader, noLink}
+use Rattle.format.specs.Bodies.{blocksSlot, placed}
 use Rattle.format.specs.Contents.{present, contents}
 use Rattle.format.specs.Writing.{bits, headerBytes, itemsBytes, volumeBytes, networkBytes, infoBytes, stringBytes, canonical, writable, writing, outputOf, writeAnswer, writeOutput}
 use Rattle.format.specs.Listing.{listing}
@@ -44,17 +43,7 @@ wrongList = blockOf 10 0xA000000C (little 2 1)
 
 -- a record whose blocks are all of the body buffer
 abbrev withBlocks : List ℕ → Record
-withBlocks x = record {
-  header = noHeader;
-  items = noPlace;
-  info = noInfo;
-  name = noPlace;
-  relative = noPlace;
-  workdir = noPlace;
-  arguments = noPlace;
-  icon = noPlace;
-  blocks = place 0 (length x);
-}
+withBlocks x = record { header = noHeader; link = noLink; places = set (replicate 16 noPlace) blocksSlot (place 0 (length x)) }
 
 abbrev unwritable : List ℕ → Probe
 unwritable x = writes (withBlocks x) x (lent 200) 11 0 (lent 200)

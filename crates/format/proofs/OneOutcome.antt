@@ -18,6 +18,7 @@ use Rattle.format.proofs.local_unicode_there as local-unicode-there
 use Rattle.format.proofs.device_there as device-there
 use Rattle.format.proofs.provider_there as provider-there
 use Rattle.format.proofs.device_unicode_there as device-unicode-there
+use Rattle.format.proofs.shape_of as shape-of
 use Rattle.format.proofs.number_if as number-if
 use Rattle.format.proofs.one_or_0 as one-or-0
 use Rattle.format.proofs.signed as signed
@@ -79,6 +80,9 @@ provider-there-one-outcome κs a r q s t p o = p ∙ sym o
 
 pub device-unicode-there-one-outcome : OneAnswer device-unicode-there.ended device-unicode-there.Reads.Post
 device-unicode-there-one-outcome κs a r q s t p o = p ∙ sym o
+
+pub shape-of-one-outcome : OneAnswer shape-of.ended shape-of.Reads.Post
+shape-of-one-outcome κs a r q s t p o = p ∙ sym o
 
 pub number-if-one-outcome : OneAnswer number-if.ended number-if.Reads.Post
 number-if-one-outcome κs a r q s t p o = p ∙ sym o

@@ -5,7 +5,7 @@ use mathlib.Core.Bool.{Bool, true, false, cond}
 use Prim.Native.Nat.{ℕ, zero, suc, _+_, _-_, _≤_}
 use native.Mathlib.Omega.{arith}
 use native.Mathlib.Nat.{add-assoc}
-use lib.ListN.{length, take, drop, length-take, length-drop}
+use lib.ListN.{length, take, drop, getD, length-take, length-drop}
 use lib.Seq.{drop-drop}
 use lib.Dec.{leb}
 use borrow.Author.Tests.{leb-true, le-leb}
@@ -13,7 +13,7 @@ use Rattle.octets.specs.Characters.{characters}
 use Rattle.octets.proofs.NumberLaws.{part-inside}
 use Rattle.octets.proofs.CharacterLaws.{before-le, characters-fit, bytes-of-le}
 use Rattle.format.specs.declared.Place.{Place}
-use Rattle.format.specs.Tests.{Outcome, got, refused, place, Test, tests, Reader, andThen, chain, _then_, optional, Site, spotAt}
+use Rattle.format.specs.Tests.{Outcome, got, refused, place, noPlace, Test, tests, Reader, andThen, chain, _then_, optional, Site, spotAt}
 use Rattle.format.specs.Pieces.{textLength, textPlace}
 use Rattle.format.specs.Shortcut.{Section, absent, found, sectionIf}
 use Rattle.format.specs.Bodies.{allInside}
@@ -103,15 +103,10 @@ inside-more m n (x ∷ xs) h c =
     and-both (leb (x .at + x .len) n) _ (le-leb (x .at + x .len) n (omega arith)) (inside-more m n xs h (i .1))
 
 -- all of them inside: a product of orders, one for each
-abbrev pub AllIn : ℕ → List Place → Type 0
-AllIn n [] = Unit {0}
-AllIn n (b ∷ bs) = (b .at + b .len ≤ n) × AllIn n bs
-
-pub all-in : (n : ℕ) (bs : List Place) → allInside n bs ≡ true → AllIn n bs
-all-in n [] e = tt
-all-in n (b ∷ bs) e =
-    let i = and-true (leb (b .at + b .len) n) (allInside n bs) e in
-    (leb-true (b .at + b .len) n (i .0), all-in n bs (i .1))
+pub slot-inside : (n : ℕ) (bs : List Place) (k : ℕ) → allInside n bs ≡ true → getD bs k noPlace .at + getD bs k noPlace .len ≤ n
+slot-inside n [] k e = omega arith
+slot-inside n (b ∷ bs) zero e = leb-true (b .at + b .len) n ((and-true (leb (b .at + b .len) n) (allInside n bs) e) .0)
+slot-inside n (b ∷ bs) (suc k) e = slot-inside n bs k ((and-true (leb (b .at + b .len) n) (allInside n bs) e) .1)
 
 abbrev pub both : {A B X Y : Type 0} → (A → X) → (B → Y) → A × B → X × Y
 both u v c = (u (c .0), v (c .1))
@@ -187,10 +182,10 @@ module _ (f : List ℕ) where
   pub then-always : {A B : Type 0} {P : Reader A} {Q : Reader B} {X : A → Type 0} {Y : B → Type 0} → Always P X → Always Q Y → Always (P then Q) (λ c. X (c .0) × Y (c .1))
   then-always {Q = Q} {Y = Y} F G = chain-always (λ a. Q) (λ a. Y) F (λ a. G)
 
-  pub section-always : {A : Type 0} (P : Reader A) (b : Bool) (d : A) (g : A → A) → ((p : ℕ) (a : A) (n : ℕ) → P p (drop p f) ≡ got a n → g a ≡ a)
-      → Always (sectionIf b d P) (λ c. cond b (g (c .read)) d ≡ c .read)
-  section-always P true d g h = record { always = λ p c n e. found-elim P p (drop p f) (λ c n. g (c .read) ≡ c .read) (λ a n i. h p a n i) c n e }
-  section-always P false d g h = record { always = λ p c n e. got-elim (λ c n. d ≡ c .read) e refl }
+  pub section-always : {A : Type 0} (P : Reader A) (b : Bool) (d : A) (X : A → Type 0) → (b ≡ false → X d)
+      → (b ≡ true → (p : ℕ) (a : A) (n : ℕ) → P p (drop p f) ≡ got a n → X a) → Always (sectionIf b d P) (λ c. X (c .read))
+  section-always P true d X z h = record { always = λ p c n e. found-elim P p (drop p f) (λ c n. X (c .read)) (λ a n i. h refl p a n i) c n e }
+  section-always P false d X z h = record { always = λ p c n e. got-elim (λ c n. X (c .read)) e (z refl) }
 
   -- ---- rows end to end, and bodies inside
 

@@ -2,7 +2,7 @@
 use Prim.Native.Nat.{_<_, _^_}
 use lib.IntN.{ℤ, pos, negsuc}
 use Rattle.format.specs.declared.Header.{Header}
-use Rattle.format.specs.declared.Info.{Info}
+use Rattle.format.specs.declared.Link.{Link}
 use Rattle.format.specs.declared.Record.{Record}
 
 abbrev pub FitsSigned : ℤ → Type 0
@@ -20,13 +20,13 @@ pub record FitsHeader (h : Header) : Type 0 where
   pub command : h .command < 2 ^ 32
   pub hotkey : h .hotkey < 2 ^ 16
 
-pub record FitsInfo (i : Info) : Type 0 where
-  pub flags : i .flags < 2 ^ 32
-  pub drive : i .volume .drive < 2 ^ 32
-  pub serial : i .volume .serial < 2 ^ 32
-  pub networkFlags : i .network .flags < 2 ^ 32
-  pub provider : i .network .provider < 2 ^ 32
+pub record FitsLink (l : Link) : Type 0 where
+  pub flags : l .flags < 2 ^ 32
+  pub drive : l .drive < 2 ^ 32
+  pub serial : l .serial < 2 ^ 32
+  pub networkFlags : l .«network_flags» < 2 ^ 32
+  pub provider : l .provider < 2 ^ 32
 
 pub record FitsRecord (r : Record) : Type 0 where
   pub header : FitsHeader (r .header)
-  pub info : FitsInfo (r .info)
+  pub link : FitsLink (r .link)

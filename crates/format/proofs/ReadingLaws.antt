@@ -1,6 +1,6 @@
 -- The record that reading gives, beside the contents: each section's places hold its contents, and so do those of the whole.
 use mathlib.Core.Path.{_≡_, refl, sym, ap, _∙_}
-use mathlib.Core.List.{List, [], _∷_}
+use mathlib.Core.List.{List, [], _∷_, map}
 use mathlib.Core.Bool.{Bool, true, false, cond}
 use Prim.Native.Nat.{ℕ, _+_, _-_}
 use native.Mathlib.Omega.{arith}
@@ -12,19 +12,21 @@ use Rattle.octets.specs.Characters.{bytesOf}
 use Rattle.octets.proofs.NumberLaws.{part-inside}
 use Rattle.format.specs.declared.Place.{Place}
 use Rattle.format.specs.declared.Header.{Header}
+use Rattle.format.specs.declared.Volume.{Volume}
+use Rattle.format.specs.declared.Network.{Network}
+use Rattle.format.specs.declared.Info.{Info}
 use Rattle.format.specs.declared.Fault.the-variants.{Long as LONG, Trail as TRAIL, Info as INFO}
 use Rattle.format.specs.Tests.{Outcome, got, refused, place, noPlace, tests, andThen, optional, section, noSection, spotAt, _else_at_}
 use Rattle.format.specs.Presence.{itemsThere, infoThere, nameBit, relativeBit, workdirBit, argumentsBit, iconBit, stringThere, stringsUnicode}
 use Rattle.format.specs.Header.{header}
 use Rattle.format.specs.Items.{itemsLength, itemsRules, items}
-use Rattle.format.specs.Volume.{labelUnicode, labelOffset, labelOf, volumeAt}
+use Rattle.format.specs.Volume.{labelUnicode, labelOffset, labelOf, labelPlace, labelKind, volumeAt}
 use Rattle.format.specs.Network.{hasDevice, networkUnicode, networkAt, hasDeviceUnicode}
-use Rattle.format.specs.Info.{infoSize, longHead, hasLocal, hasNetwork, infoRules, infoFields, info, noInfo, hasLocalUnicode}
+use Rattle.format.specs.Info.{infoSize, longHead, hasLocal, hasNetwork, infoRules, infoFields, info, noInfo, hasLocalUnicode, linkOf, infoPlaces}
 use Rattle.format.specs.Strings.{stringLength, string}
 use Rattle.format.specs.Blocks.{blocks}
-use Rattle.format.specs.Shortcut.{Section, Tail, Sections, found, stringSection, tail, sections, shortcut, most, sum, recordOf}
-use Rattle.format.specs.Bodies.{labelPlace, labelKind}
-use Rattle.format.specs.Contents.{bytesAt, volumeContents, networkContents, infoContents, bodiesOf}
+use Rattle.format.specs.Shortcut.{noHeader, Section, Tail, Sections, found, stringSection, tail, sections, shortcut, most, sum, recordOf}
+use Rattle.format.specs.Contents.{VolumeContents, NetworkContents, InfoContents, bytesAt, infoIn, bodiesOf}
 use Rattle.format.proofs.Chains.{drop-take}
 use Rattle.format.proofs.Sized.{sizedTests, sized-holds}
 use Rattle.format.proofs.ItemsLaws.{itemsValue}
@@ -32,7 +34,8 @@ use Rattle.format.proofs.VolumeLaws.{volumeValue}
 use Rattle.format.proofs.NetworkLaws.{networkValue}
 use Rattle.format.proofs.InfoLaws.{noVolumeC, noNetworkC, infoValue}
 use Rattle.format.proofs.BlockLaws.{blocksR}
-use Rattle.format.proofs.WholeLaws.{noInfoC, itemsR, infoR, stringR, TailC, tail-s, fileR, decode, toContents}
+use Rattle.format.proofs.LinkLaws.{noInfoC}
+use Rattle.format.proofs.WholeLaws.{itemsR, infoR, stringR, TailC, tail-s, fileR, decode, toContents}
 use Rattle.format.proofs.PlaceLaws.{PartOf, part-of, part-within, text-placed, Placed, tests-placed, found-placed, section-placed, chain-placed, then-placed, mapped, both}
 
 module _ (f : List ℕ) where
@@ -65,6 +68,10 @@ module _ (f : List ℕ) where
 
   -- ---- LinkInfo
 
+  -- what stands at the places that its reader answers
+  abbrev infoAt : Info → InfoContents
+  infoAt i = infoIn (record { header = noHeader; link = linkOf i; bodies = [] ∷ map (bytesAt f) (infoPlaces i) })
+
   kind-of : (u : Bool) (b : Place) → labelKind (labelOf u b) ≡ u
   kind-of true b = refl
   kind-of false b = refl
@@ -73,15 +80,29 @@ module _ (f : List ℕ) where
   place-of true b = refl
   place-of false b = refl
 
+  abbrev volumeHere : Volume → VolumeContents
+  volumeHere v = record { drive = v .drive; serial = v .serial; unicode = labelKind (v .label); label = bytesAt f (labelPlace (v .label)) }
+
+  abbrev networkHere : Network → NetworkContents
+  networkHere n = record {
+    flags = n .flags;
+    provider = n .provider;
+    unicode = n .unicode;
+    net = bytesAt f (n .net);
+    device = bytesAt f (n .device);
+    netUnicode = bytesAt f (n .«net_unicode»);
+    deviceUnicode = bytesAt f (n .«device_unicode»);
+  }
+
   module _ (p : ℕ) (l : List ℕ) (F : PartOf f p l) (o : ℕ) where
-    volume-placed : (b : Bool) → volumeContents f (volumeAt b p l o) ≡ cond b (volumeValue (take (u32At (drop o l) 0) (drop o l))) noVolumeC
+    volume-placed : (b : Bool) → volumeHere (volumeAt b p l o) ≡ cond b (volumeValue (take (u32At (drop o l) 0) (drop o l))) noVolumeC
     volume-placed true =
         let v : List ℕ = take (u32At (drop o l) 0) (drop o l) in
         let G : PartOf f (p + o) v = part-within f p l o (u32At (drop o l) 0) F in
         rw (kind-of (labelUnicode v), place-of (labelUnicode v), text-placed f (p + o) v true (labelUnicode v) (labelOffset v) G)
     volume-placed false = refl
 
-    network-placed : (b : Bool) → networkContents f (networkAt b p l o) ≡ cond b (networkValue (take (u32At (drop o l) 0) (drop o l))) noNetworkC
+    network-placed : (b : Bool) → networkHere (networkAt b p l o) ≡ cond b (networkValue (take (u32At (drop o l) 0) (drop o l))) noNetworkC
     network-placed true =
         let v : List ℕ = take (u32At (drop o l) 0) (drop o l) in
         let G : PartOf f (p + o) v = part-within f p l o (u32At (drop o l) 0) F in
@@ -93,7 +114,7 @@ module _ (f : List ℕ) where
         )
     network-placed false = refl
 
-  info-value : (p : ℕ) (l : List ℕ) → PartOf f p l → infoContents f (infoFields p l) ≡ infoValue l
+  info-value : (p : ℕ) (l : List ℕ) → PartOf f p l → infoAt (infoFields p l) ≡ infoValue l
   info-value p l F =
       rw (
         volume-placed p l F (u32At l 12) (hasLocal l),
@@ -104,12 +125,12 @@ module _ (f : List ℕ) where
         text-placed f p l (longHead l) true (u32At l 32) F,
       )
 
-  info-placed : Placed f info (infoContents f) infoR
+  info-placed : Placed f info infoAt infoR
   info-placed = record {
     placed = λ p.
         let s : List ℕ = drop p f in
         let n : ℕ = infoSize s in
-        tests-placed f (infoContents f) (section 2 p) (sizedTests 2 4 infoSize (λ n. leb 0x1C n else INFO at 0 ∷ []) infoRules infoValue s) (infoFields p (take n s)) (infoValue (take n s)) n
+        tests-placed f infoAt (section 2 p) (sizedTests 2 4 infoSize (λ n. leb 0x1C n else INFO at 0 ∷ []) infoRules infoValue s) (infoFields p (take n s)) (infoValue (take n s)) n
         (λ c. info-value p (take n s) (part-of f p n));
   }
 
@@ -133,7 +154,7 @@ module _ (f : List ℕ) where
 
   abbrev viewTail : Tail → TailC
   viewTail =
-      both (λ c. bytesAt f (c .read)) (both (λ c. infoContents f (c .read)) (both (λ c. bytesAt f (c .read)) (both (λ c. bytesAt f (c .read))
+      both (λ c. bytesAt f (c .read)) (both (λ c. infoAt (c .read)) (both (λ c. bytesAt f (c .read)) (both (λ c. bytesAt f (c .read))
       (both (λ c. bytesAt f (c .read)) (both (λ c. bytesAt f (c .read)) (both (λ c. bytesAt f (c .read)) (λ c. bytesAt f (blocksPlace c))))))))
 
   tail-placed : (flags : ℕ) → Placed f (tail flags) viewTail (tail-s flags .reader)

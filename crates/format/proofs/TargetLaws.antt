@@ -8,6 +8,7 @@ use lib.ListN.{length, length-append}
 use Rattle.format.specs.declared.Place.{Place}
 use Rattle.format.specs.declared.Record.{Record}
 use Rattle.format.specs.Presence.{localThere}
+use Rattle.format.specs.Bodies.{placeIn, localSlot, netSlot, suffixSlot}
 use Rattle.format.specs.Contents.{bytesAt}
 use Rattle.format.specs.Target.{separated, backslash, separator, joined, targetText}
 use Rattle.format.proofs.BodyLaws.{body-small}
@@ -32,17 +33,17 @@ separator-few first suffix = go (separated first suffix)
     go false = omega arith
 
 pub text-small : (s : List ℕ) (r : Record) → length (targetText s r) ≤ length s + 1 + length s
-text-small s r = go (localThere (r .info .flags))
+text-small s r = go (localThere (r .link .flags))
   where
     suffix : List ℕ
-    suffix = bytesAt s (r .info .suffix)
+    suffix = bytesAt s (placeIn r suffixSlot)
 
     either : (a : Place) → length (joined (bytesAt s a) suffix) ≤ length s + 1 + length s
     either a =
         let first = bytesAt s a in
         let between = separator first suffix in
-        omega (arith, length-append first (between ++ suffix), length-append between suffix, separator-few first suffix, body-small s a, body-small s (r .info .suffix))
+        omega (arith, length-append first (between ++ suffix), length-append between suffix, separator-few first suffix, body-small s a, body-small s (placeIn r suffixSlot))
 
-    go : (b : Bool) → length (joined (cond b (bytesAt s (r .info .local)) (bytesAt s (r .info .network .net))) suffix) ≤ length s + 1 + length s
-    go true = either (r .info .local)
-    go false = either (r .info .network .net)
+    go : (b : Bool) → length (joined (cond b (bytesAt s (placeIn r localSlot)) (bytesAt s (placeIn r netSlot))) suffix) ≤ length s + 1 + length s
+    go true = either (placeIn r localSlot)
+    go false = either (placeIn r netSlot)

@@ -13,7 +13,8 @@ use Rattle.octets.proofs.NumberLaws.{bytes-append, bytes-drop, bytes-nil, bytes
 use Rattle.format.specs.Volume.{labelUnicode, labelOffset, labelLeast, volumeRules, volumeTests}
 use Rattle.format.specs.Shortcut.{most}
 use Rattle.format.specs.Contents.{VolumeContents}
-use Rattle.format.specs.Writing.{textBytes, volumeLength, labelFields, volumeBytes, writableText, writableVolume}
+use Rattle.format.specs.Writing.{textBytes, volumeLength, labelFields, volumeBytes, writableText}
+use Rattle.format.specs.Steps.LinkInfo.{writableVolume}
 use Rattle.format.proofs.Bools.{and-true, and-both}
 use Rattle.format.proofs.Chains.{Pass, Ok, Fits}
 use Rattle.format.proofs.Holds.{volume-holds, volume-passes}

@@ -1,7 +1,7 @@
 -- The whole shortcut, read for its contents: the sections' laws composed.
 use mathlib.Core.Path.{_≡_, refl, sym, ap, _∙_}
-use mathlib.Core.List.{List, [], _∷_, append-nil}
-use mathlib.Core.Bool.{Bool, true, false}
+use mathlib.Core.List.{List, [], _∷_, _++_, append-nil}
+use mathlib.Core.Bool.{Bool, true, false, cond}
 use Prim.Native.Nat.{ℕ, _+_, _-_, _≤_, _<_}
 use native.Mathlib.Omega.{arith}
 use lib.ListN.{length, take, drop, length-take}
@@ -9,6 +9,7 @@ use lib.Dec.{leb, eqb}
 use borrow.Author.Tests.{leb-true, le-leb, eqb-true, eq-eqb}
 use Rattle.octets.specs.Numbers.{Bytes}
 use Rattle.format.specs.declared.Header.{Header}
+use Rattle.format.specs.declared.Link.{Link}
 use Rattle.format.specs.declared.Fault.the-variants.{Long as LONG, Trail as TRAIL, Info as INFO}
 use Rattle.format.specs.Tests.{Outcome, got, refused, _else_at_, tests, Reader, andThen, chain, optional, section, noSection}
 use Rattle.format.specs.Presence.{itemsThere, infoThere, nameBit, relativeBit, workdirBit, argumentsBit, iconBit, stringThere, stringsUnicode}
@@ -16,31 +17,23 @@ use Rattle.format.specs.Header.{header}
 use Rattle.format.specs.Items.{itemsLength, itemsRules}
 use Rattle.format.specs.Info.{infoSize, infoRules}
 use Rattle.format.specs.Strings.{stringLength}
-use Rattle.format.specs.Shortcut.{most}
-use Rattle.format.specs.Contents.{InfoContents, Contents}
-use Rattle.format.specs.Writing.{ifThere, headerBytes, itemsBytes, infoBytes, stringBytes, blocksBytes, canonical, writable, writableItems, writableInfo, writableString, writableStringOf}
-use Rattle.format.proofs.Ranges.{FitsHeader}
-use Rattle.format.proofs.Bools.{clash}
-use Rattle.format.proofs.Chains.{passed, got-elim, no-value, CutBy, Law, IfThere, ok-there, there-ok, optional-law, chainE, ChainV, chain-law}
+use Rattle.format.specs.Shortcut.{most, noLink}
+use Rattle.format.specs.Bodies.{itemsKind, BodyRow, bodyRow, stringRow, bodyTable, itemsSlot, stringSlot, blocksSlot, along}
+use Rattle.format.specs.Contents.{presentLink, InfoContents, Contents, bodyIn, infoIn}
+use Rattle.format.specs.Writing.{ifThere, headerBytes, itemsBytes, infoBytes, stringBytes, blocksBytes, canonical, writable, writableItems, writableString, writableBody, writableRow, writableBodies}
+use Rattle.format.specs.Steps.LinkInfo.{writableInfo}
+use Rattle.format.proofs.Ranges.{FitsHeader, FitsLink}
+use Rattle.format.proofs.Bools.{clash, Every, every-out, every-in}
+use Rattle.format.proofs.RowLaws.{Each, each-with, each-test, slots-are}
+use Rattle.format.proofs.Chains.{passed, got-elim, no-value, CutBy, Law, Ok, IfThere, ok-there, there-ok, optional-law, chainE, ChainV, chain-law}
 use Rattle.format.proofs.Holds.{all-writable, writable-all}
 use Rattle.format.proofs.Sized.{sizedR}
 use Rattle.format.proofs.HeaderLaws.{HeaderV, header-law}
 use Rattle.format.proofs.ItemsLaws.{ItemsV, itemsValue, items-law}
 use Rattle.format.proofs.StringLaws.{StringV, string-law}
-use Rattle.format.proofs.InfoLaws.{noVolumeC, noNetworkC, infoValue, InfoT, InfoV, info-law}
+use Rattle.format.proofs.InfoLaws.{infoValue, InfoV, info-law}
+use Rattle.format.proofs.LinkLaws.{noInfoC, info-valid, info-can}
 use Rattle.format.proofs.BlockLaws.{blocksR, BlocksV, blocks-law}
-
-abbrev pub noInfoC : InfoContents
-noInfoC = record {
-  flags = 0;
-  long = false;
-  volume = noVolumeC;
-  local = [];
-  network = noNetworkC;
-  suffix = [];
-  localUnicode = [];
-  suffixUnicode = [];
-}
 
 -- ---- readers of contents
 
@@ -113,23 +106,56 @@ tail-s flags =
 abbrev pub file-s : Sect (Header × TailC)
 file-s = by-value header-s (λ h. tail-s (h .flags))
 
+-- ---- the contents: the way back from what LinkInfo's bytes say, and from the slots
+
+abbrev linkIn : InfoContents → Link
+linkIn i = record {
+  flags = i .flags;
+  long = i .long;
+  drive = i .volume .drive;
+  serial = i .volume .serial;
+  «label_unicode» = i .volume .unicode;
+  «network_flags» = i .network .flags;
+  provider = i .network .provider;
+  «network_unicode» = i .network .unicode;
+}
+
+abbrev infoBodies : InfoContents → List (List ℕ)
+infoBodies i =
+    i .volume .label
+    ∷ i .local
+    ∷ i .network .net
+    ∷ i .network .device
+    ∷ i .network .netUnicode
+    ∷ i .network .deviceUnicode
+    ∷ i .suffix
+    ∷ i .localUnicode
+    ∷ i .suffixUnicode
+    ∷ []
+
 abbrev pub toContents : Header × TailC → Contents
 toContents c =
     let (header, (items, (info, (name, (relative, (workdir, (arguments, (icon, blocks)))))))) = c in
     record {
       header = header;
-      items = items;
-      info = info;
-      name = name;
-      relative = relative;
-      workdir = workdir;
-      arguments = arguments;
-      icon = icon;
-      blocks = blocks;
+      link = linkIn info;
+      bodies = items ∷ infoBodies info ++ (name ∷ relative ∷ workdir ∷ arguments ∷ icon ∷ blocks ∷ []);
     }
 
+abbrev stringIn : Contents → ℕ → List ℕ
+stringIn c k = bodyIn c (stringSlot k)
+
 abbrev fromContents : Contents → Header × TailC
-fromContents c = (c .header, (c .items, (c .info, (c .name, (c .relative, (c .workdir, (c .arguments, (c .icon, c .blocks))))))))
+fromContents c = (
+  c .header,
+  (
+    bodyIn c itemsSlot,
+    (infoIn c, (stringIn c nameBit, (stringIn c relativeBit, (stringIn c workdirBit, (stringIn c argumentsBit, (stringIn c iconBit, bodyIn c blocksSlot)))))),
+  ),
+)
+
+whole-row : (c : Contents) → length (c .bodies) ≡ 16 → toContents (fromContents c) ≡ c
+whole-row c e = ap (λ (bs : List (List ℕ)). record { header = c .header; link = c .link; bodies = bs }) (slots-are [] 16 0 (c .bodies) e)
 
 -- ---- reading for contents
 
@@ -143,7 +169,7 @@ decode s =
     (andThen (fileR 0 s) (λ c n. tests (section 9 (n - 4)) (eqb n (length s) else TRAIL at 4 ∷ []) (got (toContents c) n)))
 
 unfoldable pub Valid : Contents → Type 0
-Valid c = file-s .Valid (fromContents c)
+Valid c = (length (c .bodies) ≡ 16) × file-s .Valid (fromContents c)
 
 -- end to end is one section after another
 canonical-is : (c : Contents) → canonical c ≡ file-s .writer (fromContents c)
@@ -175,12 +201,12 @@ read-back c v h =
     let l : List ℕ = canonical c in
     let q = canonical-is c in
     let e : fileR 0 l ≡ got (fromContents c) (length l)
-    = ap (fileR 0) (q ∙ sym (append-nil (file-s .writer (fromContents c)))) ∙ file-s .law .back (fromContents c) v (rw q at h) 0 [] ∙ ap (λ (x : List ℕ). got (fromContents c) (length x)) (sym q) in
-    rw (le-leb _ _ h, e, eq-eqb (length l) (length l) refl)
+    = ap (fileR 0) (q ∙ sym (append-nil (file-s .writer (fromContents c)))) ∙ file-s .law .back (fromContents c) (v .1) (rw q at h) 0 [] ∙ ap (λ (x : List ℕ). got (fromContents c) (length x)) (sym q) in
+    rw (le-leb _ _ h, e, eq-eqb (length l) (length l) refl) (ap (λ (x : Contents). got x (length l)) (whole-row c (v .0)))
 
 pub canonical-bytes : (c : Contents) → Valid c → Bytes (canonical c)
 unfolding Valid
-canonical-bytes c v = rw (canonical-is c) (file-s .law .bytes (fromContents c) v)
+canonical-bytes c v = rw (canonical-is c) (file-s .law .bytes (fromContents c) (v .1))
 
 pub record Shortest (s : List ℕ) (c : Contents) (n : ℕ) : Type 0 where
   pub valid : Valid c
@@ -195,7 +221,7 @@ shortest s c n bs e =
     decode-elim s (λ c n. Shortest s c n)
     (λ l a i.
     let f = file-s .law .fits 0 s a (length s) i bs in
-    record { valid = f .valid; short = rw (canonical-is (toContents a)) (f .short); all = refl; limit = l })
+    record { valid = (refl, f .valid); short = rw (canonical-is (toContents a)) (f .short); all = refl; limit = l })
     c n e
 
 -- an accepted shortcut without its end is cut
@@ -214,70 +240,67 @@ beginning s c n e k h =
 
 -- ---- what can be written, as a test
 
+abbrev rows : Contents → List BodyRow
+rows c = bodyTable (c .header .flags) (c .link)
+
 pub record Typed (c : Contents) : Type 0 where
   pub header : FitsHeader (c .header)
-  pub items : IfThere (itemsThere (c .header .flags)) [] Bytes (c .items)
-  pub info : IfThere (infoThere (c .header .flags)) noInfoC InfoT (c .info)
-  pub name : IfThere (stringThere nameBit (c .header .flags)) [] Bytes (c .name)
-  pub relative : IfThere (stringThere relativeBit (c .header .flags)) [] Bytes (c .relative)
-  pub workdir : IfThere (stringThere workdirBit (c .header .flags)) [] Bytes (c .workdir)
-  pub arguments : IfThere (stringThere argumentsBit (c .header .flags)) [] Bytes (c .arguments)
-  pub icon : IfThere (stringThere iconBit (c .header .flags)) [] Bytes (c .icon)
-  pub blocks : Bytes (c .blocks)
+  pub fits : FitsLink (c .link)
+  pub zeros : cond (infoThere (c .header .flags)) (presentLink (c .link)) noLink ≡ c .link
+  pub row : length (c .bodies) ≡ 16
+  pub bodies : Each [] (λ b. IfThere (b .there) [] Bytes) 0 (rows c) (c .bodies)
 
--- a writable text of the string section k
-abbrev there-string : (c : Contents) (k : ℕ) (x : List ℕ) → IfThere (stringThere k (c .header .flags)) [] Bytes x → writableStringOf c k x ≡ true
-    → IfThere (stringThere k (c .header .flags)) [] (StringV (stringsUnicode (c .header .flags))) x
-there-string c k x t e = ok-there Bytes (writableString (stringsUnicode (c .header .flags))) (stringThere k (c .header .flags)) [] x t e
+abbrev RowV : BodyRow → List ℕ → Type 0
+RowV b = IfThere (b .there) [] (Ok Bytes (writableBody (b .kind)))
+
+-- both of one row
+row-valid : (b : BodyRow) (x : List ℕ) → IfThere (b .there) [] Bytes x → writableRow b x ≡ true → RowV b x
+row-valid b x = ok-there Bytes (writableBody (b .kind)) (b .there) [] x
 
 pub can-valid : (c : Contents) → Typed c → writable c ≡ true → Valid c × (length (canonical c) ≤ most)
 unfolding Valid
 can-valid c t e =
-    let f : ℕ = c .header .flags in
-    let can = all-writable c e in (
-      (
-        record { typed = t .header; can = can .header },
-        (
-          ok-there Bytes writableItems (itemsThere f) [] (c .items) (t .items) (can .items),
-          (
-            ok-there InfoT writableInfo (infoThere f) noInfoC (c .info) (t .info) (can .info),
-            (
-              there-string c nameBit (c .name) (t .name) (can .name),
-              (
-                there-string c relativeBit (c .relative) (t .relative) (can .relative),
-                (
-                  there-string c workdirBit (c .workdir) (t .workdir) (can .workdir),
-                  (
-                    there-string c argumentsBit (c .arguments) (t .arguments) (can .arguments),
-                    (there-string c iconBit (c .icon) (t .icon) (can .icon), record { typed = t .blocks; can = can .blocks }),
-                  ),
-                ),
-              ),
-            ),
-          ),
-        ),
-      ),
+    let can = all-writable c e in
+    let (flags, (drive, (networkFlags, z))) = every-out (_ ∷ _ ∷ _ ∷ []) (can .link) in
+    let (items, (label, (local, (net, (device, (netUnicode, (deviceUnicode, (suffix, (localUnicode, (suffixUnicode, strings))))))))))
+    = each-with [] row-valid 0 (rows c) (c .bodies) (t .bodies) (each-test [] writableRow 0 (rows c) (c .bodies) (can .bodies)) in
+    let (name, (relative, (workdir, (arguments, (icon, (blocks, y)))))) = strings in
+    let info = info-valid c (t .fits) (infoThere (c .header .flags)) (t .zeros) (record { flags = flags; drive = drive; networkFlags = networkFlags }) (record {
+      label = label;
+      local = local;
+      net = net;
+      device = device;
+      netUnicode = netUnicode;
+      deviceUnicode = deviceUnicode;
+      suffix = suffix;
+      localUnicode = localUnicode;
+      suffixUnicode = suffixUnicode;
+    }) in (
+      (t .row, (record { typed = t .header; can = can .header }, (items, (info, (name, (relative, (workdir, (arguments, (icon, blocks))))))))),
       leb-true _ _ (can .short),
     )
 
-abbrev string-can : (c : Contents) (k : ℕ) (x : List ℕ) → IfThere (stringThere k (c .header .flags)) [] (StringV (stringsUnicode (c .header .flags))) x → writableStringOf c k x ≡ true
-string-can c k x v = (there-ok Bytes (writableString (stringsUnicode (c .header .flags))) (stringThere k (c .header .flags)) [] x v) .1
+row-can : (b : BodyRow) (x : List ℕ) → RowV b x → writableRow b x ≡ true
+row-can b x v = (there-ok Bytes (writableBody (b .kind)) (b .there) [] x v) .1
 
 pub valid-can : (c : Contents) → Valid c → length (canonical c) ≤ most → writable c ≡ true
 unfolding Valid
 valid-can c v h =
-    let f : ℕ = c .header .flags in
-    let (header, (items, (info, (name, (relative, (workdir, (arguments, (icon, blocks)))))))) = v in
+    let f = c .header .flags in
+    let (header, (items, (info, (name, (relative, (workdir, (arguments, (icon, blocks)))))))) = v .1 in
+    let (n, t) = info-can c (infoThere f) info in
+    let string : (k : ℕ) → RowV (stringRow f (c .link) k) (stringIn c k) → writableRow (stringRow f (c .link) k) (stringIn c k) ≡ true
+    = λ k. row-can (stringRow f (c .link) k) (stringIn c k) in
+    let strings : Every (along [] writableRow 10 (drop 10 (rows c)) (c .bodies))
+    = (string nameBit name, (string relativeBit relative, (string workdirBit workdir, (string argumentsBit arguments, (string iconBit icon, (blocks .can, tt)))))) in
     writable-all c (record {
       header = header .can;
-      items = (there-ok Bytes writableItems (itemsThere f) [] (c .items) items) .1;
-      info = (there-ok InfoT writableInfo (infoThere f) noInfoC (c .info) info) .1;
-      name = string-can c nameBit (c .name) name;
-      relative = string-can c relativeBit (c .relative) relative;
-      workdir = string-can c workdirBit (c .workdir) workdir;
-      arguments = string-can c argumentsBit (c .arguments) arguments;
-      icon = string-can c iconBit (c .icon) icon;
-      blocks = blocks .can;
+      link = every-in (_ ∷ _ ∷ _ ∷ []) (n .flags, (n .drive, (n .networkFlags, tt)));
+      bodies =
+          every-in (writableBodies c) (
+            row-can (bodyRow (itemsThere f) itemsKind) (bodyIn c itemsSlot) items,
+            (t .label, (t .local, (t .net, (t .device, (t .netUnicode, (t .deviceUnicode, (t .suffix, (t .localUnicode, (t .suffixUnicode, strings))))))))),
+          );
       short = le-leb (length (canonical c)) most h;
     })
 

@@ -1,24 +1,16 @@
--- FORMAT: Bodies. The bodies of a record in one table: what makes each present, its kind, and its place. Its order is that of the fields at the boundary.
+-- FORMAT: Bodies. The bodies of a record in one row of slots: what makes each present, its kind, and its place. The order is that of the fields at the boundary.
 use Prim.Native.Nat.{ℕ, _+_}
-use mathlib.Core.List.{List, [], _∷_, map}
+use mathlib.Core.List.{List, [], _∷_}
 use mathlib.Core.Bool.{Bool, true, false, _&&_, cond}
+use lib.ListN.{getD}
 use lib.Dec.{leb}
 use Rattle.format.specs.declared.Place.{Place}
-use Rattle.format.specs.declared.Label.{Label}
-use Rattle.format.specs.declared.Label.the-variants.{Byte, Unicode}
+use Rattle.format.specs.declared.Link.{Link}
 use Rattle.format.specs.declared.Record.{Record}
 use Rattle.format.specs.Tests.{noPlace}
 use Rattle.format.specs.Presence.{itemsThere, infoThere, nameBit, relativeBit, workdirBit, argumentsBit, iconBit, stringThere, stringsUnicode, localThere, networkThere, localUnicodeThere, deviceThere, deviceUnicodeThere}
 
-abbrev pub labelPlace : Label → Place
-labelPlace (Byte b) = b
-labelPlace (Unicode b) = b
-
-abbrev pub labelKind : Label → Bool
-labelKind (Byte b) = false
-labelKind (Unicode b) = true
-
--- ---- a row
+-- ---- the table
 
 -- items; a text with its terminator, a string after its count, each of bytes or of Unicode; blocks
 pub data BodyKind : Type 0 where
@@ -30,53 +22,102 @@ pub data BodyKind : Type 0 where
 pub record BodyRow : Type 0 where
   pub there : Bool
   pub kind : BodyKind
-  pub place : Place
 
-abbrev pub bodyRow : Bool → BodyKind → Place → BodyRow
-bodyRow there kind place = record { there = there; kind = kind; place = place }
+abbrev pub bodyRow : Bool → BodyKind → BodyRow
+bodyRow there kind = record { there = there; kind = kind }
 
--- ---- the table
+-- what belongs to LinkInfo is there only if LinkInfo is, and what belongs to its network link only if that is
+abbrev pub inInfo : ℕ → Bool → Bool
+inInfo flags there = infoThere flags && there
 
-module _ (r : Record) where
-  -- what belongs to LinkInfo is there only if LinkInfo is, and what belongs to its network link only if that is
-  abbrev pub inInfo : Bool → Bool
-  inInfo there = infoThere (r .header .flags) && there
+abbrev pub inNetwork : ℕ → Link → Bool → Bool
+inNetwork flags l there = inInfo flags (networkThere (l .flags) && there)
 
-  abbrev pub inNetwork : Bool → Bool
-  inNetwork there = inInfo (networkThere (r .info .flags) && there)
+-- by LinkFlags, and by LinkInfo's numbers and kinds
+module _ (flags : ℕ) (l : Link) where
+  abbrev pub stringRow : ℕ → BodyRow
+  stringRow k = bodyRow (stringThere k flags) (stringKind (stringsUnicode flags))
 
-  abbrev pub stringRow : ℕ → Place → BodyRow
-  stringRow k = bodyRow (stringThere k (r .header .flags)) (stringKind (stringsUnicode (r .header .flags)))
-
+  -- items; label, local path; net name, device name and their Unicode twins; suffix, Unicode local path, Unicode suffix; the strings; blocks
   abbrev pub bodyTable : List BodyRow
   bodyTable =
-      bodyRow (itemsThere (r .header .flags)) itemsKind (r .items)
-      ∷ bodyRow (inInfo (localThere (r .info .flags))) (textKind (labelKind (r .info .volume .label))) (labelPlace (r .info .volume .label))
-      ∷ bodyRow (inInfo (localThere (r .info .flags))) (textKind false) (r .info .local)
-      ∷ bodyRow (inNetwork true) (textKind false) (r .info .network .net)
-      ∷ bodyRow (inNetwork (deviceThere (r .info .network .flags))) (textKind false) (r .info .network .device)
-      ∷ bodyRow (inNetwork (r .info .network .unicode)) (textKind true) (r .info .network .«net_unicode»)
-      ∷ bodyRow (inNetwork (deviceUnicodeThere (r .info .network .unicode) (r .info .network .flags))) (textKind true) (r .info .network .«device_unicode»)
-      ∷ bodyRow (inInfo true) (textKind false) (r .info .suffix)
-      ∷ bodyRow (inInfo (localUnicodeThere (r .info .long) (r .info .flags))) (textKind true) (r .info .«local_unicode»)
-      ∷ bodyRow (inInfo (r .info .long)) (textKind true) (r .info .«suffix_unicode»)
-      ∷ stringRow nameBit (r .name)
-      ∷ stringRow relativeBit (r .relative)
-      ∷ stringRow workdirBit (r .workdir)
-      ∷ stringRow argumentsBit (r .arguments)
-      ∷ stringRow iconBit (r .icon)
-      ∷ bodyRow true blocksKind (r .blocks)
+      bodyRow (itemsThere flags) itemsKind
+      ∷ bodyRow (inInfo flags (localThere (l .flags))) (textKind (l .«label_unicode»))
+      ∷ bodyRow (inInfo flags (localThere (l .flags))) (textKind false)
+      ∷ bodyRow (inInfo flags (networkThere (l .flags))) (textKind false)
+      ∷ bodyRow (inNetwork flags l (deviceThere (l .«network_flags»))) (textKind false)
+      ∷ bodyRow (inNetwork flags l (l .«network_unicode»)) (textKind true)
+      ∷ bodyRow (inNetwork flags l (deviceUnicodeThere (l .«network_unicode») (l .«network_flags»))) (textKind true)
+      ∷ bodyRow (infoThere flags) (textKind false)
+      ∷ bodyRow (inInfo flags (localUnicodeThere (l .long) (l .flags))) (textKind true)
+      ∷ bodyRow (inInfo flags (l .long)) (textKind true)
+      ∷ stringRow nameBit
+      ∷ stringRow relativeBit
+      ∷ stringRow workdirBit
+      ∷ stringRow argumentsBit
+      ∷ stringRow iconBit
+      ∷ bodyRow true blocksKind
       ∷ []
 
--- ---- the places
+abbrev pub tableOf : Record → List BodyRow
+tableOf r = bodyTable (r .header .flags) (r .link)
+
+-- ---- the slots by name
+
+abbrev pub itemsSlot : ℕ
+itemsSlot = 0
+
+abbrev pub labelSlot : ℕ
+labelSlot = 1
+
+abbrev pub localSlot : ℕ
+localSlot = 2
+
+abbrev pub netSlot : ℕ
+netSlot = 3
+
+abbrev pub deviceSlot : ℕ
+deviceSlot = 4
+
+abbrev pub netUnicodeSlot : ℕ
+netUnicodeSlot = 5
+
+abbrev pub deviceUnicodeSlot : ℕ
+deviceUnicodeSlot = 6
+
+abbrev pub suffixSlot : ℕ
+suffixSlot = 7
+
+abbrev pub localUnicodeSlot : ℕ
+localUnicodeSlot = 8
+
+abbrev pub suffixUnicodeSlot : ℕ
+suffixUnicodeSlot = 9
+
+-- of the string with this flag bit
+abbrev pub stringSlot : ℕ → ℕ
+stringSlot k = 8 + k
+
+abbrev pub blocksSlot : ℕ
+blocksSlot = 15
+
+-- what the record holds there, present or not
+abbrev pub placeIn : Record → ℕ → Place
+placeIn r k = getD (r .places) k noPlace
+
+-- ---- the whole row
+
+-- the table beside what a record or its contents hold, slot by slot from k on; d stands for what they lack
+abbrev pub along : {A B : Type 0} → A → (BodyRow → A → B) → ℕ → List BodyRow → List A → List B
+along d f k [] xs = []
+along d f k (b ∷ bs) xs = f b (getD xs k d) ∷ along d f (k + 1) bs xs
 
 -- zeros for what is absent
-abbrev pub zeroed : BodyRow → Place
-zeroed b = cond (b .there) (b .place) noPlace
+abbrev pub kept : BodyRow → Place → Place
+kept b p = cond (b .there) p noPlace
 
--- what the record holds, present or not
-abbrev pub bodies : Record → List Place
-bodies r = map (λ b. b .place) (bodyTable r)
+abbrev pub zeroed : List BodyRow → List Place → List Place
+zeroed bs ps = along noPlace kept 0 bs ps
 
 abbrev pub allInside : ℕ → List Place → Bool
 allInside n [] = true
@@ -84,7 +125,7 @@ allInside n (b ∷ bs) = leb (b .at + b .len) n && allInside n bs
 
 -- no present body's place plus its length exceeds n, the body buffer's length
 unfoldable pub placed : ℕ → Record → Bool
-placed n r = allInside n (map zeroed (bodyTable r))
+placed n r = allInside n (zeroed (tableOf r) (r .places))
 
 -- ---- the lengths, as written
 

@@ -5,12 +5,14 @@ use mathlib.Core.Bool.{Bool, true, false, not, _&&_, _||_}
 use lib.ListN.{length, take}
 use lib.Dec.{leb, eqb}
 use Rattle.octets.specs.Numbers.{u32At}
+use Rattle.format.specs.declared.Place.{Place}
 use Rattle.format.specs.declared.Info.{Info}
+use Rattle.format.specs.declared.Link.{Link}
 use Rattle.format.specs.declared.Fault.the-variants.{Cut as CUT, Info as INFO}
 use Rattle.format.specs.Tests.{Test, _else_at_, section, tests, got, Reader, noPlace}
 use Rattle.format.specs.Presence.{localThere, networkThere, localUnicodeThere}
 use Rattle.format.specs.Pieces.{Piece, textPiece, textPlace, absentZero, pieceTests}
-use Rattle.format.specs.Volume.{volumePiece, volumeAt, noVolume}
+use Rattle.format.specs.Volume.{volumePiece, volumeAt, noVolume, labelPlace, labelKind}
 use Rattle.format.specs.Network.{networkPiece, networkAt, noNetwork}
 
 abbrev pub infoSize : List ℕ → ℕ
@@ -101,3 +103,30 @@ info p s =
     ∷ leb (infoSize s) (length s) else CUT at 0
     ∷ infoRules (take (infoSize s) s))
     (got (infoFields p (take (infoSize s) s)) (infoSize s))
+
+-- ---- what the record holds of it: its numbers and kinds, and its bodies' places in the order of the slots
+
+abbrev pub linkOf : Info → Link
+linkOf i = record {
+  flags = i .flags;
+  long = i .long;
+  drive = i .volume .drive;
+  serial = i .volume .serial;
+  «label_unicode» = labelKind (i .volume .label);
+  «network_flags» = i .network .flags;
+  provider = i .network .provider;
+  «network_unicode» = i .network .unicode;
+}
+
+abbrev pub infoPlaces : Info → List Place
+infoPlaces i =
+    labelPlace (i .volume .label)
+    ∷ i .local
+    ∷ i .network .net
+    ∷ i .network .device
+    ∷ i .network .«net_unicode»
+    ∷ i .network .«device_unicode»
+    ∷ i .suffix
+    ∷ i .«local_unicode»
+    ∷ i .«suffix_unicode»
+    ∷ []

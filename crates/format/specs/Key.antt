@@ -15,6 +15,7 @@ use Rattle.format.specs.Tests.{Outcome, got, refused, _else_at_, noSecti
 use Rattle.format.specs.Presence.{workdirBit, argumentsBit, stringThere, stringsUnicode}
 use Rattle.format.specs.Blocks.{firstPlace}
 use Rattle.format.specs.Shortcut.{Sections, blocksOf, shortcut, recordOf, verdictOf}
+use Rattle.format.specs.Bodies.{placeIn, stringSlot}
 use Rattle.format.specs.Contents.{bytesAt}
 use Rattle.format.specs.Writing.{outputOf}
 use Rattle.format.specs.Target.{hasTarget, targetText}
@@ -49,8 +50,8 @@ keyOf s c =
     record {
       unicode = stringsUnicode (r .header .flags);
       target = partIf (hasTarget r) (targetText s r);
-      arguments = partIf (stringThere argumentsBit (r .header .flags)) (bytesAt s (r .arguments));
-      workdir = partIf (stringThere workdirBit (r .header .flags)) (bytesAt s (r .workdir));
+      arguments = partIf (stringThere argumentsBit (r .header .flags)) (bytesAt s (placeIn r (stringSlot argumentsBit)));
+      workdir = partIf (stringThere workdirBit (r .header .flags)) (bytesAt s (placeIn r (stringSlot workdirBit)));
       environment = environment s (firstPlace s 0xA0000001 (blocksOf c .start) (blocksOf c .read));
     }
 
@@ -105,4 +106,4 @@ pub record SameParts (k l : Key) : Type 0 where
 
 -- the characters of the arguments, where there are any
 abbrev pub argumentsOf : List ℕ → Record → Part
-argumentsOf s r = partIf (stringThere argumentsBit (r .header .flags)) (characters (stringsUnicode (r .header .flags)) (bytesAt s (r .arguments)))
+argumentsOf s r = partIf (stringThere argumentsBit (r .header .flags)) (characters (stringsUnicode (r .header .flags)) (bytesAt s (placeIn r (stringSlot argumentsBit))))

@@ -2,16 +2,15 @@
 use Prim.Native.Nat.{ℕ}
 use mathlib.Core.List.{List, [], _∷_, _++_}
 use mathlib.Core.Bool.{Bool, true, false, _&&_}
-use lib.ListN.{replicate}
+use lib.ListN.{replicate, set}
 use lib.Dec.{eqb}
 use Rattle.octets.specs.Numbers.{little}
 use Rattle.format.specs.declared.Record.{Record}
 use Rattle.format.specs.declared.Verdict.{Verdict}
 use Rattle.format.specs.Numbers.{answerNumber, answerValue}
 use Rattle.format.specs.Tests.{place, noPlace}
-use Rattle.format.specs.Volume.{noVolume}
-use Rattle.format.specs.Network.{noNetwork}
 use Rattle.format.specs.Shortcut.{reading, noHeader}
+use Rattle.format.specs.Bodies.{localSlot}
 use Rattle.format.specs.Writing.{writeAnswer, writeOutput}
 use Rattle.format.specs.Listing.{Row, listing}
 
@@ -58,23 +57,8 @@ zeroPath = record {
     command = 0;
     hotkey = 0;
   };
-  items = noPlace;
-  info = record {
-    flags = 1;
-    long = false;
-    volume = noVolume;
-    local = place 0 1;
-    network = noNetwork;
-    suffix = noPlace;
-    «local_unicode» = noPlace;
-    «suffix_unicode» = noPlace;
-  };
-  name = noPlace;
-  relative = noPlace;
-  workdir = noPlace;
-  arguments = noPlace;
-  icon = noPlace;
-  blocks = noPlace;
+  link = record { flags = 1; long = false; drive = 0; serial = 0; «label_unicode» = false; «network_flags» = 0; provider = 0; «network_unicode» = false };
+  places = set (replicate 16 noPlace) localSlot (place 0 1);
 }
 
 -- ---- rows

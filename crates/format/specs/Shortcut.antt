@@ -1,8 +1,8 @@
 -- FORMAT: Layout, Order of reading, The end. The whole shortcut: LONG first, then the sections in file order, TRAIL last.
 use Prim.Native.Nat.{ℕ, _+_, _-_}
-use mathlib.Core.List.{List, [], _∷_}
+use mathlib.Core.List.{List, [], _∷_, _++_}
 use mathlib.Core.Bool.{Bool, true, false}
-use lib.ListN.{length}
+use lib.ListN.{length, replicate}
 use lib.Dec.{leb, eqb}
 use lib.IntN.{pos}
 use Rattle.format.specs.declared.Fault.the-variants.{Long as LONG, Trail as TRAIL}
@@ -11,6 +11,7 @@ use Rattle.format.specs.declared.Verdict.the-variants.{Accepted, Refused
 use Rattle.format.specs.declared.Place.{Place}
 use Rattle.format.specs.declared.Header.{Header}
 use Rattle.format.specs.declared.Info.{Info}
+use Rattle.format.specs.declared.Link.{Link}
 use Rattle.format.specs.declared.Record.{Record}
 use Rattle.format.specs.declared.Reading.{Reading}
 use Rattle.format.specs.declared.Faulted.{Faulted}
@@ -18,7 +19,7 @@ use Rattle.format.specs.Tests.{_else_at_, Site, section, noSection, test
 use Rattle.format.specs.Presence.{itemsThere, infoThere, nameBit, relativeBit, workdirBit, argumentsBit, iconBit, stringThere, stringsUnicode}
 use Rattle.format.specs.Header.{header}
 use Rattle.format.specs.Items.{items}
-use Rattle.format.specs.Info.{info, noInfo}
+use Rattle.format.specs.Info.{info, noInfo, linkOf, infoPlaces}
 use Rattle.format.specs.Strings.{string}
 use Rattle.format.specs.Blocks.{blocks}
 
@@ -91,14 +92,11 @@ recordOf c =
     let (header, (items, (info, (name, (relative, (workdir, (arguments, (icon, blocks)))))))) = c in
     record {
       header = header .read;
-      items = items .read;
-      info = info .read;
-      name = name .read;
-      relative = relative .read;
-      workdir = workdir .read;
-      arguments = arguments .read;
-      icon = icon .read;
-      blocks = place (blocks .start) (sum (blocks .read));
+      link = linkOf (info .read);
+      places =
+          items .read
+          ∷ infoPlaces (info .read)
+          ++ (name .read ∷ relative .read ∷ workdir .read ∷ arguments .read ∷ icon .read ∷ place (blocks .start) (sum (blocks .read)) ∷ []);
     }
 
 abbrev pub noHeader : Header
@@ -114,18 +112,11 @@ noHeader = record {
   hotkey = 0;
 }
 
+abbrev pub noLink : Link
+noLink = linkOf noInfo
+
 abbrev pub noRecord : Record
-noRecord = record {
-  header = noHeader;
-  items = noPlace;
-  info = noInfo;
-  name = noPlace;
-  relative = noPlace;
-  workdir = noPlace;
-  arguments = noPlace;
-  icon = noPlace;
-  blocks = noPlace;
-}
+noRecord = record { header = noHeader; link = noLink; places = replicate 16 noPlace }
 
 -- an accepted answer carries the length, a refusal its fault and position
 abbrev pub verdictOf : {A : Type 0} → Outcome A → Verdict

@@ -10,6 +10,7 @@ use Rattle.format.specs.declared.Fault.the-variants.{Room as ROOM, NoTar
 use Rattle.format.specs.Tests.{Outcome, got, _else_at_, noSection, tests, andThen, bit}
 use Rattle.format.specs.Presence.{infoThere, localThere, networkThere}
 use Rattle.format.specs.Shortcut.{shortcut, recordOf, verdictOf}
+use Rattle.format.specs.Bodies.{placeIn, localSlot, netSlot, suffixSlot}
 use Rattle.format.specs.Contents.{bytesAt}
 use Rattle.format.specs.Writing.{outputOf}
 
@@ -18,7 +19,7 @@ abbrev pub targeted : ℕ → ℕ → Bool
 targeted flags infoFlags = not (bit 8 flags) && infoThere flags && (localThere infoFlags || networkThere infoFlags)
 
 abbrev pub hasTarget : Record → Bool
-hasTarget r = targeted (r .header .flags) (r .info .flags)
+hasTarget r = targeted (r .header .flags) (r .link .flags)
 
 -- a backslash is wanted between two texts that both have bytes, unless the first brings it
 abbrev pub separated : List ℕ → List ℕ → Bool
@@ -37,7 +38,7 @@ joined first suffix = first ++ (separator first suffix ++ suffix)
 -- the first text is the local path where there is one, else the net name
 abbrev pub targetText : List ℕ → Record → List ℕ
 targetText s r =
-    joined (cond (localThere (r .info .flags)) (bytesAt s (r .info .local)) (bytesAt s (r .info .network .net))) (bytesAt s (r .info .suffix))
+    joined (cond (localThere (r .link .flags)) (bytesAt s (placeIn r localSlot)) (bytesAt s (placeIn r netSlot))) (bytesAt s (placeIn r suffixSlot))
 
 -- after the tests of reading: 13, then 12
 unfoldable pub target : List ℕ → ℕ → Outcome (List ℕ)

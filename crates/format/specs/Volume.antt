@@ -1,7 +1,7 @@
 -- FORMAT: VolumeID.
 use Prim.Native.Nat.{ℕ, _+_}
 use mathlib.Core.List.{List, _∷_}
-use mathlib.Core.Bool.{Bool, true, cond}
+use mathlib.Core.Bool.{Bool, true, false, cond}
 use lib.ListN.{take, drop}
 use lib.Dec.{leb, eqb}
 use Rattle.octets.specs.Numbers.{u32At}
@@ -49,6 +49,14 @@ volumePiece present l i o =
 
 abbrev pub labelOf : Bool → Place → Label
 labelOf unicode b = cond unicode (Unicode b) (Byte b)
+
+abbrev pub labelPlace : Label → Place
+labelPlace (Byte b) = b
+labelPlace (Unicode b) = b
+
+abbrev pub labelKind : Label → Bool
+labelKind (Byte b) = false
+labelKind (Unicode b) = true
 
 abbrev pub noVolume : Volume
 noVolume = record { drive = 0; serial = 0; label = Byte noPlace }

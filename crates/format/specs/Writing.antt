@@ -9,6 +9,7 @@ use Rattle.octets.specs.Numbers.{little}
 use Rattle.octets.specs.Characters.{bytesOf, characters}
 use Rattle.octets.specs.Parts.{put}
 use Rattle.format.specs.declared.Header.{Header}
+use Rattle.format.specs.declared.Link.{Link}
 use Rattle.format.specs.declared.Record.{Record}
 use Rattle.format.specs.declared.Verdict.{Verdict}
 use Rattle.format.specs.declared.Fault.the-variants.{Place as PLACE, Unwritable as UNWRITABLE, Room as ROOM}
@@ -22,8 +23,8 @@ use Rattle.format.specs.Volume.{labelLeast}
 use Rattle.format.specs.Network.{networkHead}
 use Rattle.format.specs.Blocks.{blocks}
 use Rattle.format.specs.Shortcut.{most, verdictOf}
-use Rattle.format.specs.Bodies.{placed, writtenHead}
-use Rattle.format.specs.Contents.{VolumeContents, NetworkContents, InfoContents, Contents, contents}
+use Rattle.format.specs.Bodies.{BodyKind, itemsKind, textKind, stringKind, blocksKind, BodyRow, inInfo, bodyTable, itemsSlot, stringSlot, blocksSlot, along, placed, writtenHead}
+use Rattle.format.specs.Contents.{VolumeContents, NetworkContents, InfoContents, Contents, bodyIn, infoIn, contents}
 
 abbrev pub endToEnd : List (List ℕ) → List ℕ
 endToEnd [] = []
@@ -217,8 +218,8 @@ stringBytes unicode x = little 2 (length (characters unicode x)) ++ x
 abbrev pub blocksBytes : List ℕ → List ℕ
 blocksBytes x = x ++ little 4 0
 
-abbrev pub stringPart : Contents → ℕ → List ℕ → List ℕ
-stringPart c k x = ifThere (stringThere k (c .header .flags)) (stringBytes (stringsUnicode (c .header .flags))) x
+abbrev pub stringPart : Contents → ℕ → List ℕ
+stringPart c k = ifThere (stringThere k (c .header .flags)) (stringBytes (stringsUnicode (c .header .flags))) (bodyIn c (stringSlot k))
 
 -- The sections in file order
 unfoldable pub canonical : Contents → List ℕ
@@ -226,14 +227,14 @@ unfolding headerBytes itemsBytes infoBytes stringBytes
 canonical c =
     endToEnd
     (headerBytes (c .header)
-    ∷ ifThere (itemsThere (c .header .flags)) itemsBytes (c .items)
-    ∷ ifThere (infoThere (c .header .flags)) infoBytes (c .info)
-    ∷ stringPart c nameBit (c .name)
-    ∷ stringPart c relativeBit (c .relative)
-    ∷ stringPart c workdirBit (c .workdir)
-    ∷ stringPart c argumentsBit (c .arguments)
-    ∷ stringPart c iconBit (c .icon)
-    ∷ blocksBytes (c .blocks)
+    ∷ ifThere (itemsThere (c .header .flags)) itemsBytes (bodyIn c itemsSlot)
+    ∷ ifThere (infoThere (c .header .flags)) infoBytes (infoIn c)
+    ∷ stringPart c nameBit
+    ∷ stringPart c relativeBit
+    ∷ stringPart c workdirBit
+    ∷ stringPart c argumentsBit
+    ∷ stringPart c iconBit
+    ∷ blocksBytes (bodyIn c blocksSlot)
     ∷ [])
 
 -- ---- which contents can be written
@@ -256,31 +257,6 @@ writableItems x = ltb (length x + 2) 65536 && itemList (x ++ 0 ∷ 0 ∷ [])
 abbrev pub writableText : Bool → List ℕ → Bool
 writableText unicode x = eqb (textLength unicode x) (length x)
 
-abbrev pub writableVolume : VolumeContents → Bool
-writableVolume v = leb (v .drive) 6 && writableText (v .unicode) (v .label)
-
-abbrev pub writableNetwork : NetworkContents → Bool
-writableNetwork n =
-    every
-    (leb (n .flags) 3
-    ∷ writableText false (n .net)
-    ∷ writableIf (deviceThere (n .flags)) (writableText false) (n .device)
-    ∷ writableIf (n .unicode) (writableText true) (n .netUnicode)
-    ∷ writableIf (deviceUnicodeThere (n .unicode) (n .flags)) (writableText true) (n .deviceUnicode)
-    ∷ [])
-
-abbrev pub writableInfo : InfoContents → Bool
-writableInfo i =
-    every
-    (leb (i .flags) 3
-    ∷ writableIf (localThere (i .flags)) writableVolume (i .volume)
-    ∷ writableIf (localThere (i .flags)) (writableText false) (i .local)
-    ∷ writableIf (networkThere (i .flags)) writableNetwork (i .network)
-    ∷ writableText false (i .suffix)
-    ∷ writableIf (localUnicodeThere (i .long) (i .flags)) (writableText true) (i .localUnicode)
-    ∷ writableIf (i .long) (writableText true) (i .suffixUnicode)
-    ∷ [])
-
 -- whole characters, as many as a count can hold
 abbrev pub writableString : Bool → List ℕ → Bool
 writableString unicode x =
@@ -294,22 +270,36 @@ takes n (refused f p) = false
 abbrev pub writableBlocks : List ℕ → Bool
 writableBlocks x = takes (length x + 4) (blocks 0 (x ++ little 4 0))
 
-abbrev pub writableStringOf : Contents → ℕ → List ℕ → Bool
-writableStringOf c k x = writableIf (stringThere k (c .header .flags)) (writableString (stringsUnicode (c .header .flags))) x
+abbrev pub writableBody : BodyKind → List ℕ → Bool
+writableBody itemsKind = writableItems
+writableBody (textKind unicode) = writableText unicode
+writableBody (stringKind unicode) = writableString unicode
+writableBody blocksKind = writableBlocks
+
+-- what is absent can be written
+abbrev pub writableRow : BodyRow → List ℕ → Bool
+writableRow b = writableIf (b .there) (writableBody (b .kind))
+
+-- LinkInfo's flags, the drive type, and the network link's flags
+abbrev pub writableLink : ℕ → Link → Bool
+writableLink flags l =
+    every
+    (writableIf (infoThere flags) (λ n. leb n 3) (l .flags)
+    ∷ writableIf (inInfo flags (localThere (l .flags))) (λ n. leb n 6) (l .drive)
+    ∷ writableIf (inInfo flags (networkThere (l .flags))) (λ n. leb n 3) (l .«network_flags»)
+    ∷ [])
+
+-- each body by the rule of its kind
+abbrev pub writableBodies : Contents → List Bool
+writableBodies c = along [] writableRow 0 (bodyTable (c .header .flags) (c .link)) (c .bodies)
 
 unfoldable pub writable : Contents → Bool
 unfolding canonical
 writable c =
     every
     (writableHeader (c .header)
-    ∷ writableIf (itemsThere (c .header .flags)) writableItems (c .items)
-    ∷ writableIf (infoThere (c .header .flags)) writableInfo (c .info)
-    ∷ writableStringOf c nameBit (c .name)
-    ∷ writableStringOf c relativeBit (c .relative)
-    ∷ writableStringOf c workdirBit (c .workdir)
-    ∷ writableStringOf c argumentsBit (c .arguments)
-    ∷ writableStringOf c iconBit (c .icon)
-    ∷ writableBlocks (c .blocks)
+    ∷ writableLink (c .header .flags) (c .link)
+    ∷ every (writableBodies c)
     ∷ leb (length (canonical c)) most
     ∷ [])
 

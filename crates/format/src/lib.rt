@@ -7,10 +7,10 @@ ghost use Rattle.format.specs.Numbers.{numberOf};
 ghost use Rattle.format.specs.Tests.{section as sectionFrom, spotAt, bit, oneOr0};
 ghost use Rattle.format.specs.Presence.{itemsThere, infoThere, nameBit, relativeBit, workdirBit, argumentsBit, iconBit, stringThere, stringsUnicode, localThere, networkThere, localUnicodeThere, deviceThere, providerThere, deviceUnicodeThere};
 ghost use Rattle.format.specs.Header.{signed};
-ghost use Rattle.format.specs.Volume.{labelOf};
+ghost use Rattle.format.specs.Volume.{labelOf, labelPlace, labelKind};
 ghost use Rattle.format.specs.Writing.{bits};
-ghost use Rattle.format.specs.Bodies.{labelPlace, labelKind};
 ghost use Rattle.format.specs.Steps.Wrong.{first};
+ghost use Rattle.format.specs.Steps.Shape.{shapeOf};
 
 // Where a body stands in the body buffer, and how many bytes it has.
 pub struct Place {
@@ -30,6 +30,8 @@ pub struct Header {
     pub command: u32,
     pub hotkey: u16,
 }
+
+// ---- what LinkInfo's reader answers
 
 // A label has a kind, and with either kind a place.
 pub enum Label {
@@ -64,16 +66,59 @@ pub struct Info {
     pub suffix_unicode: Place,
 }
 
+// LinkInfo's numbers and kinds.
+pub struct Link {
+    pub flags: u32,
+    pub long: bool,
+    pub drive: u32,
+    pub serial: u32,
+    pub label_unicode: bool,
+    pub network_flags: u32,
+    pub provider: u32,
+    pub network_unicode: bool,
+}
+
+// The places stand in one row, each body's in a slot of its own.
 pub struct Record {
     pub header: Header,
-    pub items: Place,
-    pub info: Info,
-    pub name: Place,
-    pub relative: Place,
-    pub workdir: Place,
-    pub arguments: Place,
-    pub icon: Place,
-    pub blocks: Place,
+    pub link: Link,
+    pub places: [Place; 16],
+}
+
+// ---- the slots, in the order of the fields at the boundary; a string's slot is 8 more than its flag bit
+
+pub const ITEMS: usize = 0;
+
+pub const LABEL: usize = 1;
+
+pub const LOCAL: usize = 2;
+
+pub const NET: usize = 3;
+
+pub const DEVICE: usize = 4;
+
+pub const NET_UNICODE: usize = 5;
+
+pub const DEVICE_UNICODE: usize = 6;
+
+pub const SUFFIX: usize = 7;
+
+pub const LOCAL_UNICODE: usize = 8;
+
+pub const SUFFIX_UNICODE: usize = 9;
+
+pub const STRINGS: usize = 10;
+
+pub const WORKDIR: usize = 12;
+
+pub const ARGUMENTS: usize = 13;
+
+pub const BLOCKS: usize = 15;
+
+// Of each slot: whether its body is there, and whether its characters have two bytes each.
+pub struct Shape {
+    pub there: [bool; 16],
+    pub wide: [bool; 16],
 }
 
 // A row of a store's list: a storage (kind 0), or a value named by number (1) or by string (2).
@@ -178,16 +223,21 @@ const NO_HEADER: Header = Header {
     hotkey: 0,
 };
 
+pub const NO_LINK: Link = Link {
+    flags: 0,
+    long: false,
+    drive: 0,
+    serial: 0,
+    label_unicode: false,
+    network_flags: 0,
+    provider: 0,
+    network_unicode: false,
+};
+
 pub const NO_RECORD: Record = Record {
     header: NO_HEADER,
-    items: NO_PLACE,
-    info: NO_INFO,
-    name: NO_PLACE,
-    relative: NO_PLACE,
-    workdir: NO_PLACE,
-    arguments: NO_PLACE,
-    icon: NO_PLACE,
-    blocks: NO_PLACE,
+    link: NO_LINK,
+    places: [NO_PLACE; 16],
 };
 
 // The number of a fault (FORMAT: Numbers).
@@ -338,6 +388,54 @@ pub fn device_unicode_there(unicode: bool, flags: u32) -> bool
     ensures { λ r. ⌜ r ≡ deviceUnicodeThere unicode flags ⌝ }
 {
     unicode & device_there(flags)
+}
+
+// The whole row, slot by slot.
+pub fn shape_of(flags: u32, l: Link) -> Shape
+    ensures { λ r. ⌜ r ≡ shapeOf flags l ⌝ }
+{
+    let info = info_there(flags);
+    let local = info & local_there(l.flags);
+    let network = network_there(l.flags);
+    let unicode = strings_unicode(flags);
+    Shape {
+        there: [
+            items_there(flags),
+            local,
+            local,
+            info & network,
+            info & (network & device_there(l.network_flags)),
+            info & (network & l.network_unicode),
+            info & (network & device_unicode_there(l.network_unicode, l.network_flags)),
+            info,
+            info & local_unicode_there(l.long, l.flags),
+            info & l.long,
+            name_there(flags),
+            relative_there(flags),
+            workdir_there(flags),
+            arguments_there(flags),
+            icon_there(flags),
+            true,
+        ],
+        wide: [
+            false,
+            l.label_unicode,
+            false,
+            false,
+            false,
+            true,
+            true,
+            false,
+            true,
+            true,
+            unicode,
+            unicode,
+            unicode,
+            unicode,
+            unicode,
+            false,
+        ],
+    }
 }
 
 // What is absent counts as 0.

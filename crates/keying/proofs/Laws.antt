@@ -33,6 +33,7 @@ use Rattle.format.specs.Presence.{workdirBit, argumentsBit, stringThere, string
 use Rattle.format.specs.Blocks.{blocks}
 use Rattle.format.specs.Steps.Firsts.{firstField, firsts}
 use Rattle.format.specs.Shortcut.{most, shortcut, reading}
+use Rattle.format.specs.Bodies.{placeIn, stringSlot, blocksSlot}
 use Rattle.format.specs.Contents.{bytesAt}
 use Rattle.format.specs.Writing.{outputOf}
 use Rattle.format.specs.Target.{hasTarget}
@@ -225,7 +226,7 @@ module _ (s : List ℕ) (r : Record) (e : Accepts s r) where
   row-block {row} h =
       let m = made s r e in
       let start = m .start in
-      let field = first-slot s (r .blocks .at) start (m .lengths) (m .count) (m .at) h (m .walk) in
+      let field = first-slot s (placeIn r blocksSlot .at) start (m .lengths) (m .count) (m .at) h (m .walk) in
       let F = first-block s 0xA0000001 start (m .lengths) (m .count) (m .walk) in
       rw field
       (record {
@@ -243,8 +244,8 @@ module _ (s : List ℕ) (r : Record) (e : Accepts s r) where
   accepted-texts = texts-inside s r (length s) e
 
   module _ {k : KeyParts} (unicode : k .unicode ≡ stringsUnicode (r .header .flags)) {h : Bool} {t : Texts} (has : h ≡ hasTarget r) (texts : t ≡ textsOf s r) (target : k .target ≡ keyPart h t)
-      {u v : Bool} {a w : Texts} (hu : u ≡ stringThere argumentsBit (r .header .flags)) (ea : a ≡ only (r .arguments)) (arguments : k .arguments ≡ keyPart u a)
-      (hv : v ≡ stringThere workdirBit (r .header .flags)) (ew : w ≡ only (r .workdir)) (workdir : k .workdir ≡ keyPart v w)
+      {u v : Bool} {a w : Texts} (hu : u ≡ stringThere argumentsBit (r .header .flags)) (ea : a ≡ only (placeIn r (stringSlot argumentsBit))) (arguments : k .arguments ≡ keyPart u a)
+      (hv : v ≡ stringThere workdirBit (r .header .flags)) (ew : w ≡ only (placeIn r (stringSlot workdirBit))) (workdir : k .workdir ≡ keyPart v w)
       {row : List ℕ} (noted : FirstsOf s r row) (environment : EnvironmentOf s (blockFrom s (getD row 0 0)) (k .environment)) where
     string-shown : (b : Bool) (p : Place) → partShown s (keyPart b (only p)) ≡ partIf b (bytesAt s p)
     string-shown b p = part-shown s b (only p) ∙ ap (partIf b) (only-bytes s p)
@@ -257,8 +258,8 @@ module _ (s : List ℕ) (r : Record) (e : Accepts s r) where
         let a₁ = unicode ∙ sym (x .unicode) in
         let a₂ : partShown s (k .target) ≡ keyIn s .target
         = rw (target, has, texts) (part-shown s (hasTarget r) (textsOf s r) ∙ ap (partIf (hasTarget r)) (sym (texts-are s r)) ∙ sym (x .target)) in
-        let a₃ : partShown s (k .arguments) ≡ keyIn s .arguments = rw (arguments, hu, ea) (string-shown (stringThere argumentsBit f) (r .arguments) ∙ sym (x .arguments)) in
-        let a₄ : partShown s (k .workdir) ≡ keyIn s .workdir = rw (workdir, hv, ew) (string-shown (stringThere workdirBit f) (r .workdir) ∙ sym (x .workdir)) in
+        let a₃ : partShown s (k .arguments) ≡ keyIn s .arguments = rw (arguments, hu, ea) (string-shown (stringThere argumentsBit f) (placeIn r (stringSlot argumentsBit)) ∙ sym (x .arguments)) in
+        let a₄ : partShown s (k .workdir) ≡ keyIn s .workdir = rw (workdir, hv, ew) (string-shown (stringThere workdirBit f) (placeIn r (stringSlot workdirBit)) ∙ sym (x .workdir)) in
         let a₅ : partShown s (k .environment) ≡ keyIn s .environment = environment .is ∙ (row-block noted) .is in
         rw (a₁, a₂, a₃, a₄, a₅)
 
@@ -266,12 +267,12 @@ module _ (s : List ℕ) (r : Record) (e : Accepts s r) where
     unfolding Accepts
     parts-stand =
         let small = accepted-small in
-        let i = accepted-bodies s r (length s) e in
+        let inside = accepted-bodies s r (length s) e in
         let f = r .header .flags in
         record {
           target = rw (target, has, texts) (part-stands s (hasTarget r) (textsOf s r) small (texts-stand s r (length s) e));
-          arguments = rw (arguments, hu, ea) (part-stands s (stringThere argumentsBit f) (only (r .arguments)) small (i .arguments, omega arith, omega arith));
-          workdir = rw (workdir, hv, ew) (part-stands s (stringThere workdirBit f) (only (r .workdir)) small (i .workdir, omega arith, omega arith));
+          arguments = rw (arguments, hu, ea) (part-stands s (stringThere argumentsBit f) (only (placeIn r (stringSlot argumentsBit))) small (inside (stringSlot argumentsBit), omega arith, omega arith));
+          workdir = rw (workdir, hv, ew) (part-stands s (stringThere workdirBit f) (only (placeIn r (stringSlot workdirBit))) small (inside (stringSlot workdirBit), omega arith, omega arith));
           environment = environment .stands;
         }
 

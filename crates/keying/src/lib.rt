@@ -88,11 +88,12 @@ fn parts_of(s: &[u8], r: Record, firsts: [u32; 11]) -> KeyParts
     ensures stands { λ k. ⌜ KeyStands (now (s .entry)) k ⌝ }
 {
     let f = r.header.flags;
+    let row = r.places;
     KeyParts {
         unicode: format::strings_unicode(f),
         target: part_if(target::has_target(r), target::texts_of(s, r)),
-        arguments: part_if(format::arguments_there(f), only(r.arguments)),
-        workdir: part_if(format::workdir_there(f), only(r.workdir)),
+        arguments: part_if(format::arguments_there(f), only(row[format::ARGUMENTS])),
+        workdir: part_if(format::workdir_there(f), only(row[format::WORKDIR])),
         environment: environment(s, firsts[0]),
     }
 }

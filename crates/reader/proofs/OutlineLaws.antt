@@ -19,7 +19,8 @@ use Rattle.format.specs.declared.Place.{Place}
 use Rattle.format.specs.declared.Info.{Info}
 use Rattle.format.specs.declared.Verdict.{Verdict}
 use Rattle.format.specs.declared.Verdict.the-variants.{Accepted, Refused as Stopped}
-use Rattle.format.specs.Tests.{section, noSection, spotAt, Outcome, got, refused, _else_at_, tests, andThen, place}
+use Rattle.format.specs.Bodies.{placeIn, itemsSlot, stringSlot, blocksSlot}
+use Rattle.format.specs.Tests.{section, noSection, spotAt, Outcome, got, refused, Test, _else_at_, tests, andThen, place}
 use Rattle.format.specs.Presence.{itemsThere, infoThere, nameBit, relativeBit, workdirBit, argumentsBit, iconBit, stringThere, stringsUnicode}
 use Rattle.format.specs.Header.{header}
 use Rattle.format.specs.Numbers.{answerNumber, answerValue, outcomeNumber, Numbered}
@@ -40,7 +41,7 @@ use Rattle.reader.specs.declared.SectionEnds.{SectionEnds}
 use Rattle.reader.specs.declared.Step.{Step}
 use Rattle.reader.specs.declared.InfoStep.{InfoStep}
 use Rattle.reader.specs.declared.BlocksStep.{BlocksStep}
-use Rattle.reader.specs.Steps.EachSection.{itemsStep, stringStep, infoStep, blocksStep, atOf, endsOf, outlineFrom}
+use Rattle.reader.specs.Steps.EachSection.{itemsStep, stringStep, infoStep, blocksStep, atOf, endsOf, recordFrom, outlineFrom}
 use Rattle.reader.specs.Steps.Finish.{refusedAt, finished, outlineOff, outlineAfter, outlineOf, FirstsOf, nextNumber, nextValue, toTerminal, OutlineAnswer, trailing, faultedTrail, faultAfter, FinishAnswer}
 use Rattle.reader.proofs.Runs.{Reached, Runs, sectionOf, then-from, on-not-off}
 use Rattle.reader.proofs.StepLaws.{items-from, string-from, info-from, BlocksFact, blocks-from}
@@ -101,19 +102,27 @@ iconIn v = v .1 .1 .1 .1 .1 .1 .0
 abbrev pub blocksIn : Tail → Section (List ℕ)
 blocksIn v = v .1 .1 .1 .1 .1 .1 .1
 
--- each section stands where the outline says, and holds what it holds
+abbrev stringHeld : Outline → ℕ → Place
+stringHeld o k = placeIn (o .held) (stringSlot k)
+
+abbrev stringsHeld : Outline → List Place
+stringsHeld o = stringHeld o nameBit ∷ stringHeld o relativeBit ∷ stringHeld o workdirBit ∷ stringHeld o argumentsBit ∷ stringHeld o iconBit ∷ []
+
+-- each section stands where the outline says, and holds what it holds; of LinkInfo, what its reader answered
 pub record Outlined (s : List ℕ) (h : Header) (o : Outline) (v : Tail) : Type 0 where
-  pub items : itemsIn v ≡ sectionOf (itemsThere (h .flags)) 76 (o .ends .items) (o .held .items)
-  pub info : infoIn v ≡ sectionOf (infoThere (h .flags)) (o .ends .items) (o .ends .info) (o .held .info)
-  pub name : nameIn v ≡ sectionOf (stringThere nameBit (h .flags)) (o .ends .info) (o .ends .name) (o .held .name)
-  pub relative : relativeIn v ≡ sectionOf (stringThere relativeBit (h .flags)) (o .ends .name) (o .ends .relative) (o .held .relative)
-  pub workdir : workdirIn v ≡ sectionOf (stringThere workdirBit (h .flags)) (o .ends .relative) (o .ends .workdir) (o .held .workdir)
-  pub arguments : argumentsIn v ≡ sectionOf (stringThere argumentsBit (h .flags)) (o .ends .workdir) (o .ends .arguments) (o .held .arguments)
-  pub icon : iconIn v ≡ sectionOf (stringThere iconBit (h .flags)) (o .ends .arguments) (o .ends .icon) (o .held .icon)
-  pub blocks : BlocksFact s (o .ends .icon) (o .next) (o .held .blocks) (o .firsts) (blocksIn v)
+  pub read : Info
+  pub items : itemsIn v ≡ sectionOf (itemsThere (h .flags)) 76 (o .ends .items) (placeIn (o .held) itemsSlot)
+  pub info : infoIn v ≡ sectionOf (infoThere (h .flags)) (o .ends .items) (o .ends .info) read
+  pub name : nameIn v ≡ sectionOf (stringThere nameBit (h .flags)) (o .ends .info) (o .ends .name) (stringHeld o nameBit)
+  pub relative : relativeIn v ≡ sectionOf (stringThere relativeBit (h .flags)) (o .ends .name) (o .ends .relative) (stringHeld o relativeBit)
+  pub workdir : workdirIn v ≡ sectionOf (stringThere workdirBit (h .flags)) (o .ends .relative) (o .ends .workdir) (stringHeld o workdirBit)
+  pub arguments : argumentsIn v ≡ sectionOf (stringThere argumentsBit (h .flags)) (o .ends .workdir) (o .ends .arguments) (stringHeld o argumentsBit)
+  pub icon : iconIn v ≡ sectionOf (stringThere iconBit (h .flags)) (o .ends .arguments) (o .ends .icon) (stringHeld o iconBit)
+  pub blocks : BlocksFact s (o .ends .icon) (o .next) (placeIn (o .held) blocksSlot) (o .firsts) (blocksIn v)
+  pub held : o .held ≡ recordFrom h (placeIn (o .held) itemsSlot) read (stringsHeld o) (placeIn (o .held) blocksSlot)
 
 pub outline-runs : (s : List ℕ) (h : Header) → Runs s (tail (h .flags)) 76 (outlineFrom s h (record { at = 76 }) .next) (Outlined s h (outlineFrom s h (record { at = 76 })))
-unfolding outlineFrom atOf endsOf
+unfolding outlineFrom recordFrom atOf endsOf
 outline-runs s h =
     let f = h .flags in
     let u = stringsUnicode f in
@@ -143,6 +152,7 @@ outline-runs s h =
             is = x .is;
             ends = x .ends;
             fact = record {
+              read = infoStep s (infoThere f) (itemsStep s (itemsThere f) start .next) .held;
               items = items;
               info = info;
               name = name;
@@ -151,6 +161,7 @@ outline-runs s h =
               arguments = arguments;
               icon = icon;
               blocks = blocks;
+              held = refl;
             };
           };
       off = r .off;
@@ -172,28 +183,29 @@ abbrev pub outline : List ℕ → Header → Outline
 outline s h = outlineFrom s h (record { at = 76 })
 
 pub header-held : (s : List ℕ) (h : Header) → outline s h .held .header ≡ h
-unfolding outlineFrom
+unfolding outlineFrom recordFrom
 header-held s h = refl
 
 record-held : (s : List ℕ) (h : Header) (v : Tail) → Outlined s h (outline s h) v → recordOf (headerSection h, v) ≡ outline s h .held
+unfolding recordFrom
 record-held s h v F =
     let f : ℕ = h .flags in
     let o : Outline = outline s h in
-    let a : itemsIn v .read ≡ o .held .items = holds (itemsThere f) 76 (o .ends .items) (o .held .items) (F .items) in
-    let b : infoIn v .read ≡ o .held .info = holds (infoThere f) (o .ends .items) (o .ends .info) (o .held .info) (F .info) in
-    let c : nameIn v .read ≡ o .held .name = holds (stringThere nameBit f) (o .ends .info) (o .ends .name) (o .held .name) (F .name) in
-    let d : relativeIn v .read ≡ o .held .relative = holds (stringThere relativeBit f) (o .ends .name) (o .ends .relative) (o .held .relative) (F .relative) in
-    let e : workdirIn v .read ≡ o .held .workdir = holds (stringThere workdirBit f) (o .ends .relative) (o .ends .workdir) (o .held .workdir) (F .workdir) in
-    let g : argumentsIn v .read ≡ o .held .arguments = holds (stringThere argumentsBit f) (o .ends .workdir) (o .ends .arguments) (o .held .arguments) (F .arguments) in
-    let i : iconIn v .read ≡ o .held .icon = holds (stringThere iconBit f) (o .ends .arguments) (o .ends .icon) (o .held .icon) (F .icon) in
-    let j : place (blocksIn v .start) (sum (blocksIn v .read)) ≡ o .held .blocks
+    let j : place (blocksIn v .start) (sum (blocksIn v .read)) ≡ placeIn (o .held) blocksSlot
     = ap (λ (p : ℕ). place p (sum (blocksIn v .read))) (F .blocks .start) ∙ sym (F .blocks .body) in
-    same-record h (o .held) (sym (header-held s h)) a b c d e g i j
+    same
+    (holds (itemsThere f) 76 (o .ends .items) _ (F .items))
+    (holds (infoThere f) (o .ends .items) (o .ends .info) _ (F .info))
+    (holds (stringThere nameBit f) (o .ends .info) (o .ends .name) _ (F .name))
+    (holds (stringThere relativeBit f) (o .ends .name) (o .ends .relative) _ (F .relative))
+    (holds (stringThere workdirBit f) (o .ends .relative) (o .ends .workdir) _ (F .workdir))
+    (holds (stringThere argumentsBit f) (o .ends .workdir) (o .ends .arguments) _ (F .arguments))
+    (holds (stringThere iconBit f) (o .ends .arguments) (o .ends .icon) _ (F .icon)) j
+    ∙ sym (F .held)
   where
-    same-record : (g : Header) (r : Record) {x₁ x₃ x₄ x₅ x₆ x₇ x₈ : Place} {x₂ : Info} → g ≡ r .header → x₁ ≡ r .items → x₂ ≡ r .info → x₃ ≡ r .name → x₄ ≡ r .relative
-        → x₅ ≡ r .workdir → x₆ ≡ r .arguments → x₇ ≡ r .icon → x₈ ≡ r .blocks
-        → record { header = g; items = x₁; info = x₂; name = x₃; relative = x₄; workdir = x₅; arguments = x₆; icon = x₇; blocks = x₈ } ≡ r
-    same-record g r a b c d e f i j k = rw (a, b, c, d, e, f, i, j, k)
+    same : {a b c d e g i x₁ x₃ x₄ x₅ x₆ x₇ x₈ : Place} {j x₂ : Info} → x₁ ≡ a → x₂ ≡ j → x₃ ≡ b → x₄ ≡ c → x₅ ≡ d → x₆ ≡ e → x₇ ≡ g → x₈ ≡ i
+        → recordFrom h x₁ x₂ (x₃ ∷ x₄ ∷ x₅ ∷ x₆ ∷ x₇ ∷ []) x₈ ≡ recordFrom h a j (b ∷ c ∷ d ∷ e ∷ g ∷ []) i
+    same p q r s t u v w = rw (p, q, r, s, t, u, v, w)
 
 pub sections-refused : (s : List ℕ) (h : Header) {f : Fault} {q : Spot} → header 0 s ≡ got h 76 → tail (h .flags) 76 (drop 76 s) ≡ refused f q → sections 0 s ≡ refused f q
 unfolding sections
@@ -315,7 +327,7 @@ module _ (n : ℕ) (t : Next) (r : Record) where
   finished-off e i = finishes n t r (rw e i)
 
 -- the outline from its steps
-pub outline-is : (s : List ℕ) (h : Header) (c : Cursor) {items name relative workdir arguments icon : Step} {info : InfoStep} {blocks : BlocksStep} {e : SectionEnds} {u t₁ t₂ t₃ t₄ t₅ t₆ t₇ : Bool}
+pub outline-is : (s : List ℕ) (h : Header) (c : Cursor) {items name relative workdir arguments icon : Step} {info : InfoStep} {blocks : BlocksStep} {r : Record} {e : SectionEnds} {u t₁ t₂ t₃ t₄ t₅ t₆ t₇ : Bool}
     → u ≡ stringsUnicode (h .flags)
     → t₁ ≡ itemsThere (h .flags)
     → items ≡ itemsStep s t₁ (On c)
@@ -332,26 +344,17 @@ pub outline-is : (s : List ℕ) (h : Header) (c : Cursor) {items name relative w
     → t₇ ≡ stringThere iconBit (h .flags)
     → icon ≡ stringStep s t₇ 7 u (arguments .next)
     → blocks ≡ blocksStep s (icon .next)
+    → r ≡ recordFrom h (items .held) (info .held) (name .held ∷ relative .held ∷ workdir .held ∷ arguments .held ∷ icon .held ∷ []) (blocks .held)
     → e ≡ endsOf (items .next) (info .next) (name .next) (relative .next) (workdir .next) (arguments .next) (icon .next)
     → record {
       next = blocks .next;
-      held = record {
-        header = h;
-        items = items .held;
-        info = info .held;
-        name = name .held;
-        relative = relative .held;
-        workdir = workdir .held;
-        arguments = arguments .held;
-        icon = icon .held;
-        blocks = blocks .held;
-      };
+      held = r;
       ends = e;
       firsts = blocks .firsts;
     }
     ≡ outlineFrom s h c
 unfolding outlineFrom
-outline-is s h c k k₁ p₁ k₂ p₂ k₃ p₃ k₄ p₄ k₅ p₅ k₆ p₆ k₇ p₇ p₈ q = rw (q, p₈, p₇, p₆, p₅, p₄, p₃, p₂, p₁, k₁, k₂, k₃, k₄, k₅, k₆, k₇, k)
+outline-is s h c k k₁ p₁ k₂ p₂ k₃ p₃ k₄ p₄ k₅ p₅ k₆ p₆ k₇ p₇ p₈ w q = rw (q, w, p₈, p₇, p₆, p₅, p₄, p₃, p₂, p₁, k₁, k₂, k₃, k₄, k₅, k₆, k₇, k)
 
 refused-not : {f : Fault} {p n : ℕ} → _≡_ {A = Verdict} (Stopped f p) (Accepted n) → ⊥
 refused-not e = let z : _≡_ {A = ℕ} 0 1 = cc in omega arith
@@ -360,7 +363,7 @@ outline-first : (s : List ℕ) (h : Header) (c : Cursor) → outline s h .next �
 outline-first s h c k lengths n e =
     let o : Outline = outline s h in
     let F = ((outline-runs s h) .on c k) .fact .blocks in
-    let start : o .held .blocks .at ≡ o .ends .icon = ap (λ (b : Place). b .at) (F .body) in
+    let start : placeIn (o .held) blocksSlot .at ≡ o .ends .icon = ap (λ (b : Place). b .at) (F .body) in
     rw start (got-elim (λ ls n. o .firsts ≡ firsts s (o .ends .icon) ls) (sym (F .is) ∙ (rw start at e)) (F .first))
 
 module _ (s : List ℕ) where

@@ -3,6 +3,7 @@ use format::Fault;
 use format::Faulted;
 use format::Header;
 use format::Info;
+use format::Link;
 use format::Place;
 use format::Reading;
 use format::Record;
@@ -14,14 +15,15 @@ use header::HeaderTaken;
 use info::InfoTaken;
 use octets::Cursor;
 ghost use mathlib.Core.Path.{_≡_};
+ghost use mathlib.Core.List.{[], _∷_};
 ghost use Prim.Native.Nat.{_≤_};
 ghost use lib.ListN.{length};
-ghost use Rattle.format.specs.Info.{noInfo};
+ghost use Rattle.format.specs.Info.{noInfo, linkOf};
 ghost use Rattle.format.specs.Numbers.{Numbered};
 ghost use Rattle.format.specs.Shortcut.{shortcut, faulted, reading};
 ghost use Rattle.format.specs.Tests.{noPlace};
 ghost use Rattle.blocks.specs.Steps.Walk.{noFirsts};
-ghost use Rattle.reader.specs.Steps.EachSection.{step, stepInfo, settled, itemsOn, itemsStep, stringOn, stringStep, infoOn, infoStep, stepBlocks, blocksOn, blocksStep, atOf, endsOf, outlineFrom};
+ghost use Rattle.reader.specs.Steps.EachSection.{step, stepInfo, settled, itemsOn, itemsStep, stringOn, stringStep, infoOn, infoStep, stepBlocks, blocksOn, blocksStep, atOf, endsOf, recordFrom, outlineFrom};
 ghost use Rattle.reader.specs.Steps.Finish.{faultedTrail, refusedAt, outlineOff, OutlineAnswer, FinishAnswer};
 
 // Going on from the cursor, or refused with a fault at a position.
@@ -241,6 +243,74 @@ fn ends_of(
     }
 }
 
+// The record: LinkInfo's numbers and kinds, and every place in its slot.
+fn link_of(i: Info) -> Link
+    ensures { λ r. ⌜ r ≡ linkOf i ⌝ }
+{
+    let v = i.volume;
+    let l = v.label;
+    let n = i.network;
+    Link {
+        flags: i.flags,
+        long: i.long,
+        drive: v.drive,
+        serial: v.serial,
+        label_unicode: format::label_unicode(l),
+        network_flags: n.flags,
+        provider: n.provider,
+        network_unicode: n.unicode,
+    }
+}
+
+fn record_of(
+    h: Header,
+    items: Place,
+    i: Info,
+    name: Place,
+    relative: Place,
+    workdir: Place,
+    arguments: Place,
+    icon: Place,
+    blocks: Place,
+) -> Record
+    ensures { λ r. ⌜ r ≡ recordFrom h items i (name ∷ relative ∷ workdir ∷ arguments ∷ icon ∷ []) blocks ⌝ }
+{
+    let v = i.volume;
+    let l = v.label;
+    let label = format::label_place(l);
+    let n = i.network;
+    let local = i.local;
+    let net = n.net;
+    let device = n.device;
+    let net_unicode = n.net_unicode;
+    let device_unicode = n.device_unicode;
+    let suffix = i.suffix;
+    let local_unicode = i.local_unicode;
+    let suffix_unicode = i.suffix_unicode;
+    Record {
+        header: h,
+        link: link_of(i),
+        places: [
+            items,
+            label,
+            local,
+            net,
+            device,
+            net_unicode,
+            device_unicode,
+            suffix,
+            local_unicode,
+            suffix_unicode,
+            name,
+            relative,
+            workdir,
+            arguments,
+            icon,
+            blocks,
+        ],
+    }
+}
+
 // The sections after the header, by its flags.
 fn outline_from(s: &[u8], h: Header, c: Cursor) -> Outline
     requires { ⌜ length (now s) ≤ 65536 ⌝ }
@@ -283,17 +353,7 @@ fn outline_from(s: &[u8], h: Header, c: Cursor) -> Outline
     } = blocks_step(s, icon);
     Outline {
         next,
-        held: Record {
-            header: h,
-            items: b1,
-            info: b2,
-            name: b3,
-            relative: b4,
-            workdir: b5,
-            arguments: b6,
-            icon: b7,
-            blocks: b8,
-        },
+        held: record_of(h, b1, b2, b3, b4, b5, b6, b7, b8),
         ends: ends_of(items, info, name, relative, workdir, arguments, icon),
         firsts,
     }

@@ -20,6 +20,7 @@ use Rattle.format.specs.Presence.{itemsThere, infoThere, nameBit, relativeBit, 
 use Rattle.format.specs.Header.{header}
 use Rattle.format.specs.Blocks.{blocks}
 use Rattle.format.specs.Shortcut.{Section, Tail, Sections, most, shortcut, sum}
+use Rattle.format.specs.Bodies.{placeIn, itemsSlot, stringSlot}
 use Rattle.format.specs.Listing.{Row, EndToEnd, row, blockRows, rowsOf, rowsBy, listing, named, nth, sectionPlace, sectionBytes}
 use Rattle.header.specs.Steps.Taken.{headerAt}
 use Rattle.header.specs.declared.HeaderTaken.{HeaderTaken}
@@ -120,13 +121,13 @@ abbrev rowsFrom : Outline → List ℕ → List Row
 rowsFrom o ns =
     let f = o .held .header .flags in
     row 0 (headerSection (o .held .header))
-    ++ (row 1 (sectionOf (itemsThere f) 76 (o .ends .items) (o .held .items))
-    ++ (row 2 (sectionOf (infoThere f) (o .ends .items) (o .ends .info) (o .held .info))
-    ++ (row 3 (sectionOf (stringThere nameBit f) (o .ends .info) (o .ends .name) (o .held .name))
-    ++ (row 4 (sectionOf (stringThere relativeBit f) (o .ends .name) (o .ends .relative) (o .held .relative))
-    ++ (row 5 (sectionOf (stringThere workdirBit f) (o .ends .relative) (o .ends .workdir) (o .held .workdir))
-    ++ (row 6 (sectionOf (stringThere argumentsBit f) (o .ends .workdir) (o .ends .arguments) (o .held .arguments))
-    ++ (row 7 (sectionOf (stringThere iconBit f) (o .ends .arguments) (o .ends .icon) (o .held .icon)) ++ blockRows (o .ends .icon) ns)))))))
+    ++ (row 1 (sectionOf (itemsThere f) 76 (o .ends .items) (tt {0}))
+    ++ (row 2 (sectionOf (infoThere f) (o .ends .items) (o .ends .info) (tt {0}))
+    ++ (row 3 (sectionOf (stringThere nameBit f) (o .ends .info) (o .ends .name) (tt {0}))
+    ++ (row 4 (sectionOf (stringThere relativeBit f) (o .ends .name) (o .ends .relative) (tt {0}))
+    ++ (row 5 (sectionOf (stringThere workdirBit f) (o .ends .relative) (o .ends .workdir) (tt {0}))
+    ++ (row 6 (sectionOf (stringThere argumentsBit f) (o .ends .workdir) (o .ends .arguments) (tt {0}))
+    ++ (row 7 (sectionOf (stringThere iconBit f) (o .ends .arguments) (o .ends .icon) (tt {0})) ++ blockRows (o .ends .icon) ns)))))))
 
 pub record AllRows (s : List ℕ) (o : Outline) : Type 0 where
   pub lengths : List ℕ
@@ -142,7 +143,34 @@ accepted-listing s e = rw e
 outlined-rows : (s : List ℕ) (h : Header) (v : Tail) → Outlined s h (outline s h) v → rowsOf (headerSection h, v) ≡ rowsFrom (outline s h) (blocksIn v .read)
 outlined-rows s h v F =
     let e = header-held s h in
-    rw (e, F .items, F .info, F .name, F .relative, F .workdir, F .arguments, F .icon, F .blocks .start)
+    let f = h .flags in
+    let o = outline s h .ends in
+    rw (
+      e,
+      F .items,
+      row-any 1 (itemsThere f) 76 (o .items) (placeIn (outline s h .held) itemsSlot),
+      F .info,
+      row-any 2 (infoThere f) (o .items) (o .info) (F .read),
+      F .name,
+      row-any 3 (stringThere nameBit f) (o .info) (o .name) (string nameBit),
+      F .relative,
+      row-any 4 (stringThere relativeBit f) (o .name) (o .relative) (string relativeBit),
+      F .workdir,
+      row-any 5 (stringThere workdirBit f) (o .relative) (o .workdir) (string workdirBit),
+      F .arguments,
+      row-any 6 (stringThere argumentsBit f) (o .workdir) (o .arguments) (string argumentsBit),
+      F .icon,
+      row-any 7 (stringThere iconBit f) (o .arguments) (o .icon) (string iconBit),
+      F .blocks .start,
+    )
+  where
+    string : ℕ → Place
+    string k = placeIn (outline s h .held) (stringSlot k)
+
+    -- whatever it holds
+    row-any : {A : Type 0} (k : ℕ) (b : Bool) (p e : ℕ) (a : A) → row k (sectionOf b p e a) ≡ row k (sectionOf {A = Unit {0}} b p e tt)
+    row-any k true p e a = refl
+    row-any k false p e a = refl
 
 pub all-rows : (s : List ℕ) (o : Outline) (c : Cursor) → o ≡ outlineOf s → o .next ≡ On c → c .at ≡ length s → AllRows s o
 unfolding atOf
@@ -194,43 +222,43 @@ module _ (s : List ℕ) (block : ℕ) where
 
     pub place-1 : between (itemsThere f) 76 (o .ends .items) ≡ sectionPlace s 1 block
     unfolding sectionPlace
-    place-1 = rw (R .rows) (simp (named-append, named-row, low 1 (omega arith), append-nil) (sym (nth-section 1 (itemsThere f) 76 (o .ends .items) (o .held .items))))
+    place-1 = rw (R .rows) (simp (named-append, named-row, low 1 (omega arith), append-nil) (sym (nth-section 1 (itemsThere f) 76 (o .ends .items) (tt {0}))))
 
     pub place-2 : between (infoThere f) (o .ends .items) (o .ends .info) ≡ sectionPlace s 2 block
     unfolding sectionPlace
     place-2 =
         rw (R .rows)
-        (simp (named-append, named-row, low 2 (omega arith), append-nil) (sym (nth-section 2 (infoThere f) (o .ends .items) (o .ends .info) (o .held .info))))
+        (simp (named-append, named-row, low 2 (omega arith), append-nil) (sym (nth-section 2 (infoThere f) (o .ends .items) (o .ends .info) (tt {0}))))
 
     pub place-3 : between (stringThere nameBit f) (o .ends .info) (o .ends .name) ≡ sectionPlace s 3 block
     unfolding sectionPlace
     place-3 =
         rw (R .rows)
-        (simp (named-append, named-row, low 3 (omega arith), append-nil) (sym (nth-section 3 (stringThere nameBit f) (o .ends .info) (o .ends .name) (o .held .name))))
+        (simp (named-append, named-row, low 3 (omega arith), append-nil) (sym (nth-section 3 (stringThere nameBit f) (o .ends .info) (o .ends .name) (tt {0}))))
 
     pub place-4 : between (stringThere relativeBit f) (o .ends .name) (o .ends .relative) ≡ sectionPlace s 4 block
     unfolding sectionPlace
     place-4 =
         rw (R .rows)
-        (simp (named-append, named-row, low 4 (omega arith), append-nil) (sym (nth-section 4 (stringThere relativeBit f) (o .ends .name) (o .ends .relative) (o .held .relative))))
+        (simp (named-append, named-row, low 4 (omega arith), append-nil) (sym (nth-section 4 (stringThere relativeBit f) (o .ends .name) (o .ends .relative) (tt {0}))))
 
     pub place-5 : between (stringThere workdirBit f) (o .ends .relative) (o .ends .workdir) ≡ sectionPlace s 5 block
     unfolding sectionPlace
     place-5 =
         rw (R .rows)
-        (simp (named-append, named-row, low 5 (omega arith), append-nil) (sym (nth-section 5 (stringThere workdirBit f) (o .ends .relative) (o .ends .workdir) (o .held .workdir))))
+        (simp (named-append, named-row, low 5 (omega arith), append-nil) (sym (nth-section 5 (stringThere workdirBit f) (o .ends .relative) (o .ends .workdir) (tt {0}))))
 
     pub place-6 : between (stringThere argumentsBit f) (o .ends .workdir) (o .ends .arguments) ≡ sectionPlace s 6 block
     unfolding sectionPlace
     place-6 =
         rw (R .rows)
-        (simp (named-append, named-row, low 6 (omega arith), append-nil) (sym (nth-section 6 (stringThere argumentsBit f) (o .ends .workdir) (o .ends .arguments) (o .held .arguments))))
+        (simp (named-append, named-row, low 6 (omega arith), append-nil) (sym (nth-section 6 (stringThere argumentsBit f) (o .ends .workdir) (o .ends .arguments) (tt {0}))))
 
     pub place-7 : between (stringThere iconBit f) (o .ends .arguments) (o .ends .icon) ≡ sectionPlace s 7 block
     unfolding sectionPlace
     place-7 =
         rw (R .rows)
-        (simp (named-append, named-row, low 7 (omega arith), append-nil) (sym (nth-section 7 (stringThere iconBit f) (o .ends .arguments) (o .ends .icon) (o .held .icon))))
+        (simp (named-append, named-row, low 7 (omega arith), append-nil) (sym (nth-section 7 (stringThere iconBit f) (o .ends .arguments) (o .ends .icon) (tt {0}))))
 
     pub place-8 : {b : Place} → b ≡ nthBlock s (o .ends .icon) block → b ≡ sectionPlace s 8 block
     unfolding sectionPlace

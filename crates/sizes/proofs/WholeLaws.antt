@@ -1,89 +1,130 @@
--- The bodies of a record that lie in the body buffer, and the length of its canonical form.
-use mathlib.Core.Path.{_≡_, _∙_}
-use mathlib.Core.List.{List, [], _∷_}
-use mathlib.Core.Bool.{Bool, true}
-use Prim.Native.Nat.{ℕ, _+_}
+-- The sizes are those of the canonical form: each of its body, where that lies in the buffer, and all of them with the heads of the whole.
+use mathlib.Core.Path.{_≡_, refl, sym, ap, _∙_}
+use mathlib.Core.List.{List, [], _∷_, map}
+use mathlib.Core.Bool.{Bool, true, false, _&&_, cond}
+use Prim.Native.Nat.{ℕ, _+_, _≤_, _<_}
 use native.Mathlib.Omega.{arith}
-use lib.ListN.{length, length-append}
+use lib.ListN.{length, getD, replicate, length-append}
 use lib.Dec.{leb}
 use borrow.Author.Tests.{leb-true}
+use Rattle.octets.specs.Characters.{bytesOf}
 use Rattle.octets.proofs.NumberLaws.{length-little}
 use Rattle.format.specs.declared.Place.{Place}
 use Rattle.format.specs.declared.Record.{Record}
-use Rattle.format.specs.Presence.{itemsThere, infoThere, nameBit, relativeBit, workdirBit, argumentsBit, iconBit, stringThere, stringsUnicode}
-use Rattle.format.specs.Bodies.{bodies, allInside}
-use Rattle.format.specs.Steps.Lengths.{writtenLength}
-use Rattle.format.specs.Contents.{bytesAt, infoContents, bodiesOf}
-use Rattle.format.specs.Writing.{ifThere, itemsBytes, infoBytes, stringBytes, canonical}
-use Rattle.format.proofs.Bools.{and-true}
-use Rattle.format.proofs.HeaderLaws.{length-header}
-use Rattle.sizes.specs.Steps.InBuffer.{InBuffer, RecordInBuffer}
-use Rattle.sizes.specs.Steps.Sizes.{writtenIf, writtenStrings, writtenParts}
-use Rattle.sizes.proofs.TotalLaws.{parts-are}
-use Rattle.sizes.proofs.SizeLaws.{length-if, length-body, info-size}
+use Rattle.format.specs.Tests.{noPlace}
+use Rattle.format.specs.Presence.{infoThere, localThere, networkThere}
+use Rattle.format.specs.Shortcut.{most, sum}
+use Rattle.format.specs.Bodies.{BodyKind, itemsKind, textKind, stringKind, blocksKind, BodyRow, bodyRow, tableOf, along, kept, zeroed, allInside, placed}
+use Rattle.format.specs.Contents.{bytesAt, contents}
+use Rattle.format.specs.Writing.{ifThere, itemsBytes, stringBytes, headerBytes, canonical}
+use Rattle.format.specs.Steps.Lengths.{beside, writtenBody, writtenRow, writtenHeads, writtenLength}
+use Rattle.format.specs.Steps.Shape.{shapeOf}
+use Rattle.format.specs.Steps.Flat.{bodyBytes, slotBytes, slotsBytes, volumeHeadBytes, networkHeadBytes, infoFlat, flatBytes}
+use Rattle.format.proofs.Bools.{and-true, by-order}
+use Rattle.format.proofs.BodyLaws.{body-length}
+use Rattle.format.proofs.RowLaws.{map-at}
+use Rattle.format.proofs.FlatLaws.{Sized, canonical-flat, length-info-head, length-volume-head, length-network-head}
+use Rattle.sizes.specs.Steps.Sizes.{capped, cappedBody, sizesOf, clippedLength}
+use Rattle.sizes.proofs.CountLaws.{count-exact, count-most}
 
--- ---- the bodies
+-- ---- one body
 
-Insides : List ℕ → List Place → Type 0
-Insides d [] = Unit
-Insides d (b ∷ bs) = InBuffer d b × Insides d bs
+width : (u : Bool) → length {A = ℕ} (replicate (bytesOf u 1) 0) ≡ bytesOf u 1
+width true = refl
+width false = refl
 
-insides : (d : List ℕ) (bs : List Place) → allInside (length d) bs ≡ true → Insides d bs
-unfolding Insides
-insides d [] e = tt
-insides d (b ∷ bs) e =
-    let (p, q) = and-true (leb (b .at + b .len) (length d)) (allInside (length d) bs) e in
-    (record { within = leb-true (b .at + b .len) (length d) p }, insides d bs q)
+kind-length : (k : BodyKind) (x : List ℕ) → length (bodyBytes k x) ≡ length x + beside k
+unfolding itemsBytes stringBytes
+kind-length itemsKind x = simp (length-append, length-little) (omega arith)
+kind-length (textKind u) x = rw (length-append, width)
+kind-length (stringKind u) x = simp (length-append, length-little) (omega arith)
+kind-length blocksKind x = simp (length-append, length-little)
 
-pub record-inside : (d : List ℕ) (q : Record) → allInside (length d) (bodies q) ≡ true → RecordInBuffer d q
-unfolding Insides
-record-inside d q e =
-    let (items, (label, (local, (net, (device, (netUnicode, (deviceUnicode, (suffix, (localUnicode, (suffixUnicode, (name, (relative, (workdir, (arguments, (icon, (blocks, _)))))))))))))))) = insides d (bodies q) e in
-    record {
-      items = items;
-      info = record {
-        label = label;
-        local = local;
-        network = record { net = net; device = device; netUnicode = netUnicode; deviceUnicode = deviceUnicode };
-        suffix = suffix;
-        localUnicode = localUnicode;
-        suffixUnicode = suffixUnicode;
-      };
-      strings = record { name = name; relative = relative; workdir = workdir; arguments = arguments; icon = icon };
-      blocks = blocks;
-    }
+slot-length : (d : List ℕ) (t : Bool) (k : BodyKind) (p : Place) → leb (cond t p noPlace .at + cond t p noPlace .len) (length d) ≡ true
+    → length (slotBytes d (bodyRow t k) p) ≡ writtenBody (bodyRow t k) p
+slot-length d true k p e = kind-length k (bytesAt d p) ∙ ap (λ (n : ℕ). n + beside k) (body-length d p (leb-true _ _ e))
+slot-length d false k p e = refl
 
--- ---- the length
+-- ---- all of them
 
-module _ {d : List ℕ} {b : Place} (i : InBuffer d b) where
-  length-items : (there : Bool) → length (ifThere there itemsBytes (bytesAt d b)) ≡ writtenIf there b 4
-  unfolding itemsBytes
-  length-items there =
-      length-if there itemsBytes (bytesAt d b) (simp (length-append, length-little) (omega (arith, length-body i)))
+slots-length : (d : List ℕ) (k : ℕ) (bs : List BodyRow) (ps : List Place) → allInside (length d) (along noPlace kept k bs ps) ≡ true
+    → map length (along noPlace (slotBytes d) k bs ps) ≡ along noPlace writtenBody k bs ps
+slots-length d k [] ps e = refl
+slots-length d k (b ∷ bs) ps e =
+    let p = getD ps k noPlace in
+    let (h, i) = and-true (leb (kept b p .at + kept b p .len) (length d)) (allInside (length d) (along noPlace kept (k + 1) bs ps)) e in
+    rw (slot-length d (b .there) (b .kind) p h, slots-length d (k + 1) bs ps i)
 
-  length-string : (there u : Bool) → length (ifThere there (stringBytes u) (bytesAt d b)) ≡ writtenIf there b 2
-  unfolding stringBytes
-  length-string there u =
-      length-if there (stringBytes u) (bytesAt d b) (simp (length-append, length-little) (omega (arith, length-body i)))
+head-if : (b : Bool) (x : List ℕ) {n : ℕ} → length x ≡ n → length (cond b x []) ≡ cond b n 0
+head-if true x e = e
+head-if false x e = refl
 
-module _ {d : List ℕ} {q : Record} (i : RecordInBuffer d q) where
-  abbrev f : ℕ
-  f = q .header .flags
+module _ (d : List ℕ) (q : Record) (e : placed (length d) q ≡ true) where
+  abbrev put : List (List ℕ)
+  put = along noPlace (slotBytes d) 0 (tableOf q) (q .places)
 
-  -- the length of the canonical form is what the table tells
-  pub canonical-length : length (canonical (bodiesOf d q)) ≡ writtenLength q
-  unfolding canonical writtenParts writtenStrings
+  pub row-length : map length put ≡ writtenRow q
+  unfolding placed
+  row-length = slots-length d 0 (tableOf q) (q .places) e
+
+  pub sized : Sized d q (writtenRow q)
+  sized k h = ap (λ (l : List ℕ). getD l k 0) (sym row-length) ∙ map-at length put k [] 0 h
+
+  flat-length : (w : List ℕ) (i : Bool) → infoThere (q .header .flags) ≡ i → length (flatBytes d q (shapeOf (q .header .flags) (q .link)) w) ≡ 76 + writtenHeads q + sum (map length put)
+  unfolding flatBytes infoFlat slotsBytes shapeOf headerBytes
+  flat-length w true i =
+      let l = q .link in
+      rw i
+      (simp (length-append, length-little)
+      (omega (
+        arith,
+        length-info-head l w,
+        head-if (localThere (l .flags)) (volumeHeadBytes l w) (length-volume-head l w),
+        head-if (networkThere (l .flags)) (networkHeadBytes l w) (length-network-head l w),
+      )))
+  flat-length w false i = rw i (simp (length-append, length-little) (omega arith))
+
+  -- the canonical form is so long
+  pub canonical-length : length (canonical (contents d q)) ≡ writtenLength q
+  unfolding writtenLength
   canonical-length =
-      let u : Bool = stringsUnicode f in
-      let s = i .strings in
-      let e₁ = length-header (q .header) in
-      let e₂ = length-items (i .items) (itemsThere f) in
-      let e₃ = length-if (infoThere f) infoBytes (infoContents d (q .info)) (info-size (i .info)) in
-      let e₄ = length-string (s .name) (stringThere nameBit f) u in
-      let e₅ = length-string (s .relative) (stringThere relativeBit f) u in
-      let e₆ = length-string (s .workdir) (stringThere workdirBit f) u in
-      let e₇ = length-string (s .arguments) (stringThere argumentsBit f) u in
-      let e₈ = length-string (s .icon) (stringThere iconBit f) u in
-      let e₉ = length-body (i .blocks) in
-      let whole : length (canonical (bodiesOf d q)) ≡ writtenParts q = simp (length-append, length-little) (omega arith) in
-      whole ∙ parts-are q
+      ap length (canonical-flat d q (writtenRow q) sized)
+      ∙ flat-length (writtenRow q) (infoThere (q .header .flags)) refl
+      ∙ ap (λ (l : List ℕ). 76 + writtenHeads q + sum l) row-length
+
+-- ---- sizes that were clipped
+
+clipped-row : (k : ℕ) (bs : List BodyRow) (ps : List Place) → sum (along noPlace cappedBody k bs ps) ≤ most
+    → along noPlace cappedBody k bs ps ≡ along noPlace writtenBody k bs ps
+clipped-row k [] ps h = refl
+clipped-row k (b ∷ bs) ps h =
+    let p = getD ps k noPlace in
+    rw (one (b .there) (p .len) (beside (b .kind)) (omega arith), clipped-row (k + 1) bs ps (omega arith))
+  where
+    one : (t : Bool) (n m : ℕ) → cond t (capped n + m) 0 ≤ most → cond t (capped n + m) 0 ≡ cond t (n + m) 0
+    one true n m h = by-order n most (λ j. rw (← count-exact n j)) (λ j. absurd (omega (arith, count-most n j)))
+    one false n m h = refl
+
+clipped-less : (k : ℕ) (bs : List BodyRow) (ps : List Place) → sum (along noPlace cappedBody k bs ps) ≤ sum (along noPlace writtenBody k bs ps)
+clipped-less k [] ps = omega arith
+clipped-less k (b ∷ bs) ps =
+    let p = getD ps k noPlace in
+    omega (arith, clipped-less (k + 1) bs ps, one (b .there) (p .len) (beside (b .kind)))
+  where
+    one : (t : Bool) (n m : ℕ) → cond t (capped n + m) 0 ≤ cond t (n + m) 0
+    one true n m = by-order n most (λ j. omega (arith, count-exact n j)) (λ j. omega (arith, count-most n j))
+    one false n m = omega arith
+
+-- a sum that is no more than the most is the length, and each size its own
+pub exact-row : (q : Record) → clippedLength q ≤ most → sizesOf q ≡ writtenRow q
+unfolding clippedLength sizesOf
+exact-row q h = clipped-row 0 (tableOf q) (q .places) (omega arith)
+
+pub exact-length : (q : Record) → clippedLength q ≤ most → clippedLength q ≡ writtenLength q
+unfolding clippedLength writtenLength
+exact-length q h = ap (λ (l : List ℕ). 76 + writtenHeads q + sum l) (exact-row q h)
+
+-- one that is more is that of a form that is too long
+pub over-length : (q : Record) → clippedLength q ≤ writtenLength q
+unfolding clippedLength writtenLength sizesOf
+over-length q = omega (arith, clipped-less 0 (tableOf q) (q .places))

@@ -25,6 +25,7 @@ use Rattle.format.specs.Numbers.{Numbered}
 use Rattle.format.specs.Store.{storeTests}
 use Rattle.format.specs.Blocks.{blocks, firstPlace}
 use Rattle.format.specs.Shortcut.{blocksOf, shortcut, reading}
+use Rattle.format.specs.Bodies.{placeIn, blocksSlot}
 use Rattle.format.specs.Contents.{bytesAt}
 use Rattle.format.specs.Writing.{outputOf}
 use Rattle.format.specs.Demands.{Accepts}
@@ -75,7 +76,7 @@ module _ (s : List ℕ) {g : Reading} (e : g ≡ reading s) where
         let start = blocksOf c .start in
         let lengths = blocksOf c .read in
         let walk = read-walk s c n ((shortcut-whole s c n (x .is)) .read) in
-        let same : g .held .blocks .at ≡ start = ap (λ (r : Record). r .blocks .at) (sym (x .held)) in
+        let same : placeIn (g .held) blocksSlot .at ≡ start = ap (λ (r : Record). placeIn r blocksSlot .at) (sym (x .held)) in
         let k : (ls : List ℕ) (m : ℕ) → blocks start (drop start s) ≡ got ls m → row ≡ firsts s start ls = rw same at noted in
         let field : getD row 8 0 ≡ firstField s 0xA0000009 start lengths = ap (λ (l : List ℕ). getD l 8 0) (k lengths _ walk) in
         let F = first-block s 0xA0000009 start lengths _ walk in

@@ -19,9 +19,8 @@ use Rattle.format.specs.Tests.{noPlace}
 use Rattle.format.specs.StoreWriting.{Entry, storage, byNumber, byName, unknown, entryOf, entries, placesUsed, rowsPlaced, rowAt, rowsAt, rowsFrom, entryFits, kindAfter, entriesFit, mostStore, valueBytes, valuesBytes, storeBytes}
 use Rattle.format.proofs.Bools.{and-true}
 use Rattle.format.proofs.Chains.{no-true}
-use Rattle.sizes.specs.Steps.InBuffer.{InBuffer}
-use Rattle.sizes.proofs.SizeLaws.{length-body}
-use Rattle.canonical.specs.Steps.Puts.{Room}
+use Rattle.canonical.specs.Steps.Puts.{InBuffer, Room}
+use Rattle.canonical.proofs.LayoutLaws.{length-body}
 use Rattle.storing.specs.Steps.Sizes.{rowSize}
 use Rattle.storing.specs.Steps.Making.{valuesSize, valueWith, headBytes, rowBytes, openBytes, Fitting, RowsRoom, RowRoom, StoreRoom}
 use Rattle.storing.proofs.TestLaws.{rows-first, entrySize, raw-0, raw-1, both-2, sixteen, Counts, exact, great, by-kind, counted, fits-number, fits-name, all-rows, rows-start}

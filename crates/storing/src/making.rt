@@ -11,8 +11,7 @@ ghost use lib.ListN.{length};
 ghost use Rattle.octets.specs.Steps.Puts.{Wrote};
 ghost use Rattle.format.specs.Contents.{bytesAt};
 ghost use Rattle.format.specs.StoreWriting.{rowAt, rowsAt, entryOf, entries, rowsFrom, storeBytes};
-ghost use Rattle.canonical.specs.Steps.Puts.{Room};
-ghost use Rattle.sizes.specs.Steps.InBuffer.{InBuffer};
+ghost use Rattle.canonical.specs.Steps.Puts.{InBuffer, Room};
 ghost use Rattle.storing.specs.Steps.Making.{valuesSize, valueWith, headBytes, rowBytes, openBytes, RowsRoom, RowRoom, StoreRoom};
 
 // The values up to the next storage, with the zero size that ends them.

@@ -27,6 +27,7 @@ use Rattle.format.specs.Writing.{outputOf}
 use Rattle.format.specs.Target.{hasTarget, separated, backslash, separator, joined, targetText, target, targetAnswer, targetOutput}
 use Rattle.format.proofs.AnswerLaws.{nowhere, numbered}
 use Rattle.format.proofs.BodyLaws.{body-length, body-part, part-length}
+use Rattle.format.specs.Bodies.{placeIn, localSlot, netSlot, suffixSlot}
 use Rattle.format.proofs.TargetLaws.{separator-few}
 use Rattle.format.proofs.AcceptedLaws.{accepted-read, accepted-held, refused-read, accepted-bodies, accepted-limit}
 use Rattle.target.specs.declared.Texts.{Texts}
@@ -36,16 +37,16 @@ use Rattle.target.specs.Steps.Texts.{firstText, separators, textsOf, Sta
 
 pub record TextsInside (s : List ℕ) (r : Record) : Type 0 where
   pub first : firstText r .at + firstText r .len ≤ length s
-  pub suffix : r .info .suffix .at + r .info .suffix .len ≤ length s
+  pub suffix : placeIn r suffixSlot .at + placeIn r suffixSlot .len ≤ length s
   pub small : length s ≤ 65536
 
 pub texts-inside : (s : List ℕ) (r : Record) (n : ℕ) → reading s ≡ record { verdict = Accepted n; held = r } → TextsInside s r
 unfolding firstText
 texts-inside s r n e =
-    let i = accepted-bodies s r n e in
+    let inside = accepted-bodies s r n e in
     record {
-      first = either (localThere (r .info .flags)) (r .info .local) (r .info .network .net) (i .local) (i .net);
-      suffix = i .suffix;
+      first = either (localThere (r .link .flags)) (placeIn r localSlot) (placeIn r netSlot) (inside localSlot) (inside netSlot);
+      suffix = inside suffixSlot;
       small = accepted-limit s r n e;
     }
   where
@@ -57,7 +58,7 @@ pub texts-stand : (s : List ℕ) (r : Record) (n : ℕ) → reading s ≡ record
 unfolding textsOf
 texts-stand s r n e =
     let i = texts-inside s r n e in
-    (i .first, i .suffix, separator-few (bytesAt s (firstText r)) (bytesAt s (r .info .suffix)))
+    (i .first, i .suffix, separator-few (bytesAt s (firstText r)) (bytesAt s (placeIn r suffixSlot)))
 
 -- ---- the text
 
@@ -71,17 +72,17 @@ counted first suffix = go (separated first suffix)
 
 pub texts-are : (s : List ℕ) (r : Record) → targetText s r ≡ textsBytes s (textsOf s r)
 unfolding firstText textsOf textsBytes
-texts-are s r = go (localThere (r .info .flags))
+texts-are s r = go (localThere (r .link .flags))
   where
     suffix : List ℕ
-    suffix = bytesAt s (r .info .suffix)
+    suffix = bytesAt s (placeIn r suffixSlot)
 
     at : Place → List ℕ
-    at a = bytesAt s a ++ (take (separators s a (r .info .suffix)) backslash ++ suffix)
+    at a = bytesAt s a ++ (take (separators s a (placeIn r suffixSlot)) backslash ++ suffix)
 
-    go : (b : Bool) → joined (cond b (bytesAt s (r .info .local)) (bytesAt s (r .info .network .net))) suffix ≡ at (cond b (r .info .local) (r .info .network .net))
-    go true = rw (counted (bytesAt s (r .info .local)) suffix)
-    go false = rw (counted (bytesAt s (r .info .network .net)) suffix)
+    go : (b : Bool) → joined (cond b (bytesAt s (placeIn r localSlot)) (bytesAt s (placeIn r netSlot))) suffix ≡ at (cond b (placeIn r localSlot) (placeIn r netSlot))
+    go true = rw (counted (bytesAt s (placeIn r localSlot)) suffix)
+    go false = rw (counted (bytesAt s (placeIn r netSlot)) suffix)
 
 -- one law for each way out of the count
 
@@ -157,7 +158,11 @@ module _ (s out : List ℕ) {g : Reading} (e : g ≡ reading s) where
     -- the target of what was read
     target-is : target s (length out) ≡ cond (hasTarget (g .held)) (cond (leb (length (targetText s (g .held))) (length out)) (got (targetText s (g .held)) (length (targetText s (g .held)))) (refused ROOM nowhere)) (refused NOTARGET nowhere)
     unfolding target
-    target-is = let x = accepted-read s (g .held) n accepted in rw (x .is, x .held)
+    target-is =
+        let x = accepted-read s (g .held) n accepted in
+        rw (x .is)
+        (ap (λ (r : Record). cond (hasTarget r) (cond (leb (length (targetText s r)) (length out)) (got (targetText s r) (length (targetText s r))) (refused ROOM nowhere)) (refused NOTARGET nowhere))
+        (x .held))
 
     module _ {k : Bool} (h : k ≡ hasTarget (g .held)) where
       pub target-none : not k ≡ true → TargetCall s out (Refused NOTARGET 0) out

@@ -8,6 +8,7 @@ ghost use Prim.Native.Nat.{_+_, _≤_};
 ghost use lib.ListN.{length};
 ghost use Rattle.octets.specs.Parts.{put};
 ghost use Rattle.format.specs.Numbers.{Numbered};
+ghost use Rattle.format.specs.Bodies.{placeIn, suffixSlot};
 ghost use Rattle.format.specs.Target.{hasTarget, target, targetAnswer, targetOutput};
 ghost use Rattle.target.specs.Steps.Texts.{firstText, separators, textsOf, Stands, textsLength, textsBytes};
 
@@ -22,7 +23,7 @@ pub fn has_target(r: Record) -> bool
     ensures { λ b. ⌜ b ≡ hasTarget r ⌝ }
 {
     let f = r.header.flags;
-    let i = r.info.flags;
+    let i = r.link.flags;
     !(f / 256 % 2 == 1)
         & format::info_there(f)
         & (format::local_there(i) | format::network_there(i))
@@ -32,10 +33,11 @@ pub fn has_target(r: Record) -> bool
 fn first_text(r: Record) -> Place
     ensures { λ b. ⌜ b ≡ firstText r ⌝ }
 {
-    if format::local_there(r.info.flags) {
-        return r.info.local;
+    let row = r.places;
+    if format::local_there(r.link.flags) {
+        return row[format::LOCAL];
     }
-    r.info.network.net
+    row[format::NET]
 }
 
 // One separator, or none. Only the end of the first text is looked at.
@@ -57,11 +59,12 @@ fn separators(s: &[u8], a: Place, b: Place) -> usize
 
 pub fn texts_of(s: &[u8], r: Record) -> Texts
     requires stands { ⌜ (firstText r .at + firstText r .len ≤ length (now s))
-        × (r .info .suffix .at + r .info .suffix .len ≤ length (now s)) ⌝ }
+        × (placeIn r suffixSlot .at + placeIn r suffixSlot .len ≤ length (now s)) ⌝ }
     ensures { λ t. ⌜ t ≡ textsOf (now (s .entry)) r ⌝ }
 {
     let first = first_text(r);
-    let suffix = r.info.suffix;
+    let row = r.places;
+    let suffix = row[format::SUFFIX];
     Texts {
         first,
         separators: separators(s, first, suffix),

@@ -1,6 +1,6 @@
 pub mod TestLaws
 pub mod PlacedLaws
-pub mod PresentLaws
+pub mod SlotLaws
 pub mod TextLaws
 pub mod WalkLaws
 pub mod SectionLaws

@@ -1,66 +1,77 @@
--- The rules of each section, put together from the tests of its parts.
-use mathlib.Core.Path.{_≡_, _∙_}
+-- The rules of the header, of LinkInfo's numbers and of the bodies, put together from their tests.
+use mathlib.Core.Path.{_≡_, refl, sym, ap, _∙_}
 use mathlib.Core.List.{List, [], _∷_}
-use mathlib.Core.Bool.{Bool, true, false, _&&_}
+use mathlib.Core.Bool.{Bool, true, false, not, _&&_, _||_, cond}
 use Prim.Native.Nat.{ℕ}
 use lib.Dec.{leb}
 use Rattle.format.specs.declared.Place.{Place}
 use Rattle.format.specs.declared.Header.{Header}
-use Rattle.format.specs.declared.Volume.{Volume}
-use Rattle.format.specs.declared.Network.{Network}
-use Rattle.format.specs.declared.Info.{Info}
+use Rattle.format.specs.declared.Link.{Link}
 use Rattle.format.specs.declared.Record.{Record}
-use Rattle.format.specs.Presence.{itemsThere, infoThere, nameBit, relativeBit, workdirBit, argumentsBit, iconBit, stringThere, stringsUnicode, localThere, networkThere, localUnicodeThere, deviceThere, deviceUnicodeThere}
+use Rattle.format.specs.declared.Shape.{Shape}
+use Rattle.format.specs.Tests.{noPlace}
+use Rattle.format.specs.Presence.{infoThere, localThere, networkThere}
+use Rattle.format.specs.Shortcut.{noLink}
 use Rattle.format.specs.Header.{flagsOk, attributesOk}
 use Rattle.format.specs.Hotkey.{hotkeyOk}
-use Rattle.format.specs.Bodies.{labelPlace, labelKind}
-use Rattle.format.specs.Contents.{bytesAt, volumeContents, networkContents, infoContents, bodiesOf}
-use Rattle.format.specs.Writing.{writableIf, writableHeader, writableItems, writableText, writableVolume, writableNetwork, writableInfo, writableString, writableBlocks}
-use Rattle.writable.specs.Steps.Sections.{sectionsWritable}
-use Rattle.format.proofs.Bools.{joined-every}
+use Rattle.format.specs.Bodies.{inInfo, tableOf, along}
+use Rattle.format.specs.Contents.{presentLink, present, contents}
+use Rattle.format.specs.Writing.{every, writableIf, writableHeader, writableLink, writableRow, writableBodies}
+use Rattle.format.specs.Steps.Shape.{shapeOf}
+use Rattle.format.proofs.Bools.{joined-every, and-assoc, and-yes}
+use Rattle.format.proofs.RowLaws.{along-contents}
+use Rattle.writable.specs.Steps.Slots.{rowOk, slotsOk, bodiesOk}
 
--- ---- a part that is there or not, over its rule
-
+-- a part that is there or not, over its rule
 pub if-there : {A : Type 0} (f : A → Bool) {t : Bool} {x y : A} {r : Bool} → t ≡ true → r ≡ f x → x ≡ y → r ≡ writableIf t f y
 if-there f e q k = rw (e, ← k) q
-
--- ---- the sections
 
 pub header-is : (h : Header) {a b c : Bool} → a ≡ flagsOk (h .flags) → b ≡ attributesOk (h .attributes) → c ≡ hotkeyOk (h .hotkey) → (a && b && c) ≡ writableHeader h
 header-is h {a} {b} {c} ea eb ec = joined-every a (b ∷ c ∷ []) ∙ rw (ea, eb, ec)
 
-module _ (d : List ℕ) where
-  -- a text that is there or not
-  abbrev textIf : Bool → Bool → Place → Bool
-  textIf there unicode b = writableIf there (writableText unicode) (bytesAt d b)
+-- ---- LinkInfo's numbers
 
-  pub volume-is : (v : Volume) {u : Bool} {l : Place} {a : Bool} → u ≡ labelKind (v .label) → l ≡ labelPlace (v .label) → a ≡ textIf true u l → (leb (v .drive) 6 && a) ≡ writableVolume (volumeContents d v)
-  volume-is v eu el ea = rw (ea, eu, el)
+unless-there : (t : Bool) (m n : ℕ) → (not t || leb n m) ≡ writableIf t (λ k. leb k m) n
+unless-there true m n = refl
+unless-there false m n = refl
 
-  pub network-is : (n : Network) {t u a b c e : Bool} → t ≡ deviceThere (n .flags) → u ≡ deviceUnicodeThere (n .unicode) (n .flags) → a ≡ textIf true false (n .net) → b ≡ textIf t false (n .device) → c ≡ textIf (n .unicode) true (n .«net_unicode»)
-      → e ≡ textIf u true (n .«device_unicode») → (leb (n .flags) 3 && a && b && c && e) ≡ writableNetwork (networkContents d n)
-  network-is n {t} {u} {a} {b} {c} {e} et eu ea eb ec ee = joined-every (leb (n .flags) 3) (a ∷ b ∷ c ∷ e ∷ []) ∙ rw (ea, eb, ec, ee, et, eu)
+pub link-is : (flags : ℕ) (l : Link) {i v n : Bool} → i ≡ infoThere flags → v ≡ localThere (l .flags) → n ≡ networkThere (l .flags)
+    → ((not i || leb (l .flags) 3) && (not (i && v) || leb (l .drive) 6) && (not (i && n) || leb (l .«network_flags») 3)) ≡ writableLink flags l
+link-is flags l {i} {v} {n} ei ev en =
+    joined-every (not i || leb (l .flags) 3) ((not (i && v) || leb (l .drive) 6) ∷ (not (i && n) || leb (l .«network_flags») 3) ∷ [])
+    ∙ rw (unless-there i 3 (l .flags), unless-there (i && v) 6 (l .drive), unless-there (i && n) 3 (l .«network_flags»), ei, ev, en)
 
-  pub info-is : (i : Info) {t w u a b c e f g : Bool} → t ≡ localThere (i .flags) → w ≡ localUnicodeThere (i .long) (i .flags) → u ≡ networkThere (i .flags) → a ≡ writableIf t writableVolume (volumeContents d (i .volume)) → b ≡ textIf t false (i .local)
-      → c ≡ writableIf u writableNetwork (networkContents d (i .network)) → e ≡ textIf true false (i .suffix) → f ≡ textIf w true (i .«local_unicode»)
-      → g ≡ textIf (i .long) true (i .«suffix_unicode») → (leb (i .flags) 3 && a && b && c && e && f && g) ≡ writableInfo (infoContents d i)
-  info-is i {t} {w} {u} {a} {b} {c} {e} {f} {g} et ew eu ea eb ec ee ef eg = joined-every (leb (i .flags) 3) (a ∷ b ∷ c ∷ e ∷ f ∷ g ∷ []) ∙ rw (ea, eb, ec, ee, ef, eg, et, ew, eu)
+-- by the record as by its zeros
+numbers-same : (flags : ℕ) (l : Link) (i : Bool) → infoThere flags ≡ i → writableLink flags (cond i (presentLink l) noLink) ≡ writableLink flags l
+numbers-same flags l true e =
+    rw (e, kept (localThere (l .flags)) (λ n. leb n 6) (l .drive), kept (networkThere (l .flags)) (λ n. leb n 3) (l .«network_flags»))
+  where
+    kept : (t : Bool) (f : ℕ → Bool) (n : ℕ) → writableIf t f (cond t n 0) ≡ writableIf t f n
+    kept true f n = refl
+    kept false f n = refl
+numbers-same flags l false e = rw e
 
-  module _ (q : Record) where
-    -- a string, with the test of its flag
-    pub record String (u : Bool) (k : ℕ) (b : Place) (r : Bool) : Type 0 where
-      pub there : Bool
-      pub flag : there ≡ stringThere k (q .header .flags)
-      pub is : r ≡ writableIf there (writableString u) (bytesAt d b)
+link-same : (d : List ℕ) (q : Record) → writableLink (q .header .flags) (contents d q .link) ≡ writableLink (q .header .flags) (q .link)
+unfolding contents present
+link-same d q = numbers-same (q .header .flags) (q .link) (infoThere (q .header .flags)) refl
 
-    stringOf : {u : Bool} {k : ℕ} {b : Place} {r : Bool} → u ≡ stringsUnicode (q .header .flags) → String u k b r → r ≡ writableIf (stringThere k (q .header .flags)) (writableString (stringsUnicode (q .header .flags))) (bytesAt d b)
-    stringOf eu s = rw (← (s .flag), ← eu) (s .is)
+-- ---- the bodies
 
-    pub sections-are : {u h t a v b i j k l m z : Bool} {y : List ℕ} → u ≡ stringsUnicode (q .header .flags) → h ≡ writableHeader (q .header) → t ≡ itemsThere (q .header .flags)
-        → a ≡ writableIf t writableItems (bytesAt d (q .items)) → v ≡ infoThere (q .header .flags) → b ≡ writableIf v writableInfo (infoContents d (q .info)) → String u nameBit (q .name) i → String u relativeBit (q .relative) j
-        → String u workdirBit (q .workdir) k → String u argumentsBit (q .arguments) l → String u iconBit (q .icon) m → z ≡ writableBlocks y → y ≡ bytesAt d (q .blocks)
-        → (h && a && b && i && j && k && l && m && z) ≡ sectionsWritable (bodiesOf d q)
-    unfolding sectionsWritable
-    sections-are {h = h} {a = a} {b = b} {i = i} {j = j} {k = k} {l = l} {m = m} {z = z} eu eh et ea ev eb ei ej ek el em ez ey =
-        joined-every h (a ∷ b ∷ i ∷ j ∷ k ∷ l ∷ m ∷ z ∷ [])
-        ∙ rw (eh, ea, et, eb, ev, stringOf eu ei, stringOf eu ej, stringOf eu ek, stringOf eu el, stringOf eu em, ez, ey)
+bodies-kinds : (d : List ℕ) (q : Record) → every (along noPlace (rowOk d) 0 (tableOf q) (q .places)) ≡ bodiesOk d (q .places) (shapeOf (q .header .flags) (q .link))
+unfolding bodiesOk slotsOk shapeOf
+bodies-kinds d q = simp (and-assoc, and-yes)
+
+pub bodies-same : (d : List ℕ) (q : Record) → every (writableBodies (contents d q)) ≡ bodiesOk d (q .places) (shapeOf (q .header .flags) (q .link))
+unfolding contents
+bodies-same d q = ap every (along-contents writableRow true (λ k x. refl) d q) ∙ bodies-kinds d q
+
+-- ---- together
+
+pub sections-are : (d : List ℕ) (q : Record) {s : Shape} {h l b : Bool} → s ≡ shapeOf (q .header .flags) (q .link) → h ≡ writableHeader (q .header)
+    → l ≡ writableLink (q .header .flags) (q .link) → b ≡ bodiesOk d (q .places) s
+    → (h && l && b) ≡ every (writableHeader (contents d q .header) ∷ writableLink (contents d q .header .flags) (contents d q .link) ∷ every (writableBodies (contents d q)) ∷ [])
+unfolding contents present
+sections-are d q {s} {h} {l} {b} e eh el eb =
+    let m : b ≡ every (writableBodies (contents d q)) = eb ∙ ap (bodiesOk d (q .places)) e ∙ sym (bodies-same d q) in
+    let n : l ≡ writableLink (q .header .flags) (contents d q .link) = el ∙ sym (link-same d q) in
+    joined-every h (l ∷ b ∷ []) ∙ rw (eh, m, n)

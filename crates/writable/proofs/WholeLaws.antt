@@ -1,6 +1,6 @@
--- Which records can be written, by the length of the whole and by the sections.
-use mathlib.Core.Path.{_≡_, refl, sym, _∙_}
-use mathlib.Core.List.{List}
+-- Which records can be written, by the length of the whole and by the rest.
+use mathlib.Core.Path.{_≡_, sym, _∙_}
+use mathlib.Core.List.{List, [], _∷_}
 use mathlib.Core.Bool.{Bool, true, false}
 use Prim.Native.Nat.{ℕ, _≤_, _<_}
 use native.Mathlib.Omega.{arith}
@@ -9,45 +9,37 @@ use lib.Dec.{leb}
 use borrow.Author.Tests.{le-leb, lt-leb}
 use Rattle.format.specs.declared.Record.{Record}
 use Rattle.format.specs.Shortcut.{most}
-use Rattle.format.specs.Bodies.{bodies, allInside}
-use Rattle.format.specs.Steps.Lengths.{writtenLength}
-use Rattle.format.specs.Contents.{bodiesOf}
-use Rattle.format.specs.Writing.{every, canonical, writable}
+use Rattle.format.specs.Bodies.{placed}
+use Rattle.format.specs.Contents.{contents}
+use Rattle.format.specs.Writing.{every, canonical, writableHeader, writableLink, writableBodies, writable}
 use Rattle.format.proofs.Bools.{by-order, clash, and-no, and-yes}
-use Rattle.sizes.specs.Steps.Starts.{capped}
-use Rattle.sizes.proofs.CountLaws.{count-most, count-back, count-over}
-use Rattle.sizes.proofs.WholeLaws.{record-inside, canonical-length}
-use Rattle.writable.specs.Steps.Sections.{sectionTests, sectionsWritable}
+use Rattle.sizes.specs.Steps.Sizes.{clippedLength}
+use Rattle.sizes.proofs.WholeLaws.{canonical-length, exact-length, over-length}
 use Rattle.writable.proofs.TestLaws.{every-last}
 
-module _ (d : List ℕ) (q : Record) (placed : allInside (length d) (bodies q) ≡ true) where
-  whole-length : length (canonical (bodiesOf d q)) ≡ writtenLength q
-  whole-length = canonical-length (record-inside d q placed)
+module _ (d : List ℕ) (q : Record) (inside : placed (length d) q ≡ true) where
+  abbrev rules : List Bool
+  rules = writableHeader (contents d q .header) ∷ writableLink (contents d q .header .flags) (contents d q .link) ∷ every (writableBodies (contents d q)) ∷ []
 
   -- the count of the whole decides first
-  module _ {n : ℕ} (count : n ≡ capped (writtenLength q)) where
-    pub writable-long : most < n → false ≡ writable (bodiesOf d q)
+  module _ {n : ℕ} (count : n ≡ clippedLength q) where
+    pub writable-long : most < n → false ≡ writable (contents d q)
     unfolding writable
     writable-long h =
-        let t : leb (length (canonical (bodiesOf d q))) most ≡ false = rw whole-length (lt-leb (writtenLength q) most (count-over (writtenLength q) count h)) in
-        sym (every-last (sectionTests (bodiesOf d q)) (leb (length (canonical (bodiesOf d q))) most) ∙ rw t (and-no (every (sectionTests (bodiesOf d q)))))
+        let long : most < length (canonical (contents d q)) = rw (canonical-length d q inside) (omega (arith, over-length q)) in
+        let t : leb (length (canonical (contents d q))) most ≡ false = lt-leb (length (canonical (contents d q))) most long in
+        sym (every-last rules (leb (length (canonical (contents d q))) most) ∙ rw t (and-no (every rules)))
 
-    pub writable-short : n ≤ most → {r : Bool} → r ≡ sectionsWritable (bodiesOf d q) → r ≡ writable (bodiesOf d q)
-    unfolding writable sectionsWritable
+    -- else it is the length
+    pub short-length : n ≤ most → n ≡ length (canonical (contents d q))
+    short-length h = count ∙ exact-length q (omega arith) ∙ sym (canonical-length d q inside)
+
+    pub writable-short : n ≤ most → {r : Bool} → r ≡ every rules → r ≡ writable (contents d q)
+    unfolding writable
     writable-short h e =
-        let m : writtenLength q ≤ most = omega (arith, count-back (writtenLength q) count h) in
-        let t : leb (length (canonical (bodiesOf d q))) most ≡ true = rw whole-length (le-leb (writtenLength q) most m) in
-        e ∙ sym (every-last (sectionTests (bodiesOf d q)) (leb (length (canonical (bodiesOf d q))) most) ∙ rw t (and-yes (every (sectionTests (bodiesOf d q)))))
+        let t : leb (length (canonical (contents d q))) most ≡ true = le-leb (length (canonical (contents d q))) most (omega (arith, short-length h)) in
+        e ∙ sym (every-last rules (leb (length (canonical (contents d q))) most) ∙ rw t (and-yes (every rules)))
 
-    -- for a record that can be written the count is the length
-    pub writable-length : writable (bodiesOf d q) ≡ true → n ≡ length (canonical (bodiesOf d q))
-    writable-length e =
-        by-order n most
-        (λ h. count-back (writtenLength q) count h ∙ sym whole-length)
-        (λ h. clash e (sym (writable-long h)))
-
-  pub writable-within : writable (bodiesOf d q) ≡ true → length (canonical (bodiesOf d q)) ≤ most
-  writable-within e =
-      by-order (writtenLength q) most
-      (λ h. rw whole-length h)
-      (λ h. clash e (sym (writable-long {n = capped (writtenLength q)} refl (omega (arith, count-most (writtenLength q) h)))))
+    -- for a record that can be written the count is no more than the most
+    pub writable-few : writable (contents d q) ≡ true → n ≤ most
+    writable-few e = by-order n most (λ h. h) (λ h. clash e (sym (writable-long h)))

@@ -1,114 +1,20 @@
 // Whether a record can be written (FORMAT: Writing tests): the bodies' places, the rules of each section, and the length of the whole.
 use format::Header;
-use format::Info;
-use format::Network;
+use format::Link;
 use format::Place;
 use format::Record;
-use format::Volume;
+use format::Shape;
 ghost use mathlib.Core.Path.{_≡_};
 ghost use mathlib.Core.Bool.{true, not, _||_, cond};
-ghost use Prim.Native.Nat.{_+_, _/_, _%_, _<_};
+ghost use Prim.Native.Nat.{_+_, _-_, _/_, _%_, _≤_};
 ghost use lib.ListN.{length};
 ghost use lib.Dec.{eqb, leb};
-ghost use Rattle.format.specs.Tests.{noPlace};
-ghost use Rattle.format.specs.Volume.{noVolume};
-ghost use Rattle.format.specs.Network.{noNetwork};
-ghost use Rattle.format.specs.Info.{noInfo};
-ghost use Rattle.format.specs.Bodies.{bodies, allInside};
-ghost use Rattle.format.specs.Steps.Lengths.{writtenLength};
-ghost use Rattle.format.specs.Contents.{presentNetwork, presentInfo, present, bytesAt, volumeContents, networkContents, infoContents, bodiesOf};
-ghost use Rattle.format.specs.Writing.{writableIf, writableHeader, writableItems, writableText, writableVolume, writableNetwork, writableInfo, writableString, writableBlocks, writable};
-ghost use Rattle.writable.specs.Steps.Places.{networkBodies, infoBodies};
-ghost use Rattle.writable.specs.Steps.Sections.{sectionsWritable};
-ghost use Rattle.sizes.specs.Steps.Starts.{capped};
-
-// ---- which parts are present
-
-fn kept(there: bool, b: Place) -> Place
-    ensures { λ r. ⌜ r ≡ cond there b noPlace ⌝ }
-{
-    if there { b } else { format::NO_PLACE }
-}
-
-fn kept_volume(there: bool, v: Volume) -> Volume
-    ensures { λ r. ⌜ r ≡ cond there v noVolume ⌝ }
-{
-    if there { v } else { format::NO_VOLUME }
-}
-
-fn present_network(n: Network) -> Network
-    ensures { λ r. ⌜ r ≡ presentNetwork n ⌝ }
-{
-    let net = n.net;
-    let both = format::device_unicode_there(n.unicode, n.flags);
-    Network {
-        flags: n.flags,
-        provider: format::number_if(format::provider_there(n.flags), n.provider),
-        unicode: n.unicode,
-        net,
-        device: kept(format::device_there(n.flags), n.device),
-        net_unicode: kept(n.unicode, n.net_unicode),
-        device_unicode: kept(both, n.device_unicode),
-    }
-}
-
-fn kept_network(there: bool, n: Network) -> Network
-    ensures { λ r. ⌜ r ≡ cond there (presentNetwork n) noNetwork ⌝ }
-{
-    if there {
-        present_network(n)
-    } else {
-        format::NO_NETWORK
-    }
-}
-
-fn present_info(i: Info) -> Info
-    ensures { λ r. ⌜ r ≡ presentInfo i ⌝ }
-{
-    let local = format::local_there(i.flags);
-    let both = format::local_unicode_there(i.long, i.flags);
-    let suffix = i.suffix;
-    Info {
-        flags: i.flags,
-        long: i.long,
-        volume: kept_volume(local, i.volume),
-        local: kept(local, i.local),
-        network: kept_network(format::network_there(i.flags), i.network),
-        suffix,
-        local_unicode: kept(both, i.local_unicode),
-        suffix_unicode: kept(i.long, i.suffix_unicode),
-    }
-}
-
-fn kept_info(there: bool, i: Info) -> Info
-    ensures { λ r. ⌜ r ≡ cond there (presentInfo i) noInfo ⌝ }
-{
-    if there {
-        present_info(i)
-    } else {
-        format::NO_INFO
-    }
-}
-
-// Zeros for what is absent, by the flags.
-pub fn present(r: Record) -> Record
-    ensures { λ q. ⌜ q ≡ present r ⌝ }
-{
-    let flags = r.header.flags;
-    let header = r.header;
-    let blocks = r.blocks;
-    Record {
-        header,
-        items: kept(format::items_there(flags), r.items),
-        info: kept_info(format::info_there(flags), r.info),
-        name: kept(format::name_there(flags), r.name),
-        relative: kept(format::relative_there(flags), r.relative),
-        workdir: kept(format::workdir_there(flags), r.workdir),
-        arguments: kept(format::arguments_there(flags), r.arguments),
-        icon: kept(format::icon_there(flags), r.icon),
-        blocks,
-    }
-}
+ghost use Rattle.format.specs.Bodies.{placed};
+ghost use Rattle.format.specs.Contents.{bytesAt, contents};
+ghost use Rattle.format.specs.Writing.{writableIf, writableHeader, writableItems, writableText, writableString, writableBlocks, writableBody, writableLink, writable};
+ghost use Rattle.format.specs.Steps.Shape.{shapeOf};
+ghost use Rattle.sizes.specs.Steps.Sizes.{clippedLength};
+ghost use Rattle.writable.specs.Steps.Slots.{kindAt, slotsOk, bodiesOk};
 
 // ---- whether the bodies lie in the buffer
 
@@ -122,37 +28,23 @@ pub fn inside(b: Place, n: usize) -> bool
     b.at <= n - b.len
 }
 
-fn network_placed(x: Network, n: usize) -> bool
-    ensures { λ r. ⌜ r ≡ allInside n (networkBodies x) ⌝ }
+// Every body that is there lies in a buffer of n bytes.
+pub fn placed(q: Record, s: Shape, n: usize) -> bool
+    requires { ⌜ s ≡ shapeOf (q .header .flags) (q .link) ⌝ }
+    ensures { λ r. ⌜ r ≡ placed n q ⌝ }
 {
-    inside(x.net, n) & inside(x.device, n) & inside(x.net_unicode, n) & inside(x.device_unicode, n)
-}
-
-fn info_placed(i: Info, n: usize) -> bool
-    ensures { λ r. ⌜ r ≡ allInside n (infoBodies i) ⌝ }
-{
-    let v = i.volume;
-    let l = v.label;
-    inside(format::label_place(l), n)
-        & inside(i.local, n)
-        & network_placed(i.network, n)
-        & inside(i.suffix, n)
-        & inside(i.local_unicode, n)
-        & inside(i.suffix_unicode, n)
-}
-
-// Every body lies in a buffer of n bytes.
-pub fn placed(q: Record, n: usize) -> bool
-    ensures { λ r. ⌜ r ≡ allInside n (bodies q) ⌝ }
-{
-    inside(q.items, n)
-        & info_placed(q.info, n)
-        & inside(q.name, n)
-        & inside(q.relative, n)
-        & inside(q.workdir, n)
-        & inside(q.arguments, n)
-        & inside(q.icon, n)
-        & inside(q.blocks, n)
+    let there = s.there;
+    let row = q.places;
+    let mut k: usize = 0;
+    while k < 16 {
+        if there[k] {
+            if !inside(row[k], n) {
+                return false;
+            }
+        }
+        k += 1;
+    }
+    true
 }
 
 // ---- whether a body can be written
@@ -242,25 +134,17 @@ fn header_ok(h: Header) -> bool
     header::flags_ok(h.flags) & header::attributes_ok(h.attributes) & header::hotkey_ok(h.hotkey)
 }
 
-fn text_if(there: bool, unicode: bool, b: Place, d: &[u8]) -> bool
-    ensures { λ r. ⌜ r ≡ writableIf there (writableText unicode) (bytesAt (now (d .entry)) b) ⌝ }
+// LinkInfo's flags, the drive type and the network link's flags, as far as they are there.
+fn link_ok(flags: u32, l: Link) -> bool
+    ensures { λ r. ⌜ r ≡ writableLink flags l ⌝ }
 {
-    if there {
-        text_ok(unicode, body(d, b))
-    } else {
-        true
-    }
+    let info = format::info_there(flags);
+    let local = info & format::local_there(l.flags);
+    let network = info & format::network_there(l.flags);
+    (!info | (l.flags <= 3)) & (!local | (l.drive <= 6)) & (!network | (l.network_flags <= 3))
 }
 
-fn string_if(there: bool, unicode: bool, b: Place, d: &[u8]) -> bool
-    ensures { λ r. ⌜ r ≡ writableIf there (writableString unicode) (bytesAt (now (d .entry)) b) ⌝ }
-{
-    if there {
-        string_ok(unicode, body(d, b))
-    } else {
-        true
-    }
-}
+// ---- whether the bodies can be written, each by the rule of its kind
 
 fn items_if(there: bool, b: Place, d: &[u8]) -> bool
     ensures { λ r. ⌜ r ≡ writableIf there writableItems (bytesAt (now (d .entry)) b) ⌝ }
@@ -268,84 +152,58 @@ fn items_if(there: bool, b: Place, d: &[u8]) -> bool
     if there { items_ok(body(d, b)) } else { true }
 }
 
-fn volume_ok(v: Volume, d: &[u8]) -> bool
-    ensures { λ r. ⌜ r ≡ writableVolume (volumeContents (now (d .entry)) v) ⌝ }
+// LinkInfo's texts stand before the strings.
+fn slot_ok(k: usize, unicode: bool, x: &[u8]) -> bool
+    ensures { λ r. ⌜ r ≡ writableBody (kindAt k unicode) (now (x .entry)) ⌝ }
 {
-    let l = v.label;
-    (v.drive <= 6) & text_if(true, format::label_unicode(l), format::label_place(l), d)
+    if k < format::STRINGS {
+        return text_ok(unicode, x);
+    }
+    string_ok(unicode, x)
 }
 
-fn volume_if(there: bool, v: Volume, d: &[u8]) -> bool
-    ensures { λ r. ⌜ r ≡ writableIf there writableVolume (volumeContents (now (d .entry)) v) ⌝ }
+// The bodies of characters in the slots from one to before another.
+fn slots_ok(row: [Place; 16], s: Shape, d: &[u8], from: usize, to: usize) -> bool
+    requires { ⌜ (from ≤ to) × (to ≤ 16) ⌝ }
+    ensures { λ r. ⌜ r ≡ slotsOk (now (d .entry)) row s from (to - from) ⌝ }
 {
-    if there { volume_ok(v, d) } else { true }
+    let there = s.there;
+    let wide = s.wide;
+    let mut k = from;
+    while k < to {
+        if there[k] {
+            if !slot_ok(k, wide[k], body(d, row[k])) {
+                return false;
+            }
+        }
+        k += 1;
+    }
+    true
 }
 
-fn network_ok(n: Network, d: &[u8]) -> bool
-    ensures { λ r. ⌜ r ≡ writableNetwork (networkContents (now (d .entry)) n) ⌝ }
+// Texts and strings apart, so that the compiler unrolls both walks.
+fn bodies_ok(row: [Place; 16], s: Shape, d: &[u8]) -> bool
+    ensures { λ r. ⌜ r ≡ bodiesOk (now (d .entry)) row s ⌝ }
 {
-    let device = format::device_there(n.flags);
-    let both = format::device_unicode_there(n.unicode, n.flags);
-    (n.flags <= 3)
-        & text_if(true, false, n.net, d)
-        & text_if(device, false, n.device, d)
-        & text_if(n.unicode, true, n.net_unicode, d)
-        & text_if(both, true, n.device_unicode, d)
-}
-
-fn network_if(there: bool, n: Network, d: &[u8]) -> bool
-    ensures { λ r. ⌜ r ≡ writableIf there writableNetwork (networkContents (now (d .entry)) n) ⌝ }
-{
-    if there { network_ok(n, d) } else { true }
-}
-
-fn info_ok(i: Info, d: &[u8]) -> bool
-    ensures { λ r. ⌜ r ≡ writableInfo (infoContents (now (d .entry)) i) ⌝ }
-{
-    let local = format::local_there(i.flags);
-    let both = format::local_unicode_there(i.long, i.flags);
-    (i.flags <= 3)
-        & volume_if(local, i.volume, d)
-        & text_if(local, false, i.local, d)
-        & network_if(format::network_there(i.flags), i.network, d)
-        & text_if(true, false, i.suffix, d)
-        & text_if(both, true, i.local_unicode, d)
-        & text_if(i.long, true, i.suffix_unicode, d)
-}
-
-fn info_if(there: bool, i: Info, d: &[u8]) -> bool
-    ensures { λ r. ⌜ r ≡ writableIf there writableInfo (infoContents (now (d .entry)) i) ⌝ }
-{
-    if there { info_ok(i, d) } else { true }
-}
-
-// Every section by its own rules; the length of the whole is not looked at.
-fn sections_ok(q: Record, d: &[u8]) -> bool
-    ensures { λ r. ⌜ r ≡ sectionsWritable (bodiesOf (now (d .entry)) q) ⌝ }
-{
-    let flags = q.header.flags;
-    let unicode = format::strings_unicode(flags);
-    header_ok(q.header)
-        & items_if(format::items_there(flags), q.items, d)
-        & info_if(format::info_there(flags), q.info, d)
-        & string_if(format::name_there(flags), unicode, q.name, d)
-        & string_if(format::relative_there(flags), unicode, q.relative, d)
-        & string_if(format::workdir_there(flags), unicode, q.workdir, d)
-        & string_if(format::arguments_there(flags), unicode, q.arguments, d)
-        & string_if(format::icon_there(flags), unicode, q.icon, d)
-        & blocks_ok(body(d, q.blocks))
+    let there = s.there;
+    items_if(there[format::ITEMS], row[format::ITEMS], d)
+        & slots_ok(row, s, d, format::LABEL, format::STRINGS)
+        & slots_ok(row, s, d, format::STRINGS, format::BLOCKS)
+        & blocks_ok(body(d, row[format::BLOCKS]))
 }
 
 // ---- the whole
 
 // A body that is too long is refused by its length, before any body is looked at. `end` is where the shortest form ends.
-pub fn writable(q: Record, end: u32, d: &[u8]) -> bool
-    requires placed { ⌜ allInside (length (now d)) (bodies q) ≡ true ⌝ }
-    requires counted { ⌜ end ≡ capped (writtenLength q) ⌝ }
-    ensures { λ r. ⌜ r ≡ writable (bodiesOf (now (d .entry)) q) ⌝ }
+pub fn writable(q: Record, s: Shape, end: u32, d: &[u8]) -> bool
+    requires shape { ⌜ s ≡ shapeOf (q .header .flags) (q .link) ⌝ }
+    requires placed { ⌜ placed (length (now d)) q ≡ true ⌝ }
+    requires counted { ⌜ end ≡ clippedLength q ⌝ }
+    ensures { λ r. ⌜ r ≡ writable (contents (now (d .entry)) q) ⌝ }
 {
     if 65536 < end {
         return false;
     }
-    sections_ok(q, d)
+    let row = q.places;
+    header_ok(q.header) & link_ok(q.header.flags, q.link) & bodies_ok(row, s, d)
 }

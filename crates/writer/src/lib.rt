@@ -14,17 +14,18 @@ pub fn write(r: Record, d: &[u8], out: &mut [u8]) -> Verdict
     ensures numbers { λ v. ⌜ Numbered v (writing r (now (d .entry)) (length (now (out .entry)))) ⌝ }
     ensures least { λ v. ⌜ Ends r (now (d .entry)) (now (out .entry)) v (now (out .exit)) ⌝ }
 {
-    let q = writable::present(r);
-    if !writable::placed(q, d.len()) {
+    let s = format::shape_of(r.header.flags, r.link);
+    if !writable::placed(r, s, d.len()) {
         return Verdict::Refused(Fault::Place, 0);
     }
-    let s = sizes::starts_of(q);
-    if !writable::writable(q, s.end, d) {
+    let sizes = sizes::sizes_of(r, s);
+    let end = sizes::end_of(r, sizes);
+    if !writable::writable(r, s, end, d) {
         return Verdict::Refused(Fault::Unwritable, 0);
     }
-    if out.len() < s.end as usize {
+    if out.len() < end as usize {
         return Verdict::Refused(Fault::Room, 0);
     }
-    let n = canonical::put_canonical(out, q, s, d);
+    let n = canonical::put_canonical(out, r, s, sizes, d);
     Verdict::Accepted(n)
 }

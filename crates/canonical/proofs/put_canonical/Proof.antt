@@ -1,118 +1,123 @@
--- The sections stand one after another from 0 on, so what was put is the canonical form; the test of a flag stands for the flag.
-use Rattle.octets.proofs.WroteLaws.{kept, join, last, reword}
-use Rattle.canonical.proofs.FitsLaws.{fits-inside, fits-room, wrote-whole}
-use Rattle.canonical.proofs.LayoutLaws.{canonical-is}
-use Rattle.sizes.specs.Steps.Sizes.{writtenIf, writtenInfo, writtenParts}
-use Rattle.sizes.specs.declared.Starts.{Starts}
-use Rattle.sizes.specs.Steps.Starts.{startsOf}
-use mathlib.Core.Path.{refl, ap}
+-- Each section has room where the whole has, and no size was clipped.
+use Rattle.canonical.proofs.FitsLaws.{row-inside, items-inside, blocks-inside, sizes-exact, fits-room, wrote-whole}
+use Rattle.sizes.proofs.WholeLaws.{sized as sizes-of-slots}
+use Rattle.format.proofs.FlatLaws.{canonical-flat}
+use Rattle.format.specs.Steps.Flat.{infoTo, flatBytes}
+use Rattle.format.specs.Steps.Lengths.{writtenRow}
+use Rattle.format.specs.Bodies.{itemsSlot, placeIn}
+use Rattle.format.specs.Presence.{infoThere}
+use Prim.Native.Nat.{ℕ, _+_}
+use Rattle.octets.proofs.WroteLaws.{kept, join, reword}
 use mathlib.Core.Bool.{Bool, cond}
+use mathlib.Core.Path.{_≡_, refl, sym, ap, _∙_}
 use native.Mathlib.Omega.{arith}
 use borrow.Author.Needs.{needs}
 use Rattle.canonical.proofs.put_canonical.Statement.{statement}
 use Rattle.canonical.proofs.put_canonical.Tie as tie
 
 put-header-requires : tie.Need-put-header-requires
-unfolding writtenParts
 put-header-requires c κs =
-    let start = c .before .before .before in
-    let h = fits-room (start .pre .0) in
+    let start = c .before .before .before .before in
     let q = start .args .q in
-    omega arith
+    let room = fits-room q (start .pre .1 .0) (start .pre .0) in
+    omega (arith, room .room)
 
 items-there-requires : tie.Need-items-there-requires
 items-there-requires c κs = search needs
 
+array-copy-out-put-items-if : tie.Need-array-copy-out-put-items-if
+array-copy-out-put-items-if c = search needs
+
 put-items-if-requires : tie.Need-put-items-if-requires
-unfolding writtenParts
 put-items-if-requires c κs =
-    let after-items-there = c .before in
+    let after-items-there = c .before .before in
     let after-put-header = after-items-there .before .before .before in
-    let start = after-put-header .before .before .before .before in
-    let h = fits-room (start .pre .0) in
+    let after-slice-known = after-put-header .before .before .before .before in
+    let start = after-slice-known .before in
     let q = start .args .q in
-    let k₁ = ap (λ (t : Bool). writtenIf t (q .items) 4) (after-items-there .items-there .ensures) in
-    (fits-inside (start .pre .0) .items, record { room = omega arith; few = omega arith })
+    let room = fits-room q (start .pre .1 .0) (start .pre .0) in
+    let items = ap (λ (t : Bool). cond t (placeIn q itemsSlot .len + 4) 0) (after-items-there .items-there .ensures) in
+    let w = after-put-header .put-header .ensures in
+    (λ t. items-inside q (start .pre .1 .0) (row-inside q (start .pre .1 .0) (start .args .d .now) (start .pre .0 .inside)) (sym (after-items-there .items-there .ensures) ∙ t), record { room = omega (arith, room .room, kept w, w .next); few = omega (arith, room .few) })
 
 info-there-requires : tie.Need-info-there-requires
 info-there-requires c κs = search needs
 
-put-info-if-requires : tie.Need-put-info-if-requires
-unfolding writtenParts startsOf
-put-info-if-requires c κs =
+put-info-requires : tie.Need-put-info-requires
+put-info-requires c κs =
     let after-info-there = c .before in
-    let after-put-items = after-info-there .before .before .before in
-    let after-items-there = after-put-items .before .before in
+    let after-put-items-if = after-info-there .before .before .before in
+    let after-items-there = after-put-items-if .before .before .before in
     let after-put-header = after-items-there .before .before .before in
-    let start = after-put-header .before .before .before .before in
-    let h = fits-room (start .pre .0) in
+    let after-slice-known = after-put-header .before .before .before .before in
+    let start = after-slice-known .before in
     let q = start .args .q in
-    let k₁ = ap (λ (t : Bool). writtenIf t (q .items) 4) (after-items-there .items-there .ensures) in
-    let k₂ = ap (λ (t : Bool). cond t (writtenInfo (q .info)) 0) (after-info-there .info-there .ensures) in
-    (fits-inside (start .pre .0) .info, (record { room = omega arith; few = omega arith }, ap (λ (x : Starts). x .info) (start .pre .1)))
+    let room = fits-room q (start .pre .1 .0) (start .pre .0) in
+    let items = ap (λ (t : Bool). cond t (placeIn q itemsSlot .len + 4) 0) (after-items-there .items-there .ensures) in
+    let sized = sizes-exact q (start .pre .1 .0) (start .pre .0) (start .pre .1 .1) in
+    let info : cond (after-info-there .info-there .result) (infoTo (q .link) (start .args .sizes)) 0 ≡ cond (infoThere (q .header .flags)) (infoTo (q .link) (writtenRow q)) 0 = rw (after-info-there .info-there .ensures, sized) in
+    let w = join (after-put-header .put-header .ensures) (after-put-items-if .put-items-if .ensures) in
+    (start .pre .1 .0, (sized, (row-inside q (start .pre .1 .0) (start .args .d .now) (start .pre .0 .inside), record { room = omega (arith, room .room, kept w, w .next); few = omega (arith, room .few) })))
 
-put-strings-requires : tie.Need-put-strings-requires
-unfolding writtenParts
-put-strings-requires c κs =
+put-slots-requires : tie.Need-put-slots-requires
+put-slots-requires c κs =
     let after-put-info = c .before .before .before in
     let after-info-there = after-put-info .before .before in
-    let after-put-items = after-info-there .before .before .before in
-    let after-items-there = after-put-items .before .before in
+    let after-put-items-if = after-info-there .before .before .before in
+    let after-items-there = after-put-items-if .before .before .before in
     let after-put-header = after-items-there .before .before .before in
-    let start = after-put-header .before .before .before .before in
-    let h = fits-room (start .pre .0) in
+    let after-slice-known = after-put-header .before .before .before .before in
+    let start = after-slice-known .before in
     let q = start .args .q in
-    let k₁ = ap (λ (t : Bool). writtenIf t (q .items) 4) (after-items-there .items-there .ensures) in
-    let k₂ = ap (λ (t : Bool). cond t (writtenInfo (q .info)) 0) (after-info-there .info-there .ensures) in
-    let w₁ = (after-put-header .put-header .ensures) in
-    let l₁ = kept w₁ in
-    let w₂ = (after-put-items .put-items-if .ensures) in
-    let l₂ = kept w₂ in
-    let w₃ = (after-put-info .put-info-if .ensures) in
-    let l₃ = kept w₃ in
-    (fits-inside (start .pre .0) .strings, record { room = omega arith; few = omega arith })
+    let room = fits-room q (start .pre .1 .0) (start .pre .0) in
+    let items = ap (λ (t : Bool). cond t (placeIn q itemsSlot .len + 4) 0) (after-items-there .items-there .ensures) in
+    let sized = sizes-exact q (start .pre .1 .0) (start .pre .0) (start .pre .1 .1) in
+    let info : cond (after-info-there .info-there .result) (infoTo (q .link) (start .args .sizes)) 0 ≡ cond (infoThere (q .header .flags)) (infoTo (q .link) (writtenRow q)) 0 = rw (after-info-there .info-there .ensures, sized) in
+    let w = join (after-put-header .put-header .ensures) (join (after-put-items-if .put-items-if .ensures) (after-put-info .put-info .ensures)) in
+    (row-inside q (start .pre .1 .0) (start .args .d .now) (start .pre .0 .inside), ((omega arith, omega arith), record { room = omega (arith, room .room, kept w, w .next); few = omega (arith, room .few) }))
+
+array-copy-out-put-blocks : tie.Need-array-copy-out-put-blocks
+array-copy-out-put-blocks c = search needs
 
 put-blocks-requires : tie.Need-put-blocks-requires
-unfolding writtenParts
 put-blocks-requires c κs =
-    let after-put-strings = c .before .before .before in
-    let after-put-info = after-put-strings .before .before .before .before in
+    let after-put-slots = c .before .before .before .before in
+    let after-put-info = after-put-slots .before .before .before .before in
     let after-info-there = after-put-info .before .before in
-    let after-put-items = after-info-there .before .before .before in
-    let after-items-there = after-put-items .before .before in
+    let after-put-items-if = after-info-there .before .before .before in
+    let after-items-there = after-put-items-if .before .before .before in
     let after-put-header = after-items-there .before .before .before in
-    let start = after-put-header .before .before .before .before in
-    let h = fits-room (start .pre .0) in
+    let after-slice-known = after-put-header .before .before .before .before in
+    let start = after-slice-known .before in
     let q = start .args .q in
-    let k₁ = ap (λ (t : Bool). writtenIf t (q .items) 4) (after-items-there .items-there .ensures) in
-    let k₂ = ap (λ (t : Bool). cond t (writtenInfo (q .info)) 0) (after-info-there .info-there .ensures) in
-    let w₁ = (after-put-header .put-header .ensures) in
-    let l₁ = kept w₁ in
-    let w₂ = (after-put-items .put-items-if .ensures) in
-    let l₂ = kept w₂ in
-    let w₃ = (after-put-info .put-info-if .ensures) in
-    let l₃ = kept w₃ in
-    let w₄ = (after-put-strings .put-strings .ensures) in
-    let l₄ = kept w₄ in
-    (fits-inside (start .pre .0) .blocks, record { room = omega arith; few = omega arith })
+    let room = fits-room q (start .pre .1 .0) (start .pre .0) in
+    let items = ap (λ (t : Bool). cond t (placeIn q itemsSlot .len + 4) 0) (after-items-there .items-there .ensures) in
+    let sized = sizes-exact q (start .pre .1 .0) (start .pre .0) (start .pre .1 .1) in
+    let info : cond (after-info-there .info-there .result) (infoTo (q .link) (start .args .sizes)) 0 ≡ cond (infoThere (q .header .flags)) (infoTo (q .link) (writtenRow q)) 0 = rw (after-info-there .info-there .ensures, sized) in
+    let w = join (after-put-header .put-header .ensures) (join (after-put-items-if .put-items-if .ensures) (join (after-put-info .put-info .ensures) (after-put-slots .put-slots .ensures))) in
+    (blocks-inside q (start .pre .1 .0) (row-inside q (start .pre .1 .0) (start .args .d .now) (start .pre .0 .inside)), record { room = omega (arith, room .room, kept w, w .next); few = omega (arith, room .few) })
 
 same-length : tie.Need-same-length
 same-length c = search needs
 
 returns : tie.Need-returns
+unfolding flatBytes
 returns c =
     let after-put-blocks = c .before .before in
-    let after-put-strings = after-put-blocks .before .before .before .before in
-    let after-put-info = after-put-strings .before .before .before .before in
+    let after-out4 = after-put-blocks .before .before .before .before in
+    let after-put-slots = after-out4 .before in
+    let after-put-info = after-put-slots .before .before .before .before in
     let after-info-there = after-put-info .before .before in
-    let after-put-items = after-info-there .before .before .before in
-    let after-items-there = after-put-items .before .before in
+    let after-put-items-if = after-info-there .before .before .before in
+    let after-items-there = after-put-items-if .before .before .before in
     let after-put-header = after-items-there .before .before .before in
-    let start = after-put-header .before .before .before .before in
-    let w =
-    join (after-put-header .put-header .ensures) (join (rw (after-items-there .items-there .ensures) at (after-put-items .put-items-if .ensures)) (join (rw (after-info-there .info-there .ensures) at (after-put-info .put-info-if .ensures)) (join (after-put-strings .put-strings .ensures) (last (after-put-blocks .put-blocks .ensures)))))
-    in
-    wrote-whole (reword w (canonical-is _ (start .args .q)) refl)
+    let after-slice-known = after-put-header .before .before .before .before in
+    let start = after-slice-known .before in
+    let q = start .args .q in
+    let sized = sizes-exact q (start .pre .1 .0) (start .pre .0) (start .pre .1 .1) in
+    let d = start .args .d .now in
+    let flat = canonical-flat d q (start .args .sizes) (rw sized (sizes-of-slots d q (start .pre .0 .inside))) in
+    wrote-whole (reword (join (after-put-header .put-header .ensures) (join (after-put-items-if .put-items-if .ensures) (join (after-put-info .put-info .ensures) (join (after-put-slots .put-slots .ensures) (after-put-blocks .put-blocks .ensures))))) (rw (after-items-there .items-there .ensures, after-info-there .info-there .ensures, start .pre .1 .0) (sym flat)) refl)
 
 pub put-canonical-spec : {M : Type 1} → statement M
 put-canonical-spec =
@@ -120,10 +125,12 @@ put-canonical-spec =
     (tie.spec
     put-header-requires
     items-there-requires
+    array-copy-out-put-items-if
     put-items-if-requires
     info-there-requires
-    put-info-if-requires
-    put-strings-requires
+    put-info-requires
+    put-slots-requires
+    array-copy-out-put-blocks
     put-blocks-requires
     same-length
     returns)

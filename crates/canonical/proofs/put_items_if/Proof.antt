@@ -6,7 +6,7 @@ use Rattle.canonical.proofs.put_items_if.Statement.{statement}
 use Rattle.canonical.proofs.put_items_if.Tie as tie
 
 put-items-requires : tie.Need-put-items-requires
-put-items-requires c κs = (c .before .before .before .before .pre .0, rw (c .before .if1 .taken) at (c .before .before .before .before .pre .1))
+put-items-requires c κs = (c .before .before .before .before .pre .0 (c .before .if1 .taken), rw (c .before .if1 .taken) at (c .before .before .before .before .pre .1))
 
 same-length : tie.Need-same-length
 same-length c = search needs

@@ -1,5 +1,5 @@
 -- The record is accepted, so each text that it names stands in the shortcut, and the first row of the table gives the environment's block.
-use Rattle.keying.proofs.Laws.{accepted-texts, row-block, parts-are}
+use Rattle.keying.proofs.Laws.{row-block, accepted-texts, parts-are}
 use borrow.Author.Needs.{needs}
 use Rattle.keying.proofs.parts_of.Statement.{statement}
 use Rattle.keying.proofs.parts_of.Tie as tie
@@ -12,7 +12,8 @@ has-target-requires c κs = search needs
 
 texts-of-requires : tie.Need-texts-of-requires
 texts-of-requires c κs =
-    let i = accepted-texts _ _ (c .before .before .before .pre .0) in
+    let start = c .before .before .before .before in
+    let i = accepted-texts _ _ (start .pre .0) in
     (i .first, i .suffix)
 
 part-if-requires : tie.Need-part-if-requires
@@ -20,6 +21,9 @@ part-if-requires c κs = search needs
 
 arguments-there-requires : tie.Need-arguments-there-requires
 arguments-there-requires c κs = search needs
+
+array-copy-out-only : tie.Need-array-copy-out-only
+array-copy-out-only c = search needs
 
 only-requires : tie.Need-only-requires
 only-requires c κs = search needs
@@ -29,6 +33,9 @@ part-if-requires-2 c κs = search needs
 
 workdir-there-requires : tie.Need-workdir-there-requires
 workdir-there-requires c κs = search needs
+
+array-copy-out-only-2 : tie.Need-array-copy-out-only-2
+array-copy-out-only-2 c = search needs
 
 only-requires-2 : tie.Need-only-requires-2
 only-requires-2 c κs = search needs
@@ -41,27 +48,30 @@ array-read-environment c = search needs
 
 environment-requires : tie.Need-environment-requires
 environment-requires c κs =
-    let after-arguments = c .before .before .before in
-    let after-target = after-arguments .before .before .before in
-    let after-unicode = after-target .before .before .before in
-    let given = after-unicode .before .before .pre in
-    (row-block _ _ (given .0) (given .1)) .block
+    let after-part-if2 = c .before .before .before .before in
+    let after-part-if = after-part-if2 .before .before .before .before in
+    let after-row = after-part-if .before .before .before .before in
+    let start = after-row .before .before in
+    (row-block _ _ (start .pre .0) (start .pre .1)) .block
 
 returns : tie.Need-returns
 returns c =
-    let after-workdir = c .before in
-    let after-workdir-there = after-workdir .before .before in
-    let after-arguments = after-workdir-there .before in
-    let after-arguments-there = after-arguments .before .before in
-    let after-target = after-arguments-there .before in
-    let after-has-target = after-target .before .before in
-    let after-unicode = after-has-target .before in
-    let given = after-unicode .before .before .pre in
-    parts-are _ _ (given .0) (after-unicode .strings-unicode .ensures)
-    (after-has-target .has-target .ensures) (after-target .before .texts-of .ensures) (after-target .part-if .ensures)
-    (after-arguments-there .arguments-there .ensures) (after-arguments .before .only .ensures) (after-arguments .part-if2 .ensures)
-    (after-workdir-there .workdir-there .ensures) (after-workdir .before .only2 .ensures) (after-workdir .part-if3 .ensures)
-    (given .1) (c .environment .ensures)
+    let after-part-if3 = c .before in
+    let after-only2 = after-part-if3 .before in
+    let after-workdir-there = after-only2 .before .before in
+    let after-part-if2 = after-workdir-there .before in
+    let after-only = after-part-if2 .before in
+    let after-arguments-there = after-only .before .before in
+    let after-part-if = after-arguments-there .before in
+    let after-texts-of = after-part-if .before in
+    let after-has-target = after-texts-of .before in
+    let after-strings-unicode = after-has-target .before in
+    let start = after-strings-unicode .before .before .before in
+    parts-are _ _ (start .pre .0) (after-strings-unicode .strings-unicode .ensures)
+    (after-has-target .has-target .ensures) (after-texts-of .texts-of .ensures) (after-part-if .part-if .ensures)
+    (after-arguments-there .arguments-there .ensures) (after-only .only .ensures) (after-part-if2 .part-if2 .ensures)
+    (after-workdir-there .workdir-there .ensures) (after-only2 .only2 .ensures) (after-part-if3 .part-if3 .ensures)
+    (start .pre .1) (c .environment .ensures)
 
 pub parts-of-spec : {M : Type 1} → statement M
 parts-of-spec =
@@ -72,9 +82,11 @@ parts-of-spec =
     texts-of-requires
     part-if-requires
     arguments-there-requires
+    array-copy-out-only
     only-requires
     part-if-requires-2
     workdir-there-requires
+    array-copy-out-only-2
     only-requires-2
     part-if-requires-3
     array-read-environment

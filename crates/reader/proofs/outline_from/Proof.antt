@@ -61,12 +61,16 @@ blocks-step-requires c κs =
     let start = after-items .before .before .before .before in
     start .pre
 
+record-of-requires : tie.Need-record-of-requires
+record-of-requires c κs = search needs
+
 ends-of-requires : tie.Need-ends-of-requires
 ends-of-requires c κs = search needs
 
 returns : tie.Need-returns
 returns c =
-    let after-blocks = c .before .before .before in
+    let after-record = c .before in
+    let after-blocks = after-record .before .before .before in
     let after-icon = after-blocks .before .before in
     let after-icon-there = after-icon .before in
     let after-arguments = after-icon-there .before .before in
@@ -90,7 +94,7 @@ returns c =
     (after-workdir-there .workdir-there .ensures) (after-workdir .string-step3 .ensures)
     (after-arguments-there .arguments-there .ensures) (after-arguments .string-step4 .ensures)
     (after-icon-there .icon-there .ensures) (after-icon .string-step5 .ensures)
-    (after-blocks .blocks-step .ensures) (c .ends-of .ensures)
+    (after-blocks .blocks-step .ensures) (after-record .record-of .ensures) (c .ends-of .ensures)
 
 pub outline-from-spec : {M : Type 1} → statement M
 outline-from-spec =
@@ -112,5 +116,6 @@ outline-from-spec =
     icon-there-requires
     string-step-requires-5
     blocks-step-requires
+    record-of-requires
     ends-of-requires
     returns)

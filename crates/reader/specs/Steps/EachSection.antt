@@ -1,16 +1,17 @@
 -- The steps that the reader takes: each section from where the one before it ended, unless that was refused.
 use Prim.Native.Nat.{ℕ, _+_}
-use mathlib.Core.List.{List}
+use mathlib.Core.List.{List, [], _∷_, _++_}
 use mathlib.Core.Bool.{Bool, cond}
 use Rattle.octets.specs.declared.Cursor.{Cursor}
 use Rattle.format.specs.declared.Place.{Place}
 use Rattle.format.specs.declared.Header.{Header}
 use Rattle.format.specs.declared.Info.{Info}
+use Rattle.format.specs.declared.Record.{Record}
 use Rattle.format.specs.declared.Taken.{Taken}
 use Rattle.format.specs.declared.Taken.the-variants.{Got, Refused}
 use Rattle.format.specs.Tests.{noPlace}
 use Rattle.format.specs.Presence.{itemsThere, infoThere, nameBit, relativeBit, workdirBit, argumentsBit, iconBit, stringThere, stringsUnicode}
-use Rattle.format.specs.Info.{noInfo}
+use Rattle.format.specs.Info.{noInfo, linkOf, infoPlaces}
 use Rattle.single.specs.Steps.Taken.{stringAt, itemsAt}
 use Rattle.blocks.specs.Steps.Walk.{noFirsts, blocksRead}
 use Rattle.info.specs.declared.InfoTaken.{InfoTaken}
@@ -109,9 +110,13 @@ endsOf items info name relative workdir arguments icon = record {
   icon = atOf icon;
 }
 
+-- the record of what was read
+unfoldable pub recordFrom : Header → Place → Info → List Place → Place → Record
+recordFrom h items info strings blocks = record { header = h; link = linkOf info; places = items ∷ infoPlaces info ++ (strings ++ blocks ∷ []) }
+
 -- the sections after the header
 unfoldable pub outlineFrom : List ℕ → Header → Cursor → Outline
-unfolding itemsStep stringStep infoStep blocksStep endsOf
+unfolding itemsStep stringStep infoStep blocksStep endsOf recordFrom
 outlineFrom s h c =
     let f = h .flags in
     let u = stringsUnicode f in
@@ -125,17 +130,8 @@ outlineFrom s h c =
     let blocks = blocksStep s (icon .next) in
     record {
       next = blocks .next;
-      held = record {
-        header = h;
-        items = items .held;
-        info = info .held;
-        name = name .held;
-        relative = relative .held;
-        workdir = workdir .held;
-        arguments = arguments .held;
-        icon = icon .held;
-        blocks = blocks .held;
-      };
+      held =
+          recordFrom h (items .held) (info .held) (name .held ∷ relative .held ∷ workdir .held ∷ arguments .held ∷ icon .held ∷ []) (blocks .held);
       ends = endsOf (items .next) (info .next) (name .next) (relative .next) (workdir .next) (arguments .next) (icon .next);
       firsts = blocks .firsts;
     }

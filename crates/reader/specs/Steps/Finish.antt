@@ -15,6 +15,7 @@ use Rattle.format.specs.declared.Verdict.the-variants.{Accepted, Refused}
 use Rattle.format.specs.declared.Spot.{Spot}
 use Rattle.format.specs.Tests.{_else_at_, noSection, spotAt, tests, Outcome, got, refused}
 use Rattle.format.specs.Blocks.{blocks}
+use Rattle.format.specs.Bodies.{placeIn, blocksSlot}
 use Rattle.format.specs.Numbers.{numberOf, answerNumber, answerValue}
 use Rattle.format.specs.Steps.Firsts.{firsts}
 use Rattle.format.specs.Steps.Answers.{Answers}
@@ -57,7 +58,9 @@ finished n (Off f p) r = refusedAt f (p .position)
 
 -- the row is that of the blocks which the record r holds
 abbrev pub FirstsOf : List ℕ → Record → List ℕ → Type 0
-FirstsOf s r row = (lengths : List ℕ) (n : ℕ) → blocks (r .blocks .at) (drop (r .blocks .at) s) ≡ got lengths n → row ≡ firsts s (r .blocks .at) lengths
+FirstsOf s r row =
+    (lengths : List ℕ) (n : ℕ) → blocks (placeIn r blocksSlot .at) (drop (placeIn r blocksSlot .at) s) ≡ got lengths n
+    → row ≡ firsts s (placeIn r blocksSlot .at) lengths
 
 -- ---- numbers and values of the answers
 

@@ -6,12 +6,13 @@ use lib.ListN.{length, take}
 use Rattle.format.specs.declared.Place.{Place}
 use Rattle.format.specs.declared.Record.{Record}
 use Rattle.format.specs.Presence.{localThere}
+use Rattle.format.specs.Bodies.{placeIn, localSlot, netSlot, suffixSlot}
 use Rattle.format.specs.Contents.{bytesAt}
 use Rattle.format.specs.Target.{backslash, separator}
 use Rattle.target.specs.declared.Texts.{Texts}
 
 unfoldable pub firstText : Record → Place
-firstText r = cond (localThere (r .info .flags)) (r .info .local) (r .info .network .net)
+firstText r = cond (localThere (r .link .flags)) (placeIn r localSlot) (placeIn r netSlot)
 
 -- one or none
 abbrev pub separators : List ℕ → Place → Place → ℕ
@@ -20,8 +21,8 @@ separators s a b = length (separator (bytesAt s a) (bytesAt s b))
 unfoldable pub textsOf : List ℕ → Record → Texts
 textsOf s r = record {
   first = firstText r;
-  separators = separators s (firstText r) (r .info .suffix);
-  suffix = r .info .suffix;
+  separators = separators s (firstText r) (placeIn r suffixSlot);
+  suffix = placeIn r suffixSlot;
 }
 
 abbrev pub Stands : List ℕ → Texts → Type 0

@@ -1,6 +1,7 @@
--- A record longer than the most is not writable; of any other the sections decide.
-use native.Mathlib.Omega.{arith}
+-- A record longer than the most is not writable; of any other the rules decide.
 use Rattle.writable.proofs.WholeLaws.{writable-long, writable-short}
+use Rattle.writable.proofs.SectionLaws.{sections-are}
+use native.Mathlib.Omega.{arith}
 use borrow.Author.Needs.{needs}
 use Rattle.writable.proofs.writable.Statement.{statement}
 use Rattle.writable.proofs.writable.Tie as tie
@@ -8,15 +9,26 @@ use Rattle.writable.proofs.writable.Tie as tie
 returns : tie.Need-returns
 returns c =
     let start = c .before .before in
-    writable-long (start .args .d .now) (start .args .q) (start .pre .0) (start .pre .1) (omega arith)
+    writable-long (start .args .d .now) (start .args .q) (start .pre .1 .0) (start .pre .1 .1) (omega arith)
 
-sections-ok-requires : tie.Need-sections-ok-requires
-sections-ok-requires c κs = search needs
+header-ok-requires : tie.Need-header-ok-requires
+header-ok-requires c κs = search needs
+
+link-ok-requires : tie.Need-link-ok-requires
+link-ok-requires c κs = search needs
+
+bodies-ok-requires : tie.Need-bodies-ok-requires
+bodies-ok-requires c κs = search needs
 
 returns-2 : tie.Need-returns-2
 returns-2 c =
-    let start = c .before .before .before in
-    writable-short (start .args .d .now) (start .args .q) (start .pre .0) (start .pre .1) (omega arith) (c .sections-ok .ensures)
+    let after-header-ok = c .before .before in
+    let start = after-header-ok .before .before .before .before in
+    let d = start .args .d .now in
+    let q = start .args .q in
+    writable-short d q (start .pre .1 .0) (start .pre .1 .1) (omega arith)
+    (sections-are d q (start .pre .0) (after-header-ok .header-ok .ensures) (c .before .link-ok .ensures) (c .bodies-ok .ensures))
 
 pub writable-spec : {M : Type 1} → statement M
-writable-spec = tie.close (tie.spec returns sections-ok-requires returns-2)
+writable-spec =
+    tie.close (tie.spec returns header-ok-requires link-ok-requires bodies-ok-requires returns-2)

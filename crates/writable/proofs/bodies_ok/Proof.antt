@@ -1,0 +1,53 @@
+-- The rules kind by kind.
+use Rattle.writable.specs.Steps.Slots.{bodiesOk}
+use borrow.Author.Needs.{needs}
+use native.Mathlib.Omega.{arith}
+use Rattle.writable.proofs.bodies_ok.Statement.{statement}
+use Rattle.writable.proofs.bodies_ok.Tie as tie
+
+array-read-items-if : tie.Need-array-read-items-if
+array-read-items-if c = omega arith
+
+array-copy-out-items-if : tie.Need-array-copy-out-items-if
+array-copy-out-items-if c = omega arith
+
+items-if-requires : tie.Need-items-if-requires
+items-if-requires c κs = search needs
+
+slots-ok-requires : tie.Need-slots-ok-requires
+slots-ok-requires c κs = search needs
+
+slots-ok-requires-2 : tie.Need-slots-ok-requires-2
+slots-ok-requires-2 c κs = search needs
+
+array-copy-out-body : tie.Need-array-copy-out-body
+array-copy-out-body c = omega arith
+
+body-requires : tie.Need-body-requires
+body-requires c κs = search needs
+
+blocks-ok-requires : tie.Need-blocks-ok-requires
+blocks-ok-requires c κs = search needs
+
+returns : tie.Need-returns
+unfolding bodiesOk
+returns c =
+    let after-body = c .before in
+    let after-strings = after-body .before .before in
+    let after-texts = after-strings .before in
+    let after-items-if = after-texts .before in
+    rw (c .blocks-ok .ensures, after-body .body .ensures, after-strings .slots-ok2 .ensures, after-texts .slots-ok .ensures, after-items-if .items-if .ensures)
+
+pub bodies-ok-spec : {M : Type 1} → statement M
+bodies-ok-spec =
+    tie.close
+    (tie.spec
+    array-read-items-if
+    array-copy-out-items-if
+    items-if-requires
+    slots-ok-requires
+    slots-ok-requires-2
+    array-copy-out-body
+    body-requires
+    blocks-ok-requires
+    returns)
