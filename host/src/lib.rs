@@ -35,7 +35,7 @@ pub use unwritable::Cause;
 use refusal::answer;
 
 /// The requests whose rules this package and its archive follow; docs/requests of the repository has a note of each.
-pub const REQUESTS: [&str; 6] = ["01", "02", "03", "04", "05", "06"];
+pub const REQUESTS: [&str; 7] = ["01", "02", "03", "04", "05", "06", "07"];
 
 /// The SHA-256 of the archive that is linked, in hex.
 pub const ARCHIVE_DIGEST: &str = env!("HERRINGNET_DIGEST");
