@@ -75,7 +75,7 @@ abbrev pub more : List ℕ → ℕ → ℕ → List ℕ → Outcome (List ℕ)
 more before p n s = andThen (later before p n s) (λ lengths m. got (n ∷ lengths) (n + m))
 
 -- a block that is no second one, and what follows it
-more-on : (before : List ℕ) (p n : ℕ) (s : List ℕ) (r : Outcome (List ℕ)) → once before (slotAt s) ≡ true → blocksAfter (slotAt s ∷ before) (p + n) (drop n s) ≡ r
+pub more-on : (before : List ℕ) (p n : ℕ) (s : List ℕ) (r : Outcome (List ℕ)) → once before (slotAt s) ≡ true → blocksAfter (slotAt s ∷ before) (p + n) (drop n s) ≡ r
     → more before p n s ≡ andThen r (λ lengths m. got (n ∷ lengths) (n + m))
 more-on before p n s r o e = rw (o, e)
 
@@ -247,7 +247,7 @@ body-elim p s X f x n e = go (blocks p s) refl e
     go (got ls m) i h = got-elim X h (f ls m i)
     go (refused a b) i h = no-value h
 
-takes-elim {ℓ} : {X : Type ℓ} (n : ℕ) (r : Outcome (List ℕ)) → takes n r ≡ true → ((lengths : List ℕ) → r ≡ got lengths n → X) → X
+pub takes-elim {ℓ} : {X : Type ℓ} (n : ℕ) (r : Outcome (List ℕ)) → takes n r ≡ true → ((lengths : List ℕ) → r ≡ got lengths n → X) → X
 takes-elim n (got ls m) e f = f ls (ap (got ls) (eqb-true m n e))
 takes-elim n (refused x y) e f = no-true e
 
@@ -255,7 +255,7 @@ takes-elim n (refused x y) e f = no-true e
 zero-size : (r : List ℕ) → blockSize (little 4 0 ++ r) < 4
 zero-size r = omega (arith, number-back 4 0 r (omega arith))
 
-zero-alone : blockSize (little 4 0) < 4
+pub zero-alone : blockSize (little 4 0) < 4
 zero-alone = rw append-nil at (zero-size [])
 
 blocks-back : (x : List ℕ) → BlocksV x → (p : ℕ) (r : List ℕ) → blocksR p (blocksBytes x ++ r) ≡ got x (length (blocksBytes x))

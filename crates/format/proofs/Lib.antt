@@ -43,6 +43,9 @@ pub mod StoreLaws
 pub mod StoreReads
 pub mod StoreWrites
 pub mod StoreDemands
+pub mod PathRows
+pub mod PathLaws
+pub mod PathDemands
 pub mod KeyDemands
 pub mod KeyRoom
 pub mod KeySame

@@ -35,12 +35,12 @@ record FirstOne (s before : List ℕ) (p : ℕ) (lengths : List ℕ) (x : Row) :
   is : place (x .start) (x .len) ≡ firstPlace s (signature s x) p lengths
 
 -- known, and no second one
-none-before : (k a : Bool) → k ≡ true → not (k && a) ≡ true → a ≡ false
+pub none-before : (k a : Bool) → k ≡ true → not (k && a) ≡ true → a ≡ false
 none-before true true e o = sym o
 none-before true false e o = refl
 none-before false a e o = clash e refl
 
-neither : (a b : Bool) → (a || b) ≡ false → (a ≡ false) × (b ≡ false)
+pub neither : (a b : Bool) → (a || b) ≡ false → (a ≡ false) × (b ≡ false)
 neither true b e = clash refl e
 neither false b e = (refl, e)
 

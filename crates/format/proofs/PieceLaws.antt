@@ -60,11 +60,11 @@ zero-first true r = refl
 zero-first false r = refl
 
 -- a text that can be written: whole characters, and none is zero
-record Plain (u : Bool) (x : List ℕ) : Type 0 where
-  whole : bytesOf u (length (characters u x)) ≡ length x
-  no-zero : beforeZero (characters u x) ≡ length (characters u x)
+pub record Plain (u : Bool) (x : List ℕ) : Type 0 where
+  pub whole : bytesOf u (length (characters u x)) ≡ length x
+  pub no-zero : beforeZero (characters u x) ≡ length (characters u x)
 
-plain : (u : Bool) (x : List ℕ) → writableText u x ≡ true → Plain u x
+pub plain : (u : Bool) (x : List ℕ) → writableText u x ≡ true → Plain u x
 plain u x e =
     let c : List ℕ = characters u x in
     let a : bytesOf u (beforeZero c) ≡ length x = eqb-true _ _ e in

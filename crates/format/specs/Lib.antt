@@ -22,5 +22,6 @@ pub mod Listing
 pub mod StoreList
 pub mod StoreWriting
 pub mod Demands
+pub mod PathWriting
 pub mod Probes
 pub mod Steps

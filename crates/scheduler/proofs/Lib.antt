@@ -2,5 +2,6 @@ pub mod PositionLaws
 pub mod CodeLaws
 pub mod FieldLaws
 pub mod StoreLaws
+pub mod PathLaws
 pub mod OneOutcome
 pub mod SpotLaws

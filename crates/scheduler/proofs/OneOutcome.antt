@@ -11,6 +11,7 @@ use Rattle.scheduler.proofs.herringnet_write as herringnet-write
 use Rattle.scheduler.proofs.herringnet_fault as herringnet-fault
 use Rattle.scheduler.proofs.herringnet_store_list as herringnet-store-list
 use Rattle.scheduler.proofs.herringnet_store_write as herringnet-store-write
+use Rattle.scheduler.proofs.herringnet_path_block as herringnet-path-block
 
 pub herringnet-check-one-outcome : OneAnswer herringnet-check.ended herringnet-check.Reads.Post
 herringnet-check-one-outcome κs a r q s t p o = p ∙ sym o
@@ -38,3 +39,6 @@ herringnet-store-list-one-outcome κs a r q s t p o = (p .0 ∙ sym (o .0), p .1
 
 pub herringnet-store-write-one-outcome : OneOutcome herringnet-store-write.ended (λ κs s. now (s .1 .1 .0)) herringnet-store-write.Reads.Post
 herringnet-store-write-one-outcome κs a r q s t p o = (p .0 ∙ sym (o .0), p .1 .0 ∙ sym (o .1 .0))
+
+pub herringnet-path-block-one-outcome : OneOutcome herringnet-path-block.ended (λ κs s. now (s .1 .1 .1 .1 .1 .0)) herringnet-path-block.Reads.Post
+herringnet-path-block-one-outcome κs a r q s t p o = (p .0 ∙ sym (o .0), p .1 .0 ∙ sym (o .1 .0))

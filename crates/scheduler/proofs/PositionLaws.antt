@@ -70,7 +70,7 @@ key-small s out bs = go (shortcut s) refl
     go (refused f q) i = omega (arith, positions-small s f q i)
 
 -- what can be written is no longer than a shortcut
-writable-few : (c : Contents) → writable c ≡ true → length (canonical c) ≤ most
+pub writable-few : (c : Contents) → writable c ≡ true → length (canonical c) ≤ most
 writable-few c e = leb-true (length (canonical c)) most (all-writable c e .short)
 
 pub write-small : (r : Record) (d out : List ℕ) → answerValue (writeAnswer r d out) ≤ 131073

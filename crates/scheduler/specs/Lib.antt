@@ -1,3 +1,4 @@
 pub mod Code
 pub mod Records
 pub mod Stores
+pub mod Paths

@@ -11,6 +11,7 @@ ghost use Rattle.format.specs.StoreList.{storeListAnswer, storeListOutput};
 ghost use Rattle.scheduler.specs.Code.{codeOf, faultCode, sectionCode};
 ghost use Rattle.scheduler.specs.Records.{readCode, readFields, writeCode, writtenFields, EndsOf};
 ghost use Rattle.scheduler.specs.Stores.{storeWriteCode, storeWrittenRows, StoreEndsOf};
+ghost use Rattle.scheduler.specs.Paths.{pathCode, pathWritten, PathEndsOf};
 
 fn code_of(v: Verdict) -> u64
     requires { ⌜ answerValue v ≤ 131073 ⌝ }
@@ -123,5 +124,29 @@ pub extern "C" fn herringnet_store_write(rows: &[u64], d: &[u8], out: &mut [u8])
         return 201;
     }
     let v = storing::store_write(rows, d, out);
+    code_of(v)
+}
+
+#[no_mangle]
+pub extern "C" fn herringnet_path_block(
+    f: &[u64],
+    d: &[u8],
+    signature: u32,
+    text: &[u8],
+    unicode: &[u8],
+    out: &mut [u8],
+) -> u64
+    ensures answer { λ r. ⌜ r ≡ pathCode (now (f .entry)) (now (d .entry)) signature (now (text .entry)) (now (unicode .entry)) (now (out .entry)) ⌝ }
+    ensures output { λ _. ⌜ now (out .exit) ≡ pathWritten (now (f .entry)) (now (d .entry)) signature (now (text .entry)) (now (unicode .entry)) (now (out .entry)) ⌝ }
+    ensures least { λ r. ⌜ PathEndsOf (now (f .entry)) (now (d .entry)) signature (now (text .entry)) (now (unicode .entry)) (now (out .entry)) r (now (out .exit)) ⌝ }
+{
+    if f.len() != 49 {
+        return 201;
+    }
+    if !fields::are_record(f) {
+        return 202;
+    }
+    let q = fields::record_from(f);
+    let v = pathing::path_block(q, d, signature, text, unicode, out);
     code_of(v)
 }

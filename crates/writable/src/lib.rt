@@ -80,7 +80,7 @@ fn whole(unicode: bool, n: usize) -> bool
 }
 
 // Whole characters, none of them zero.
-fn text_ok(unicode: bool, x: &[u8]) -> bool
+pub fn text_ok(unicode: bool, x: &[u8]) -> bool
     ensures { λ r. ⌜ r ≡ writableText unicode (now (x .entry)) ⌝ }
 {
     whole(unicode, x.len()) & !octets::has_zero(unicode, x)
