@@ -232,6 +232,21 @@ uint64_t herringnet_store_list(const uint8_t *shortcut, size_t shortcut_len, uin
 uint64_t herringnet_store_write(const uint64_t *rows, size_t rows_len, const uint8_t *body, size_t body_len,
                                 uint8_t *out, size_t out_len);
 
+/* The signatures of the blocks that hold a path in two texts (FORMAT: Path blocks). */
+#define HERRINGNET_ENVIRONMENT UINT32_C(0xA0000001)
+#define HERRINGNET_DARWIN UINT32_C(0xA0000006)
+#define HERRINGNET_ICON_ENVIRONMENT UINT32_C(0xA0000007)
+
+/* Puts the path block of this signature into the record in fields, with its bodies in body, in the stead of one of that
+ * signature or after all others, and writes the shortest shortcut that reads as the record so changed into out. text has
+ * bytes and unicode has two for a character, both without a terminator. No bit of LinkFlags changes. Success: the length
+ * written. Refusals: FIELDS, VALUES, PLACE, UNWRITABLE for another signature, a text with a zero inside or with over 259
+ * characters, half a character of unicode, or a record that could not be written before or after, ROOM, in this order
+ * (FORMAT: Path block call). */
+uint64_t herringnet_path_block(const uint64_t *fields, size_t fields_len, const uint8_t *body, size_t body_len,
+                               uint32_t signature, const uint8_t *text, size_t text_len, const uint8_t *unicode,
+                               size_t unicode_len, uint8_t *out, size_t out_len);
+
 #ifdef __cplusplus
 }
 #endif

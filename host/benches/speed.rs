@@ -38,7 +38,7 @@ struct Call {
     independent: Side,
 }
 
-const CALLS: [Call; 6] = [
+const CALLS: [Call; 7] = [
     Call {
         name: "check",
         proved: |case| proved::check(&case.shortcut),
@@ -72,7 +72,20 @@ const CALLS: [Call; 6] = [
         proved: |case| proved::write(&case.record, &case.shortcut, &mut case.out),
         independent: |case| independent::boundary_write(&case.record, &case.shortcut, &mut case.out),
     },
+    // A shortcut of nearly 64 KiB has no space for one more block, unless it replaces one.
+    Call {
+        name: "path block",
+        proved: |case| proved::path_block(&case.record, &case.shortcut, ENVIRONMENT, TEXT, UNICODE, &mut case.out),
+        independent: |case| {
+            independent::boundary_path_block(&case.record, &case.shortcut, ENVIRONMENT, TEXT, UNICODE, &mut case.out)
+        },
+    },
 ];
+
+/// The path block that is put in.
+const ENVIRONMENT: u32 = 0xA000_0001;
+const TEXT: &[u8] = br"%TOOLS%\cc.exe";
+const UNICODE: &[u8] = b"%\0T\0%\0\\\0c\0c\0";
 
 impl Case {
     fn new(shape: &str) -> Case {
@@ -84,7 +97,7 @@ impl Case {
 
     /// A refused shortcut has no record to write.
     fn can(&self, call: &Call) -> bool {
-        call.name != "write" || independent::check(&self.shortcut).is_ok()
+        !["write", "path block"].contains(&call.name) || independent::check(&self.shortcut).is_ok()
     }
 }
 

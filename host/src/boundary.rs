@@ -1,4 +1,4 @@
-//! The nine proved functions, as they stand in the archive.
+//! The ten proved functions, as they stand in the archive.
 //!
 //! Every answer is one number (FORMAT: C numbers): its number, 0 for success, + 256 × a value, which is the length
 //! of a success or the position of a refusal. A refusal changes no byte of `out` and no number of `fields`. The other
@@ -41,9 +41,25 @@ extern "C" {
         out: *mut u8,
         out_len: usize,
     ) -> u64;
+
+    // pub extern "C" fn herringnet_path_block(
+    //     f: &[u64], d: &[u8], signature: u32, text: &[u8], unicode: &[u8], out: &mut [u8]) -> u64
+    fn herringnet_path_block(
+        f: *const u64,
+        f_len: usize,
+        d: *const u8,
+        d_len: usize,
+        signature: u32,
+        text: *const u8,
+        text_len: usize,
+        unicode: *const u8,
+        unicode_len: usize,
+        out: *mut u8,
+        out_len: usize,
+    ) -> u64;
 }
 
-// In all nine calls pointer and length come from one slice, and a slice that is written to is borrowed by
+// In all ten calls pointer and length come from one slice, and a slice that is written to is borrowed by
 // nobody else: that is all that the functions need, since they have no other condition.
 
 /// The verdict on a shortcut; the value of a success is its length.
@@ -94,6 +110,26 @@ pub fn store_list(shortcut: &[u8], rows: &mut [u64]) -> u64 {
 /// its length.
 pub fn store_write(rows: &[u64], body: &[u8], out: &mut [u8]) -> u64 {
     unsafe { herringnet_store_write(rows.as_ptr(), rows.len(), body.as_ptr(), body.len(), out.as_mut_ptr(), out.len()) }
+}
+
+/// Writes the record in `fields`, its bodies in `body`, with the path block of this signature and these texts put in, to
+/// the front of `out`; the value of a success is the length.
+pub fn path_block(fields: &[u64], body: &[u8], signature: u32, text: &[u8], unicode: &[u8], out: &mut [u8]) -> u64 {
+    unsafe {
+        herringnet_path_block(
+            fields.as_ptr(),
+            fields.len(),
+            body.as_ptr(),
+            body.len(),
+            signature,
+            text.as_ptr(),
+            text.len(),
+            unicode.as_ptr(),
+            unicode.len(),
+            out.as_mut_ptr(),
+            out.len(),
+        )
+    }
 }
 
 /// Two calls of the system for the command line, which Rust 1.63's library has no safe form of.

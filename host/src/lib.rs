@@ -15,6 +15,7 @@
 pub mod boundary;
 pub mod fields;
 pub mod json;
+mod path;
 pub mod record;
 mod refusal;
 mod section;
@@ -24,6 +25,7 @@ pub mod store;
 pub mod text;
 mod unwritable;
 
+pub use path::{PathKind, PathTexts};
 pub use record::Record;
 pub use refusal::{Fault, Refusal};
 pub use section::{listed, listing, section, sections, Section, SectionName};
@@ -35,7 +37,7 @@ pub use unwritable::Cause;
 use refusal::answer;
 
 /// The requests whose rules this package and its archive follow; docs/requests of the repository has a note of each.
-pub const REQUESTS: [&str; 7] = ["01", "02", "03", "04", "05", "06", "07"];
+pub const REQUESTS: [&str; 8] = ["01", "02", "03", "04", "05", "06", "07", "08"];
 
 /// The SHA-256 of the archive that is linked, in hex.
 pub const ARCHIVE_DIGEST: &str = env!("HERRINGNET_DIGEST");

@@ -1,4 +1,4 @@
-//! The command line: checks, lists, shows and rewrites shortcuts.
+//! The command line: checks, lists, shows, rewrites and sets shortcuts.
 mod cli;
 
 use cli::arguments::{parse, Plan};

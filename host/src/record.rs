@@ -4,6 +4,7 @@
 //! bits of the format that tell of presence follow from it.
 use crate::boundary;
 use crate::fields::{self, FIELDS};
+use crate::path::{PathKind, PathTexts};
 use crate::refusal::{answer, Fault, Refusal};
 use crate::text::{Misfit, StringName, Text};
 use crate::unwritable::{cause, other_kind};
@@ -183,6 +184,8 @@ pub struct NetworkUnicode<'a> {
 
 /// All heads, counts and terminators of a shortcut together are shorter than this.
 const FRAME: usize = 256;
+/// The bytes of a path block.
+const BLOCK: usize = 788;
 
 impl<'a> Record<'a> {
     /// Reads a shortcut. The record's bodies are parts of it.
@@ -244,6 +247,31 @@ impl<'a> Record<'a> {
     pub fn to_vec(&self) -> Result<Vec<u8>, Refusal> {
         self.one_kind()?;
         self.written().map_err(|refusal| self.explained(refusal))
+    }
+
+    /// The shortest shortcut that reads as this record with a path block put in: in the stead of the one of its kind,
+    /// else after all other blocks. No other field or body changes, [`PathKind::flag`]'s bit of LinkFlags neither.
+    ///
+    /// # Errors
+    ///
+    /// [`Fault::Unwritable`] for a text that does not fit, and where this record or the changed one could not be written,
+    /// with the field at fault.
+    ///
+    /// ```
+    #[doc = include_str!("../examples/path.rs")]
+    /// ```
+    pub fn with_path_block(&self, kind: PathKind, texts: &PathTexts) -> Result<Vec<u8>, Refusal> {
+        self.one_kind()?;
+        let put = Put::of(self);
+        let mut out = vec![0; LONGEST.min(put.body.len().saturating_add(FRAME + BLOCK))];
+        let PathTexts { bytes, unicode } = texts;
+        let answered = boundary::path_block(&put.numbers, &put.body, kind.signature(), bytes, unicode, &mut out);
+        let length = answer(answered).map_err(|refusal| match kind.cause(texts) {
+            Some(cause) => Refusal { cause: Some(cause), ..refusal },
+            None => self.explained(refusal),
+        })?;
+        out.truncate(length);
+        Ok(out)
     }
 
     /// The writer's own answer.

@@ -14,6 +14,7 @@ const CALLS: &[(&str, &[&str])] = &[
     ("keying", &["key"]),
     ("storing", &["store_list", "store_name", "store_raw", "store_write"]),
     ("writer", &["write"]),
+    ("pathing", &["path_block"]),
     ("rewriting", &["rewrite"]),
     ("lines", &["put_verdict", "put_listing", "put_key_line"]),
 ];

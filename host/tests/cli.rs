@@ -5,7 +5,7 @@ use common::shortcuts::{z, Said, Shortcuts};
 use common::{run_on, text, SAMPLE};
 use herringnet::record::{Header, Info, InfoUnicode, Label, Local, Network, NetworkUnicode, Record};
 use herringnet::store::{Storage, Store, NAMED};
-use herringnet::Text;
+use herringnet::{PathTexts, Text};
 use std::fs;
 use std::io::Write;
 use std::os::unix::fs::{symlink, PermissionsExt};
@@ -289,6 +289,54 @@ fn rewrite_beside() {
 }
 
 #[test]
+fn set_puts_path_blocks_in() {
+    let s = Shortcuts::new("set");
+    let path = r"%TOOLS%\cc.exe";
+    let said = s.run(&["set", "--environment", path, "z.lnk"]);
+    assert_eq!((said.status, said.out.len(), said.err.as_str()), (0, 868, ""));
+    let record = Record::read(&said.out).unwrap();
+    assert_eq!((record.header.flags, PathTexts::of(record.blocks)), (1 << 9, PathTexts::encode(path).ok()));
+    // The sample has other blocks, which stay; the text is replaced where it stands, and the same one changes nothing.
+    let words = ["set", "--in-place", "--icon-environment", "i.ico", "--darwin=", "--environment", path, "a.lnk"];
+    s.run(&words).is(0, "a.lnk: 2823 bytes, from 459\n", "");
+    let made = s.get("a.lnk");
+    let (old, new) = (Record::read(SAMPLE).unwrap(), Record::read(&made).unwrap());
+    assert_eq!(new.header.flags, old.header.flags | 1 << 9 | 1 << 12 | 1 << 14);
+    assert_eq!((&new.info, new.items, &new.workdir), (&old.info, old.items, &old.workdir));
+    assert_eq!(new.blocks[..old.blocks.len()], *old.blocks);
+    assert_eq!(PathTexts::of(&new.blocks[old.blocks.len() + 788..]), Some(PathTexts::default()));
+    s.run(&words).is(0, "a.lnk: 2823 bytes, as it was\n", "");
+    s.run(&["set", "--in-place", "--icon-environment", "other", "a.lnk"]).is(0, "a.lnk: 2823 bytes, from 2823\n", "");
+    let blocks = Record::read(&made).unwrap().blocks.len();
+    let again = s.get("a.lnk");
+    let again = Record::read(&again).unwrap();
+    assert_eq!(again.blocks.len(), blocks);
+    assert_eq!(PathTexts::of(&again.blocks[old.blocks.len()..]), PathTexts::encode("other").ok());
+    assert_eq!(again.blocks[old.blocks.len() + 788..], new.blocks[old.blocks.len() + 788..]);
+}
+
+#[test]
+fn set_refuses_texts_that_do_not_fit() {
+    let s = Shortcuts::new("set_refused");
+    let long = "x".repeat(260);
+    let said = s.run(&["set", "--in-place", "--darwin", &long, "z.lnk"]);
+    assert_eq!((said.status, said.out.len()), (1, 0));
+    assert!(said.err.contains("Darwin text: it has more than 259 characters"), "{}", said.err);
+    assert_eq!(s.get("z.lnk"), z());
+    assert_eq!(s.run(&["set", "--darwin", &long[1..], "z.lnk"]).status, 0);
+    // Bytes of one's own stand in for what windows-1252 lacks.
+    let said = s.run_raw(&[b"set", b"--environment", "\u{3A9}".as_bytes(), b"--environment-bytes", b"\xEA", b"z.lnk"]);
+    let record = Record::read(&said.out).unwrap();
+    let texts = PathTexts { bytes: b"\xEA".to_vec(), unicode: b"\xA9\x03".to_vec() };
+    assert_eq!((said.status, PathTexts::of(record.blocks)), (0, Some(texts)));
+    s.run(&["set", "--environment", "x", "cut.lnk"]).is(
+        1,
+        "",
+        "herringnet: cut.lnk: refused 2 CUT at 76: it is cut off inside a field or a part\n",
+    );
+}
+
+#[test]
 fn files_that_cannot_be_read_are_passed_over() {
     let s = Shortcuts::new("unreadable");
     let missing = "herringnet: none.lnk: cannot be read: No such file or directory\n";
@@ -381,8 +429,9 @@ fn the_readme_shows_what_is_printed() {
 fn words_that_make_no_sense() {
     let s = Shortcuts::new("usage");
     let see = "herringnet: see herringnet --help\n";
+    let once = "an option for a text may stand once, and its bytes only beside it";
     let one_of = "-o, --in-place and --suffix exclude each other, and each may stand once";
-    let wrong: [(&[&str], &str); 27] = [
+    let wrong: [(&[&str], &str); 32] = [
         (&[], "a command is missing"),
         (&["frobnicate"], "there is no command frobnicate"),
         (&["two\nlines"], "there is no command two<U+000A>lines"),
@@ -410,6 +459,15 @@ fn words_that_make_no_sense() {
         (&["check", "--hex", "--json", "a.lnk"], "--hex excludes --json"),
         (&["list", "--hex", "a.lnk"], "list has no option --hex"),
         (&["check", "--files-from", "-", "-"], "standard input can be read only once"),
+        (&["set", "a.lnk"], "set needs a text to set"),
+        (&["set", "--environment"], "--environment needs a value"),
+        (&["set", "--darwin", "x", "--darwin", "y", "a.lnk"], once),
+        (&["set", "--darwin", "x", "--environment-bytes", "y", "a.lnk"], once),
+        (
+            &["set", "--icon-environment", "a\u{3A9}", "a.lnk"],
+            "--icon-environment: '\u{3A9}' (U+03A9), character 2 of the text, is not in windows-1252; \
+             --icon-environment-bytes gives the bytes",
+        ),
     ];
     for (words, why) in wrong {
         s.run(words).is(2, "", &format!("herringnet: {}\n{}", why, see));

@@ -114,11 +114,49 @@ impl Comparison {
         let record = independent::read(shortcut).unwrap();
         let fields = record.to_fields();
         self.write(&Writing { fields: &fields, body: shortcut }, &mut random);
+        self.paths(&fields, shortcut, &mut random);
         let long = shortcut.len() > 20_000;
         for _ in 0..if long { 1 } else { random.from_to(1, 3) } {
             let (fields, body) = disturb::disturbed(&fields, shortcut, &mut random);
             self.write(&Writing { fields: &fields, body: &body }, &mut random);
+            if random.chance(20) {
+                let call = disturb::path_call(&fields, &body, 0, &mut random);
+                self.path_block(&call, &mut random);
+            }
         }
+    }
+
+    /// Path blocks put into an accepted shortcut's record: once, and into what was made of it.
+    fn paths(&mut self, fields: &[u64], shortcut: &[u8], random: &mut Random) {
+        let length = (independent::boundary_write(fields, shortcut, &mut self.independent_out) >> 8) as usize;
+        let call = disturb::path_call(fields, shortcut, length, random);
+        let made = match self.path_block(&call, random) {
+            Some(made) => made,
+            None => return,
+        };
+        let fields = independent::read(&made).unwrap().to_fields();
+        let again = disturb::PathCall { fields: fields.to_vec(), body: made.clone(), ..call };
+        if self.path_block(&again, random).as_ref() != Some(&made) {
+            self.differ("path block", "twice is not once", &|| hex(&made));
+        }
+        let next = disturb::path_call(&fields, &made, made.len(), random);
+        self.path_block(&next, random);
+    }
+
+    /// Both sides of a call, and what is written where it is.
+    fn path_block(&mut self, call: &disturb::PathCall, random: &mut Random) -> Option<Vec<u8>> {
+        let disturb::PathCall { fields, body, kind, text, unicode } = call;
+        let mut whole = vec![0; LIMIT];
+        let answer = independent::boundary_path_block(fields, body, *kind, text, unicode, &mut whole);
+        let given = || format!("{:?}\n{:08X} {} {}\n{}", fields, kind, hex(text), hex(unicode), hex(body));
+        for room in rooms_about(answer, random) {
+            self.with_room("path block", room, &given, &|out| {
+                let proved = proved::path_block(fields, body, *kind, text, unicode, &mut *out.0);
+                (proved, independent::boundary_path_block(fields, body, *kind, text, unicode, out.1))
+            });
+        }
+        whole.truncate((answer >> 8) as usize);
+        (answer & 0xFF == 0).then_some(whole)
     }
 
     fn agree(&mut self, call: &str, proved: u64, independent: u64, given: &dyn Fn() -> String) {

@@ -1,5 +1,5 @@
 //! The examples of docs/FORMAT.md, taken from that page and asked of the library.
-use herringnet::fields::FIELDS;
+use herringnet::fields::{BLOCKS_AT, FIELDS};
 use herringnet::record::{Header, Info, InfoUnicode, Label, Local, Record};
 use herringnet::show::text::Hex;
 use herringnet::{boundary, key, listing, target};
@@ -158,6 +158,54 @@ fn a_block_with_a_store() {
         println!("{}", row[0]);
         is_answered(&changed(shortcut.clone(), row[0]), row[1]);
     }
+}
+
+/// A path block by its parts.
+fn path(signature: u64, texts: [&[u8]; 2]) -> Vec<u8> {
+    let mut block = vec![0; 788];
+    block[..4].copy_from_slice(&788_u32.to_le_bytes());
+    block[4..8].copy_from_slice(&(signature as u32).to_le_bytes());
+    for (text, place) in texts.into_iter().zip([8, 268]) {
+        block[place..place + text.len()].copy_from_slice(text);
+    }
+    block
+}
+
+#[test]
+fn a_path_block_put_in() {
+    let text = under("A path block put in");
+    let letters = &blocks(under("Blocks of one kind"))[0];
+    let old = path(0xA000_0001, [b"A\0BB", b"A\0\0\0B"]);
+    let rows = table(text);
+    assert!(rows.len() > 12);
+    for row in rows {
+        println!("{:?}", row);
+        let lengths: Vec<usize> =
+            row[2].split(':').next().unwrap().split(", ").map(|length| number(length) as usize).collect();
+        let (narrow, wide) = (vec![0x42; lengths[0]], vec![0x42; lengths[1]]);
+        let named = |names: &str| -> Vec<u8> {
+            let one = |name: &str| match name {
+                "O" => old.clone(),
+                "N" => path(number(row[1]), [&narrow, &wide]),
+                "none" => Vec::new(),
+                name => bytes(&[letters.iter().find(|line| line.starts_with(name)).unwrap()]),
+            };
+            names.split(' ').flat_map(one).collect()
+        };
+        let (body, mut fields, mut out) = (named(row[0]), [0; FIELDS], vec![0xEE; number(row[3]) as usize]);
+        fields[BLOCKS_AT + 1] = body.len() as u64;
+        let answer = boundary::path_block(&fields, &body, number(row[1]) as u32, &narrow, &wide, &mut out);
+        match row[4].strip_prefix("0, length ") {
+            Some(length) => {
+                let end = answer as usize / 256 - 4;
+                assert_eq!(answer, 256 * number(length));
+                assert_eq!(out[76..end], named(row[5]));
+            }
+            None => assert_eq!((answer, out.iter().all(|&byte| byte == 0xEE)), (number(row[4]), true)),
+        }
+    }
+    let start = bytes(&blocks(text)[0]);
+    assert_eq!(path(0xA000_0001, [b"BBB", b""])[..start.len()], start);
 }
 
 #[test]

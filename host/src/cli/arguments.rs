@@ -5,6 +5,7 @@ use super::options::{choices, Asks, Choice};
 use super::run::{Output, Run};
 use super::{help, manual};
 use herringnet::show::text::Name;
+use herringnet::{PathKind, PathTexts};
 use std::ffi::{OsStr, OsString};
 use std::os::unix::ffi::OsStrExt;
 use std::path::PathBuf;
@@ -84,6 +85,9 @@ struct Given {
     json: bool,
     raw: bool,
     hex: bool,
+    /// Texts for path blocks, and their bytes where these are given.
+    paths: Vec<(PathKind, OsString)>,
+    path_bytes: Vec<(PathKind, OsString)>,
     files_only: bool,
 }
 
@@ -119,6 +123,8 @@ impl Given {
             Asks::Hex => self.hex = true,
             Asks::InPlace => self.outputs.push(Output::InPlace),
             Asks::Suffix => self.outputs.push(Output::Suffix(suffix(value)?)),
+            Asks::Path(kind) => self.paths.push((kind, value)),
+            Asks::PathBytes(kind) => self.path_bytes.push((kind, value)),
             Asks::Output => self.outputs.push(match Input::of(value) {
                 Input::Standard => Output::Standard,
                 Input::File(path) => Output::To(path),
@@ -136,6 +142,7 @@ impl Given {
         if let Some(why) = self.clash(command, several) {
             return Err(why.to_string());
         }
+        let paths = self.paths.iter().map(|(kind, text)| self.texts(*kind, text)).collect::<Result<_, _>>()?;
         Ok(Plan::Run(Run {
             command,
             inputs: self.inputs,
@@ -147,8 +154,31 @@ impl Given {
             raw: self.raw,
             hex: self.hex,
             output: self.outputs.pop().unwrap_or(Output::Standard),
+            paths,
             several,
         }))
+    }
+
+    /// The two texts of a path block.
+    fn texts(&self, kind: PathKind, text: &OsStr) -> Result<(PathKind, PathTexts), String> {
+        let word = path_word(kind);
+        let text = text.to_str().ok_or_else(|| format!("the value of {} is no UTF-8", word))?;
+        let given = self.path_bytes.iter().find(|(other, _)| *other == kind);
+        let texts = match given {
+            Some((_, bytes)) => PathTexts::beside(bytes.as_bytes().to_vec(), text),
+            None => PathTexts::encode(text)
+                .map_err(|misfit| format!("{}: {}; {}-bytes gives the bytes", word, misfit, word))?,
+        };
+        Ok((kind, texts))
+    }
+
+    /// Whether an option for a path block stands twice, or bytes without their text.
+    fn paths_clash(&self) -> bool {
+        let count = |options: &[(PathKind, OsString)], kind| options.iter().filter(|(other, _)| *other == kind).count();
+        PathKind::ALL.iter().any(|&kind| {
+            let (texts, bytes) = (count(&self.paths, kind), count(&self.path_bytes, kind));
+            texts > 1 || bytes > texts
+        })
     }
 
     /// The first thing that does not fit together with the others.
@@ -167,11 +197,10 @@ impl Given {
             (self.raw && several, "--raw takes one input"),
             (self.hex && self.json, "--hex excludes --json"),
             (several && to_one_file, "-o takes one input"),
-            (
-                command == Command::Rewrite && several && !beside,
-                "without --in-place or --suffix there can be one input",
-            ),
+            (command.writes() && several && !beside, "without --in-place or --suffix there can be one input"),
             (beside && standard, "--in-place and --suffix need files"),
+            (command == Command::Set && self.paths.is_empty() && self.path_bytes.is_empty(), "set needs a text to set"),
+            (self.paths_clash(), "an option for a text may stand once, and its bytes only beside it"),
         ];
         wrong.iter().find(|(is_wrong, _)| *is_wrong).map(|(_, why)| *why)
     }
@@ -195,7 +224,9 @@ fn option(
         (Some(_), None) => rest.next(),
     };
     match value {
-        Some(value) if choice.value.is_none() || !value.is_empty() => Ok((choice, value)),
+        Some(value) if choice.value.is_none() || choice.asks.takes_nothing() || !value.is_empty() => {
+            Ok((choice, value))
+        }
         _ => Err(format!("{} needs a value", shown)),
     }
 }
@@ -209,6 +240,12 @@ fn split(word: &[u8]) -> (&[u8], Option<&[u8]>) {
         },
         _ => (&word[..2], Some(&word[2..]).filter(|joined| !joined.is_empty())),
     }
+}
+
+/// The option that sets the text of a path block.
+fn path_word(kind: PathKind) -> &'static str {
+    let is_it = |choice: &&Choice| choice.asks == Asks::Path(kind);
+    choices(Command::Set).find(is_it).map_or("", |choice| choice.words[0])
 }
 
 /// A suffix stays in the file's own folder, and makes another name.

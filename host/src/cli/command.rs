@@ -10,6 +10,7 @@ pub enum Command {
     Show,
     Store,
     Rewrite,
+    Set,
 }
 
 /// What help says of a command, beside its options.
@@ -22,7 +23,7 @@ struct Page {
     text: &'static str,
 }
 
-const PAGES: [Page; 7] = [
+const PAGES: [Page; 8] = [
     Page {
         word: "check",
         line: "say of each shortcut whether it is accepted, or which field is wrong, and why",
@@ -111,12 +112,35 @@ followed to its file; one that leads nowhere is not replaced. If standard output
 written, the files are still done.
 ",
     },
+    Page {
+        word: "set",
+        line: "set texts of a shortcut, and write its canonical form",
+        usage: &["[FILE]", "-o OUTPUT [FILE]", "--in-place FILE..", "--suffix SUFFIX FILE.."],
+        text: "\
+Puts a block with a path into a shortcut, or replaces the one of that kind where it stands, and
+writes the canonical form of what it has become. All other blocks and texts stay as they are. The
+bit of LinkFlags by which Windows looks for such a block is set too: 9 for the environment block,
+12 for the Darwin block, 14 for the icon environment block. The block holds TEXT twice, as bytes of
+windows-1252 and in Unicode; each has at most 259 characters. A TEXT that windows-1252 lacks a
+character of is refused, unless the option that ends in -bytes gives the bytes.
+
+Files are written as rewrite writes them.
+",
+    },
 ];
 
 impl Command {
     /// All of them, each at its number.
-    pub const ALL: [Command; 7] =
-        [Command::Check, Command::List, Command::Target, Command::Key, Command::Show, Command::Store, Command::Rewrite];
+    pub const ALL: [Command; 8] = [
+        Command::Check,
+        Command::List,
+        Command::Target,
+        Command::Key,
+        Command::Show,
+        Command::Store,
+        Command::Rewrite,
+        Command::Set,
+    ];
 
     /// The command with this word.
     pub fn of(word: &str) -> Option<Command> {
@@ -149,7 +173,7 @@ impl Command {
 
     /// Whether it writes files, so that it goes on when nobody reads its lines.
     pub fn writes(self) -> bool {
-        self == Command::Rewrite
+        matches!(self, Command::Rewrite | Command::Set)
     }
 
     /// Whether a refusal is its answer, and not a complaint.

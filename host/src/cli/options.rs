@@ -1,5 +1,6 @@
 //! The options: one table for the command line, for help, for the manual and for completion.
 use super::command::Command;
+use herringnet::PathKind;
 
 /// What an option asks for.
 #[derive(Clone, Copy, PartialEq, Eq)]
@@ -14,7 +15,16 @@ pub enum Asks {
     Output,
     InPlace,
     Suffix,
+    Path(PathKind),
+    PathBytes(PathKind),
     Help,
+}
+
+impl Asks {
+    /// Whether its value may be empty: a text may.
+    pub fn takes_nothing(self) -> bool {
+        matches!(self, Asks::Path(_) | Asks::PathBytes(_))
+    }
 }
 
 /// An option.
@@ -31,10 +41,11 @@ pub struct Choice {
 
 const PRINTING: &[Command] =
     &[Command::Check, Command::List, Command::Target, Command::Key, Command::Show, Command::Store];
-const REWRITE: &[Command] = &[Command::Rewrite];
+const WRITING: &[Command] = &[Command::Rewrite, Command::Set];
+const SET: &[Command] = &[Command::Set];
 
 /// All options, in the order of help.
-pub const CHOICES: [Choice; 11] = [
+pub const CHOICES: [Choice; 17] = [
     Choice {
         asks: Asks::Recursive,
         words: &["-r", "--recursive"],
@@ -101,25 +112,67 @@ pub const CHOICES: [Choice; 11] = [
         asks: Asks::Output,
         words: &["-o", "--output"],
         value: Some("OUTPUT"),
-        commands: REWRITE,
+        commands: WRITING,
         lines: &["write to OUTPUT; an older file there is replaced; - is standard output"],
     },
     Choice {
         asks: Asks::InPlace,
         words: &["--in-place"],
         value: None,
-        commands: REWRITE,
-        lines: &["replace each FILE; one that is canonical already is not touched"],
+        commands: WRITING,
+        lines: &["replace each FILE; one that would stay as it is is not touched"],
     },
     Choice {
         asks: Asks::Suffix,
         words: &["--suffix"],
         value: Some("SUFFIX"),
-        commands: REWRITE,
+        commands: WRITING,
         lines: &[
             "write beside each FILE, with SUFFIX put after its name; a file that is",
             "there already is not replaced, but counts as one that cannot be written",
         ],
+    },
+    Choice {
+        asks: Asks::Path(PathKind::Environment),
+        words: &["--environment"],
+        value: Some("TEXT"),
+        commands: SET,
+        lines: &["put TEXT into the environment block, A0000001"],
+    },
+    Choice {
+        asks: Asks::PathBytes(PathKind::Environment),
+        words: &["--environment-bytes"],
+        value: Some("BYTES"),
+        commands: SET,
+        lines: &["with --environment: the text of bytes, as BYTES stand on the command line"],
+    },
+    Choice {
+        asks: Asks::Path(PathKind::IconEnvironment),
+        words: &["--icon-environment"],
+        value: Some("TEXT"),
+        commands: SET,
+        lines: &["put TEXT into the icon environment block, A0000007"],
+    },
+    Choice {
+        asks: Asks::PathBytes(PathKind::IconEnvironment),
+        words: &["--icon-environment-bytes"],
+        value: Some("BYTES"),
+        commands: SET,
+        lines: &["with --icon-environment: the text of bytes, as BYTES stand on the command line"],
+    },
+    Choice {
+        asks: Asks::Path(PathKind::Darwin),
+        words: &["--darwin"],
+        value: Some("TEXT"),
+        commands: SET,
+        lines: &["put TEXT into the Darwin block, A0000006"],
+    },
+    Choice {
+        asks: Asks::PathBytes(PathKind::Darwin),
+        words: &["--darwin-bytes"],
+        value: Some("BYTES"),
+        commands: SET,
+        lines: &["with --darwin: the text of bytes, as BYTES stand on the command line"],
     },
     Choice { asks: Asks::Help, words: &["-h", "--help"], value: None, commands: &Command::ALL, lines: &["print this"] },
 ];

@@ -5,12 +5,12 @@ use super::console::{Console, Outcome};
 use super::files::{replace, with_suffix, write_new};
 use super::input::{reason, Input};
 use super::walk::Walk;
-use herringnet::Record;
+use herringnet::{PathKind, PathTexts, Record, Refusal};
 use std::ffi::OsString;
 use std::io;
 use std::path::PathBuf;
 
-/// Where `rewrite` puts what it writes.
+/// Where `rewrite` and `set` put what they write.
 pub enum Output {
     Standard,
     To(PathBuf),
@@ -31,6 +31,8 @@ pub struct Run {
     pub raw: bool,
     pub hex: bool,
     pub output: Output,
+    /// The path blocks to put in, in the order of the words.
+    pub paths: Vec<(PathKind, PathTexts)>,
     /// Whether names stand beside the answers: always, if the number of inputs is not known from the words.
     pub several: bool,
 }
@@ -99,7 +101,7 @@ impl Run {
         };
         match Answer::to(self.command, &bytes) {
             Some(answer) => self.answer(input, answer, console),
-            None => self.rewrite(&Read { input, bytes: &bytes }, console),
+            None => self.written(&Read { input, bytes: &bytes }, console),
         }
     }
 
@@ -143,7 +145,7 @@ impl Run {
         console.record(match self.command {
             Command::Key if alone => text.to_vec(),
             Command::Key => [text, b" ", &name].concat(),
-            Command::Check | Command::Rewrite => [&name, &b": "[..], text].concat(),
+            Command::Check | Command::Rewrite | Command::Set => [&name, &b": "[..], text].concat(),
             Command::Target if self.several => [&name, &b": "[..], one_colon(text).as_bytes()].concat(),
             Command::List | Command::Show | Command::Store if self.several => {
                 // An empty line stands between two inputs, unless zero bytes part them.
@@ -154,15 +156,27 @@ impl Run {
         });
     }
 
-    fn rewrite(&self, read: &Read, console: &mut Console) {
-        let bytes = match Record::read(read.bytes).and_then(|record| record.to_vec()) {
+    /// The canonical form of the shortcut, with all that is to be set.
+    fn form(&self, shortcut: &[u8]) -> Result<Vec<u8>, Refusal> {
+        let mut form = Record::read(shortcut)?.to_vec()?;
+        for (kind, texts) in &self.paths {
+            let mut record = Record::read(&form)?;
+            record.header.flags |= kind.flag();
+            form = record.with_path_block(*kind, texts)?;
+        }
+        Ok(form)
+    }
+
+    fn written(&self, read: &Read, console: &mut Console) {
+        let bytes = match self.form(read.bytes) {
             Ok(bytes) => bytes,
             Err(refusal) => return console.complain(Outcome::Refused, format!("{}: {}", read.input, refusal)),
         };
         let (path, written) = match (&self.output, read.input) {
             (Output::To(path), _) => (path.clone(), replace(path, &bytes)),
             (Output::InPlace, Input::File(_)) if read.bytes == bytes => {
-                return self.print(read.input, &format!("{} bytes, canonical already", bytes.len()), console);
+                let why = if self.command == Command::Set { "as it was" } else { "canonical already" };
+                return self.print(read.input, &format!("{} bytes, {}", bytes.len(), why), console);
             }
             (Output::InPlace, Input::File(path)) => (path.clone(), replace(path, &bytes)),
             (Output::Suffix(suffix), Input::File(path)) => {

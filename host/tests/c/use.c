@@ -91,6 +91,24 @@ static void records(const uint8_t *s, size_t n)
     answer("write no fields", herringnet_write(NULL, 0, s, n, out, sizeof out));
 }
 
+static void paths(const uint8_t *s, size_t n)
+{
+    static const uint8_t text[260] = "%TOOLS%", unicode[6] = { '%', 0, 'T', 0, '%', 0 };
+    const size_t count = HERRINGNET_FIELD_COUNT;
+    uint64_t fields[HERRINGNET_FIELD_COUNT];
+    static uint8_t out[HERRINGNET_LONGEST];
+    herringnet_read(s, n, fields, count);
+    answer("path block in 1246", herringnet_path_block(fields, count, s, n, HERRINGNET_DARWIN, text, 7, unicode, 6, out, 1246));
+    answer("path block", herringnet_path_block(fields, count, s, n, HERRINGNET_DARWIN, text, 7, unicode, 6, out, sizeof out));
+    bytes(out + n - 4, 20);
+    answer("path block without texts", herringnet_path_block(fields, count, s, n, HERRINGNET_ENVIRONMENT, NULL, 0, NULL, 0, out, sizeof out));
+    answer("path block with zeros", herringnet_path_block(fields, count, s, n, HERRINGNET_ENVIRONMENT, text, 8, unicode, 6, out, sizeof out));
+    answer("path block of half a unit", herringnet_path_block(fields, count, s, n, HERRINGNET_ICON_ENVIRONMENT, text, 7, unicode, 5, out, sizeof out));
+    answer("path block of another kind", herringnet_path_block(fields, count, s, n, 0xA0000005, text, 7, unicode, 6, out, sizeof out));
+    answer("path block from less", herringnet_path_block(fields, count, s, n - 5, 0xA0000005, text, 7, unicode, 6, out, sizeof out));
+    answer("path block without fields", herringnet_path_block(NULL, 0, s, n, HERRINGNET_DARWIN, text, 7, unicode, 6, out, sizeof out));
+}
+
 static void numbers(const uint64_t *row, size_t n)
 {
     for (size_t i = 0; i < n; i++)
@@ -142,6 +160,7 @@ int main(void)
     targets(s, n);
     keys(s, n);
     records(s, n);
+    paths(s, n);
     stores(s, n);
     names();
     return 0;

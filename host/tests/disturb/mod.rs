@@ -1,7 +1,9 @@
 //! Records disturbed after reading, so that the writer meets what no reader makes.
 
+mod paths;
 mod rows;
 
+pub use paths::{path_call, PathCall};
 pub use rows::disturbed_rows;
 
 use crate::independent::{FIELDS, LIMIT};

@@ -1,6 +1,6 @@
 //! The calls as the C boundary gives them: number + 256 x value.
 
-use super::{check, key, section, store_list, store_write, target, walk, write, Record, Refusal, FIELDS};
+use super::{check, key, path_block, section, store_list, store_write, target, walk, write, Record, Refusal, FIELDS};
 
 pub const WRONG_COUNT: u64 = 201;
 pub const NO_RECORD: u64 = 202;
@@ -71,5 +71,15 @@ pub fn boundary_store_write(rows: &[u64], body: &[u8], out: &mut [u8]) -> u64 {
     match rows.len() % 6 {
         0 => answer(store_write(rows, body, out)),
         _ => WRONG_COUNT,
+    }
+}
+
+pub fn boundary_path_block(fields: &[u64], body: &[u8], kind: u32, text: &[u8], unicode: &[u8], out: &mut [u8]) -> u64 {
+    if fields.len() != FIELDS {
+        return WRONG_COUNT;
+    }
+    match Record::from_fields(fields) {
+        Some(record) => answer(path_block(&record, body, kind, text, unicode, out)),
+        None => NO_RECORD,
     }
 }

@@ -6,6 +6,7 @@
 mod boundary;
 mod info;
 mod key;
+mod path;
 mod record;
 mod store;
 mod texts;
@@ -16,6 +17,7 @@ mod wrong;
 #[allow(unused_imports)]
 pub use boundary::*;
 pub use key::key;
+pub use path::path_block;
 pub use record::*;
 #[allow(unused_imports)]
 pub use store::{store, store_list, store_write, Entry};
