@@ -74,7 +74,7 @@ const CALLS: [Call; 7] = [
     },
     // A shortcut of nearly 64 KiB has no space for one more block, unless it replaces one.
     Call {
-        name: "path block",
+        name: "path_block",
         proved: |case| proved::path_block(&case.record, &case.shortcut, ENVIRONMENT, TEXT, UNICODE, &mut case.out),
         independent: |case| {
             independent::boundary_path_block(&case.record, &case.shortcut, ENVIRONMENT, TEXT, UNICODE, &mut case.out)
@@ -97,7 +97,7 @@ impl Case {
 
     /// A refused shortcut has no record to write.
     fn can(&self, call: &Call) -> bool {
-        !["write", "path block"].contains(&call.name) || independent::check(&self.shortcut).is_ok()
+        !["write", "path_block"].contains(&call.name) || independent::check(&self.shortcut).is_ok()
     }
 }
 

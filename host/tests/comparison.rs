@@ -114,7 +114,10 @@ impl Comparison {
         let record = independent::read(shortcut).unwrap();
         let fields = record.to_fields();
         self.write(&Writing { fields: &fields, body: shortcut }, &mut random);
-        self.paths(&fields, shortcut, &mut random);
+        // One in four is enough: such a call writes 788 bytes and more, into several rooms, on both sides.
+        if number % 4 == 0 {
+            self.paths(&fields, shortcut, &mut random);
+        }
         let long = shortcut.len() > 20_000;
         for _ in 0..if long { 1 } else { random.from_to(1, 3) } {
             let (fields, body) = disturb::disturbed(&fields, shortcut, &mut random);

@@ -49,8 +49,11 @@ pub fn of(command: Command) -> String {
     let usage: Vec<String> = usage.collect();
     let options: String = choices(command)
         .map(|choice| {
-            let lines = choice.lines.join(&format!("\n{:24}", ""));
-            format!("  {:<22}{}\n", choice.heading(), lines)
+            let next = format!("\n{:24}", "");
+            let heading = choice.heading();
+            // One that would run into its text has a line of its own.
+            let gap = if heading.len() > 20 { next.clone() } else { " ".repeat(22 - heading.len()) };
+            format!("  {}{}{}\n", heading, gap, choice.lines.join(&next))
         })
         .collect();
     format!("usage: {}\n{}\n{}", usage.join("       "), command.text(), options)
