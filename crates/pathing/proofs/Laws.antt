@@ -1,17 +1,18 @@
 -- One law for each way out of the call, and what is known on the way there.
 use mathlib.Core.Path.{_≡_, refl, sym, ap, _∙_}
-use mathlib.Core.List.{List, [], _++_}
-use mathlib.Core.Bool.{Bool, true, false, not, _&&_, cond}
+use mathlib.Core.List.{List, _++_}
+use mathlib.Core.Bool.{Bool, true, false, _&&_, cond}
 use Prim.Native.Nat.{ℕ, _+_, _-_, _≤_, _<_}
 use native.Mathlib.Omega.{arith}
 use lib.ListN.{length, length-append}
 use lib.Dec.{leb}
-use borrow.Author.Tests.{le-leb, lt-leb, not-true, not-false}
+use borrow.Author.Tests.{le-leb, lt-leb}
 use Rattle.octets.specs.Numbers.{Bytes, little}
 use Rattle.octets.specs.Parts.{put}
 use Rattle.octets.specs.Steps.Puts.{part}
 use Rattle.octets.proofs.NumberLaws.{length-little}
 use Rattle.format.specs.declared.Record.{Record}
+use Rattle.format.specs.declared.Fault.{Fault}
 use Rattle.format.specs.declared.Fault.the-variants.{Place as PLACE, Unwritable as UNWRITABLE, Room as ROOM}
 use Rattle.format.specs.declared.Verdict.{Verdict}
 use Rattle.format.specs.declared.Verdict.the-variants.{Accepted, Refused}
@@ -24,17 +25,15 @@ use Rattle.format.specs.Writing.{endToEnd, blocksBytes, canonical, writable, ou
 use Rattle.format.specs.PathWriting.{isPath, pathText, pathBlock, blocksIn, withBlock, withPath, pathWriting, pathAnswer, pathOutput, PathEnds}
 use Rattle.format.proofs.Ranges.{FitsRecord}
 use Rattle.format.proofs.Bools.{and-true}
-use Rattle.format.proofs.BodyLaws.{body-length, body-part}
+use Rattle.format.proofs.BodyLaws.{body-part}
 use Rattle.format.proofs.PlaceLaws.{slot-inside}
 use Rattle.format.proofs.AnswerLaws.{nowhere, numbered}
 use Rattle.format.proofs.PathLaws.{Path, path-text, new-length, new-signature}
 use Rattle.format.proofs.PathDemands.{front, before-blocks, after-blocks, body-writable, length-decides, path-ends}
-use Rattle.sizes.specs.Steps.Sizes.{clippedLength}
-use Rattle.writable.proofs.WholeLaws.{short-length, writable-few}
-use Rattle.canonical.specs.Steps.Puts.{RoomFor}
-use Rattle.pathing.specs.Steps.Places.{blockPlace, pathFits}
+use Rattle.writer.proofs.Laws.{Leaves, leaving-ends}
+use Rattle.pathing.specs.Steps.Places.{blockPlace, pathFits, Found}
 use Rattle.pathing.proofs.PutLaws.{length-over, over-part}
-use Rattle.pathing.proofs.WalkLaws.{place-in, put-in}
+use Rattle.pathing.proofs.WalkLaws.{put-in}
 
 -- three tests, of which one fails
 one-fails : {A : Type 0} (a b c : Bool) (x y : A) → (a && b && c) ≡ false → cond a (cond b (cond c x y) y) y ≡ y
@@ -49,21 +48,9 @@ module _ (r : Record) (d : List ℕ) where
   abbrev body : List ℕ
   body = bodyIn (contents d r) blocksSlot
 
-  module _ (inside : placed (length d) r ≡ true) where
-    body-inside : placeIn r blocksSlot .at + placeIn r blocksSlot .len ≤ length d
-    unfolding placed
-    body-inside = slot-inside (length d) (zeroed (tableOf r) (r .places)) blocksSlot inside
-
-    pub body-shown : {x : List ℕ} → x ≡ part d (placeIn r blocksSlot .at) (placeIn r blocksSlot .len) → x ≡ body
-    unfolding contents present
-    body-shown e = e ∙ body-part d (placeIn r blocksSlot) body-inside
-
-    pub body-long : length body ≡ placeIn r blocksSlot .len
-    unfolding contents present
-    body-long = body-length d (placeIn r blocksSlot) body-inside
-
-    pub place-first : writable (contents d r) ≡ true → (g : ℕ) {at : ℕ} → at ≡ blockPlace g body → at ≤ placeIn r blocksSlot .len
-    place-first can g e = omega (arith, e, body-long, place-in body [] (body-writable r d can) g)
+  body-shown : placed (length d) r ≡ true → {x : List ℕ} → x ≡ part d (placeIn r blocksSlot .at) (placeIn r blocksSlot .len) → x ≡ body
+  unfolding placed contents present
+  body-shown inside e = e ∙ body-part d (placeIn r blocksSlot) (slot-inside (length d) (zeroed (tableOf r) (r .places)) blocksSlot inside)
 
 -- ---- the call
 
@@ -77,9 +64,12 @@ module _ (r : Record) (d : List ℕ) (signature : ℕ) (text unicode out : List 
   abbrev new : Contents
   new = withPath block old
 
+  -- an answer and the buffer afterwards, as the definition has them
+  abbrev Told : Verdict → List ℕ → Type 0
+  Told v x = (v ≡ pathAnswer r d signature text unicode out) × (x ≡ pathOutput r d signature text unicode out)
+
   -- an outcome of the definitions is an end of the demand, since the types give that the numbers fit and that bytes are bytes
-  pub ended : FitsRecord r × (Bytes d × (Bytes text × Bytes unicode)) → {v : Verdict} {x : List ℕ}
-      → (v ≡ pathAnswer r d signature text unicode out) × (x ≡ pathOutput r d signature text unicode out)
+  pub ended : FitsRecord r × (Bytes d × (Bytes text × Bytes unicode)) → {v : Verdict} {x : List ℕ} → Told v x
       → (v ≡ pathAnswer r d signature text unicode out)
       × ((x ≡ pathOutput r d signature text unicode out)
       × (Numbered v (pathWriting r d signature text unicode (length out)) × PathEnds r d signature text unicode out v x))
@@ -87,150 +77,162 @@ module _ (r : Record) (d : List ℕ) (signature : ℕ) (text unicode out : List 
   ended (fits, (bytes, (narrow, wide))) (p, q) =
       (p, (q, (numbered (pathWriting r d signature text unicode (length out)) p, rw (p, q) (path-ends r d signature text unicode fits bytes narrow wide out))))
 
-  -- once the texts and the record have passed: `end` is where the record's form ends, n the length of its blocks, `at` the block's place in them
-  pub record Ways (end n at total : ℕ) : Type 0 where
-    pub fits : end ≤ length out → RoomFor d out r
-    pub long : most < total → (Refused UNWRITABLE 0 ≡ pathAnswer r d signature text unicode out) × (out ≡ pathOutput r d signature text unicode out)
-    pub room : total ≤ most → length out < total → (Refused ROOM 0 ≡ pathAnswer r d signature text unicode out) × (out ≡ pathOutput r d signature text unicode out)
-    pub written : total ≤ most → total ≤ length out → {b x : List ℕ} → b ≡ block → x ≡ put (put (put out 0 (canonical old)) (end - 4 - n + at) b) (total - 4) (little 4 0)
-        → (Accepted total ≡ pathAnswer r d signature text unicode out) × (x ≡ pathOutput r d signature text unicode out)
+  path-outside : placed (length d) r ≡ false → Told (Refused PLACE 0) out
+  unfolding pathWriting pathAnswer pathOutput outputOf
+  path-outside t =
+      let z : pathWriting r d signature text unicode (length out) ≡ refused PLACE nowhere = rw t in
+      (rw z, rw z)
 
-  module _ {p : Bool} (i : p ≡ placed (length d) r) where
-    pub path-outside : not p ≡ true → (Refused PLACE 0 ≡ pathAnswer r d signature text unicode out) × (out ≡ pathOutput r d signature text unicode out)
-    unfolding pathWriting pathAnswer pathOutput outputOf
-    path-outside t =
-        let z : pathWriting r d signature text unicode (length out) ≡ refused PLACE nowhere = rw (sym i ∙ not-true p t) in
+  module _ (inside : placed (length d) r ≡ true) where
+    path-unfit : pathFits signature text unicode ≡ false → Told (Refused UNWRITABLE 0) out
+    unfolding pathWriting pathAnswer pathOutput outputOf pathFits
+    path-unfit t =
+        let z : pathWriting r d signature text unicode (length out) ≡ refused UNWRITABLE nowhere
+        = rw inside (one-fails (isPath signature) (pathText false text) (pathText true unicode) _ _ t) in
         (rw z, rw z)
 
-    module _ (inside : not p ≡ false) where
-      pub all-placed : placed (length d) r ≡ true
-      all-placed = sym i ∙ not-false p inside
+    module _ (fit : pathFits signature text unicode ≡ true) where
+      signed : isPath signature ≡ true
+      unfolding pathFits
+      signed = (and-true (isPath signature) (pathText false text) ((and-true (isPath signature && pathText false text) (pathText true unicode) fit) .0)) .0
 
-      module _ {k : Bool} (j : k ≡ pathFits signature text unicode) where
-        pub path-unfit : not k ≡ true → (Refused UNWRITABLE 0 ≡ pathAnswer r d signature text unicode out) × (out ≡ pathOutput r d signature text unicode out)
-        unfolding pathWriting pathAnswer pathOutput outputOf pathFits
-        path-unfit t =
+      narrowed : pathText false text ≡ true
+      unfolding pathFits
+      narrowed = (and-true (isPath signature) (pathText false text) ((and-true (isPath signature && pathText false text) (pathText true unicode) fit) .0)) .1
+
+      widened : pathText true unicode ≡ true
+      unfolding pathFits
+      widened = (and-true (isPath signature && pathText false text) (pathText true unicode) fit) .1
+
+      path-unwritable : writable old ≡ false → Told (Refused UNWRITABLE 0) out
+      unfolding pathWriting pathAnswer pathOutput outputOf
+      path-unwritable t =
+          let z : pathWriting r d signature text unicode (length out) ≡ refused UNWRITABLE nowhere
+          = rw (inside, signed, narrowed, widened, t) in
+          (rw z, rw z)
+
+      -- the texts and the record have passed: x are the record's blocks, and the block's place in them is `at`
+      module _ (can : writable old ≡ true) (bytes : Bytes text × Bytes unicode) {x : List ℕ} (shown : x ≡ body r d) {at : ℕ} (found : Found signature x at) where
+        path : Path signature text unicode
+        path = record { sign = signed; bytes = bytes; narrow = narrowed; wide = widened }
+
+        front-is : length (front r d) + (length x + 4) ≡ length (canonical old)
+        front-is = omega (arith, ap length shown, ap length (before-blocks r d), length-append (front r d) (blocksBytes (body r d)), length-append (body r d) (little 4 0), length-little 4 0)
+
+        in-body : at ≤ length (body r d)
+        in-body = omega (arith, found .inside, ap length shown)
+
+        changed : endToEnd (withBlock block (blocksIn (body r d))) ≡ put (body r d) at block
+        changed =
+            let whole = body-writable r d can in
+            let place : at ≡ blockPlace signature (body r d) = rw shown at (found .place) whole in
+            put-in (body r d) block whole (new-signature path) signed (new-length path) ∙ rw (← place)
+
+        written : canonical new ≡ front r d ++ blocksBytes (put (body r d) at block)
+        written = after-blocks r d block ∙ ap (λ (y : List ℕ). front r d ++ blocksBytes y) changed
+
+        body-after : length (put (body r d) at block) ≡ length x + (at + 788 - length x)
+        body-after = omega (arith, rw (new-length path) at (length-over (body r d) block at in-body), ap length shown)
+
+        total-is : length (canonical old) + (at + 788 - length x) ≡ length (canonical new)
+        total-is =
+            omega (
+              arith,
+              front-is,
+              body-after,
+              ap length written,
+              length-append (front r d) (blocksBytes (put (body r d) at block)),
+              length-append (put (body r d) at block) (little 4 0),
+              length-little 4 0,
+            )
+
+        decides : writable new ≡ leb (length (canonical new)) most
+        decides = length-decides r d path can
+
+        path-long : most < length (canonical old) + (at + 788 - length x) → Told (Refused UNWRITABLE 0) out
+        unfolding pathWriting pathAnswer pathOutput outputOf
+        path-long h =
+            let no : writable new ≡ false = decides ∙ lt-leb (length (canonical new)) most (omega (arith, total-is)) in
             let z : pathWriting r d signature text unicode (length out) ≡ refused UNWRITABLE nowhere
-            = rw all-placed (one-fails (isPath signature) (pathText false text) (pathText true unicode) _ _ (sym j ∙ not-true k t)) in
+            = rw (inside, signed, narrowed, widened, can, no) in
             (rw z, rw z)
 
-        module _ (fit : not k ≡ false) where
-          all-fits : pathFits signature text unicode ≡ true
-          all-fits = sym j ∙ not-false k fit
+        module _ (short : length (canonical old) + (at + 788 - length x) ≤ most) where
+          could : writable new ≡ true
+          could = decides ∙ le-leb (length (canonical new)) most (omega (arith, total-is))
 
-          signed : isPath signature ≡ true
-          unfolding pathFits
-          signed = (and-true (isPath signature) (pathText false text) ((and-true (isPath signature && pathText false text) (pathText true unicode) all-fits) .0)) .0
+          path-room : length out < length (canonical old) + (at + 788 - length x) → Told (Refused ROOM 0) out
+          unfolding pathWriting pathAnswer pathOutput outputOf
+          path-room h =
+              let no : leb (length (canonical new)) (length out) ≡ false = lt-leb (length (canonical new)) (length out) (omega (arith, total-is)) in
+              let z : pathWriting r d signature text unicode (length out) ≡ refused ROOM nowhere
+              = rw (inside, signed, narrowed, widened, can, could, no) in
+              (rw z, rw z)
 
-          narrowed : pathText false text ≡ true
-          unfolding pathFits
-          narrowed = (and-true (isPath signature) (pathText false text) ((and-true (isPath signature && pathText false text) (pathText true unicode) all-fits) .0)) .1
+          path-put : length (canonical old) + (at + 788 - length x) ≤ length out → {n more : ℕ} → n ≡ length (canonical old) + more → more ≡ at + 788 - length x
+              → {b y z : List ℕ} → y ≡ put out 0 (canonical old) → b ≡ block → z ≡ put (put y (n - more - 4 - length x + at) b) (n - 4) (little 4 0) → Told (Accepted n) z
+          unfolding pathWriting pathAnswer pathOutput outputOf
+          path-put h {n} {more} sum m e f g =
+              let yes : leb (length (canonical new)) (length out) ≡ true = le-leb (length (canonical new)) (length out) (omega (arith, total-is)) in
+              let z : pathWriting r d signature text unicode (length out) ≡ got (canonical new) (length (canonical new))
+              = rw (inside, signed, narrowed, widened, can, could, yes) in
+              let k : n ≡ length (canonical new) = omega (arith, sum, m, total-is) in
+              let p : n - more - 4 - length x + at ≡ length (front r d) + at = omega (arith, sum, front-is) in
+              let q : n - 4 ≡ length (front r d) + length (put (body r d) at block) = omega (arith, sum, m, front-is, body-after) in
+              (rw z (ap Accepted k), rw z (g ∙ rw (e, f, p, q, before-blocks r d, written) (over-part out (front r d) (body r d) (little 4 0) block at in-body)))
 
-          widened : pathText true unicode ≡ true
-          unfolding pathFits
-          widened = (and-true (isPath signature && pathText false text) (pathText true unicode) all-fits) .1
+  -- ---- the ways out
 
-          -- what the block asks of its texts
-          pub texts-short : (length text ≤ 260) × (length unicode ≤ 520)
-          texts-short = (omega (arith, path-text false text narrowed .short), omega (arith, path-text true unicode widened .short))
+  -- what an accepted call knows: where the parts stand
+  pub record Stand (n more : ℕ) (x : List ℕ) (at : ℕ) : Type 0 where
+    pub texts : (length text ≤ 260) × (length unicode ≤ 520)
+    pub before : more + (length x + 4) ≤ n
+    pub room : n ≤ length out
+    pub place : n - more - 4 - length x + at + 788 ≤ length out
 
-          module _ {b : Bool} (m : b ≡ writable old) where
-            pub path-unwritable : not b ≡ true → (Refused UNWRITABLE 0 ≡ pathAnswer r d signature text unicode out) × (out ≡ pathOutput r d signature text unicode out)
-            unfolding pathWriting pathAnswer pathOutput outputOf
-            path-unwritable t =
-                let z : pathWriting r d signature text unicode (length out) ≡ refused UNWRITABLE nowhere
-                = rw (all-placed, signed, narrowed, widened, sym m ∙ not-true b t) in
-                (rw z, rw z)
+  module _ (bytes : Bytes text × Bytes unicode) {x : List ℕ} (e : x ≡ part d (placeIn r blocksSlot .at) (placeIn r blocksSlot .len)) {at : ℕ} (found : Found signature x at)
+      {k : Bool} (j : k ≡ pathFits signature text unicode) {more : ℕ} (m : more ≡ cond k (at + 788 - length x) 65537) where
+    -- what does not fit adds more than the most
+    by-fit {ℓ} : (X : Type ℓ) → (pathFits signature text unicode ≡ true → more ≡ at + 788 - length x → X) → (pathFits signature text unicode ≡ false → most < more → X) → X
+    by-fit X f g = go k j m
+      where
+        go : (t : Bool) → t ≡ pathFits signature text unicode → more ≡ cond t (at + 788 - length x) 65537 → X
+        go true a b = f (sym a) b
+        go false a b = g (sym a) (omega arith)
 
-            pub is-writable : not b ≡ false → writable old ≡ true
-            is-writable can = sym m ∙ not-false b can
+    pub path-refused : {v : Verdict} {y : List ℕ} → Leaves r d more out v y → {f : Fault} {p : ℕ} → v ≡ Refused f p → Told v y
+    path-refused l q =
+        leaving-ends r d more out (λ v y. (f : Fault) (p : ℕ) → v ≡ Refused f p → Told v y)
+        (λ i f p z. path-outside i)
+        (λ i n f p z. by-fit _ (λ t a. path-unwritable i t n) (λ t a. path-unfit i t))
+        (λ i c h f p z. by-fit _ (λ t a. path-long i t c bytes (body-shown r d i e) found (rw a at h)) (λ t a. path-unfit i t))
+        (λ i c s h f p z. by-fit _ (λ t a. path-room i t c bytes (body-shown r d i e) found (rw a at s) (rw a at h)) (λ t a. absurd (omega arith)))
+        (λ i c s h f p z. absurd (let o : _≡_ {A = ℕ} 0 1 = cc in omega arith))
+        l _ _ q
 
-            module _ (can : not b ≡ false) {end : ℕ} (count : end ≡ clippedLength r) {n at : ℕ} (long : n ≡ placeIn r blocksSlot .len) (place : at ≡ blockPlace signature (body r d)) where
-              few : end ≤ most
-              few = writable-few d r all-placed count (is-writable can)
-
-              end-is : end ≡ length (canonical old)
-              end-is = short-length d r all-placed count few
-
-              body-is : length (body r d) ≡ n
-              body-is = body-long r d all-placed ∙ sym long
-
-              front-is : length (front r d) + (n + 4) ≡ end
-              front-is = omega (arith, end-is, body-is, ap length (before-blocks r d), length-append (front r d) (blocksBytes (body r d)), length-append (body r d) (little 4 0), length-little 4 0)
-
-              -- where the parts stand
-              pub parts-stand : (n + 4 ≤ end) × ((end ≤ most) × (at ≤ n))
-              parts-stand = (omega (arith, front-is), (few, omega (arith, long, place-first r d all-placed (is-writable can) signature place)))
-
-              old-fits : end ≤ length out → RoomFor d out r
-              old-fits h = record { inside = all-placed; few = omega (arith, few, end-is); room = omega (arith, end-is) }
-
-              module _ (bytes : Bytes text × Bytes unicode) {total : ℕ} (sum : total ≡ end + (at + 788 - n)) where
-                path : Path signature text unicode
-                path = record { sign = signed; bytes = bytes; narrow = narrowed; wide = widened }
-
-                in-body : at ≤ length (body r d)
-                in-body = omega (arith, body-is, parts-stand .1 .1)
-
-                changed : endToEnd (withBlock block (blocksIn (body r d))) ≡ put (body r d) at block
-                changed = put-in (body r d) block (body-writable r d (is-writable can)) (new-signature path) signed (new-length path) ∙ rw (← place)
-
-                written : canonical new ≡ front r d ++ blocksBytes (put (body r d) at block)
-                written = after-blocks r d block ∙ ap (λ (x : List ℕ). front r d ++ blocksBytes x) changed
-
-                body-after : length (put (body r d) at block) ≡ n + (at + 788 - n)
-                body-after = rw (new-length path, body-is) at (length-over (body r d) block at in-body)
-
-                total-is : total ≡ length (canonical new)
-                total-is =
-                    omega (
-                      arith,
-                      sum,
-                      front-is,
-                      body-after,
-                      ap length written,
-                      length-append (front r d) (blocksBytes (put (body r d) at block)),
-                      length-append (put (body r d) at block) (little 4 0),
-                      length-little 4 0,
-                    )
-
-                decides : writable new ≡ leb (length (canonical new)) most
-                decides = length-decides r d path (is-writable can)
-
-                path-long : most < total → (Refused UNWRITABLE 0 ≡ pathAnswer r d signature text unicode out) × (out ≡ pathOutput r d signature text unicode out)
-                unfolding pathWriting pathAnswer pathOutput outputOf
-                path-long h =
-                    let no : writable new ≡ false = decides ∙ lt-leb (length (canonical new)) most (omega (arith, total-is)) in
-                    let z : pathWriting r d signature text unicode (length out) ≡ refused UNWRITABLE nowhere
-                    = rw (all-placed, signed, narrowed, widened, is-writable can, no) in
-                    (rw z, rw z)
-
-                module _ (short : total ≤ most) where
-                  could : writable new ≡ true
-                  could = decides ∙ le-leb (length (canonical new)) most (omega (arith, total-is))
-
-                  path-room : length out < total → (Refused ROOM 0 ≡ pathAnswer r d signature text unicode out) × (out ≡ pathOutput r d signature text unicode out)
-                  unfolding pathWriting pathAnswer pathOutput outputOf
-                  path-room h =
-                      let no : leb (length (canonical new)) (length out) ≡ false = lt-leb (length (canonical new)) (length out) (omega (arith, total-is)) in
-                      let z : pathWriting r d signature text unicode (length out) ≡ refused ROOM nowhere
-                      = rw (all-placed, signed, narrowed, widened, is-writable can, could, no) in
-                      (rw z, rw z)
-
-                  all-put : {b x : List ℕ} → b ≡ block → x ≡ put (put (put out 0 (canonical old)) (end - 4 - n + at) b) (total - 4) (little 4 0) → x ≡ put out 0 (canonical new)
-                  all-put f e =
-                      let p : end - 4 - n + at ≡ length (front r d) + at = omega (arith, front-is) in
-                      let q : total - 4 ≡ length (front r d) + length (put (body r d) at block) = omega (arith, sum, front-is, body-after) in
-                      e ∙ rw (f, p, q, before-blocks r d, written) (over-part out (front r d) (body r d) (little 4 0) block at in-body)
-
-                  path-written : total ≤ length out → {b x : List ℕ} → b ≡ block → x ≡ put (put (put out 0 (canonical old)) (end - 4 - n + at) b) (total - 4) (little 4 0)
-                      → (Accepted total ≡ pathAnswer r d signature text unicode out) × (x ≡ pathOutput r d signature text unicode out)
-                  unfolding pathWriting pathAnswer pathOutput outputOf
-                  path-written h f e =
-                      let yes : leb (length (canonical new)) (length out) ≡ true = le-leb (length (canonical new)) (length out) (omega (arith, total-is)) in
-                      let z : pathWriting r d signature text unicode (length out) ≡ got (canonical new) (length (canonical new))
-                      = rw (all-placed, signed, narrowed, widened, is-writable can, could, yes) in
-                      (rw z (ap Accepted total-is), rw z (all-put f e))
-
-                pub ways : Ways end n at total
-                ways = record { fits = old-fits; long = path-long; room = path-room; written = path-written }
+    pub path-left : {v : Verdict} {y : List ℕ} → Leaves r d more out v y → {n : ℕ} → v ≡ Accepted n
+        → Stand n more x at
+        × ((b z : List ℕ) → b ≡ block → z ≡ put (put y (n - more - 4 - length x + at) b) (n - 4) (little 4 0) → Told (Accepted n) z)
+    path-left l q =
+        leaving-ends r d more out
+        (λ v y. (n : ℕ) → v ≡ Accepted n → Stand n more x at × ((b z : List ℕ) → b ≡ block → z ≡ put (put y (n - more - 4 - length x + at) b) (n - 4) (little 4 0) → Told (Accepted n) z))
+        (λ i n z. absurd (let o : _≡_ {A = ℕ} 0 1 = cc in omega arith))
+        (λ i c n z. absurd (let o : _≡_ {A = ℕ} 0 1 = cc in omega arith))
+        (λ i c h n z. absurd (let o : _≡_ {A = ℕ} 0 1 = cc in omega arith))
+        (λ i c s h n z. absurd (let o : _≡_ {A = ℕ} 0 1 = cc in omega arith))
+        (λ i c s h n z.
+        let sum : n ≡ length (canonical old) + more = cc in
+        by-fit _
+        (λ t a.
+        let shown = body-shown r d i e in
+        let stand = front-is i t c bytes shown found in (
+          record {
+            texts = (omega (arith, path-text false text (narrowed i t) .short), omega (arith, path-text true unicode (widened i t) .short));
+            before = omega arith;
+            room = omega arith;
+            place = omega (arith, found .inside);
+          },
+          λ b y f g. path-put i t c bytes shown found (rw a at s) (rw a at h) sum a refl f g,
+        ))
+        (λ t a. absurd (omega arith)))
+        l _ q

@@ -15,8 +15,9 @@ use Rattle.octets.proofs.NumberLaws.{number-drop, number-same}
 use Rattle.format.specs.Blocks.{slotAt}
 use Rattle.format.specs.Writing.{endToEnd, writableBlocks}
 use Rattle.format.specs.PathWriting.{isPath, blocksIn, signatureOf, withBlock}
+use Rattle.format.proofs.Bools.{by-order}
 use Rattle.format.proofs.PathLaws.{Wholes, body-parted, path-slot}
-use Rattle.pathing.specs.Steps.Places.{placeAmong, blockPlace}
+use Rattle.pathing.specs.Steps.Places.{placeAmong, blockPlace, Found}
 
 -- ---- the walk
 
@@ -37,20 +38,20 @@ pub record Stands (x : List ℕ) (g p : ℕ) : Type 0 where
   pub later : (u32At x (p + 4) ≡ g → ⊥) → Walks x g (p + u32At x p)
 
 module _ (x : List ℕ) (g : ℕ) where
-  pub walk-start : writableBlocks x ≡ true → Walks x g 0
+  walk-start : writableBlocks x ≡ true → Walks x g 0
   unfolding blockPlace
   walk-start e =
       let r = body-parted x e in
       record { before = []; rest = blocksIn x; whole = r .wholes; joined = sym (r .joined); inside = omega arith; place = omega arith }
 
-  pub walk-end : (p : ℕ) → Walks x g p → length x ≤ p → p ≡ blockPlace g x
+  walk-end : (p : ℕ) → Walks x g p → length x ≤ p → p ≡ blockPlace g x
   walk-end p w h = go (w .rest) (w .whole) (w .joined) (w .place)
     where
       go : (rest : List (List ℕ)) → Wholes (w .before) rest → drop p x ≡ endToEnd rest → p + placeAmong g rest ≡ blockPlace g x → p ≡ blockPlace g x
       go [] v j n = omega arith
       go (b ∷ bs) v j n = absurd (omega (arith, v .0 .least, length-append b (endToEnd bs), ap length j, length-drop p x))
 
-  pub walk-on : (p : ℕ) → Walks x g p → p < length x → Stands x g p
+  walk-on : (p : ℕ) → Walks x g p → p < length x → Stands x g p
   walk-on p w h = go (w .rest) (w .whole) (w .joined) (w .place)
     where
       go : (rest : List (List ℕ)) → Wholes (w .before) rest → drop p x ≡ endToEnd rest → p + placeAmong g rest ≡ blockPlace g x → Stands x g p
@@ -78,6 +79,46 @@ module _ (x : List ℕ) (g : ℕ) where
                   place = omega (arith, rw f at n);
                 });
           }
+
+-- ---- the walk over any body
+
+abbrev pub Going : List ℕ → ℕ → ℕ → Type 0
+Going x g p = writableBlocks x ≡ true → Walks x g p
+
+pub begins : (x : List ℕ) (g : ℕ) → Going x g 0
+begins x g = walk-start x g
+
+-- fewer than 8 bytes are left: none, if the blocks are whole
+at-end : (x : List ℕ) (g p : ℕ) → length x < p + 8 → Walks x g p → p ≡ blockPlace g x
+at-end x g p h w = by-order (length x) p (λ o. walk-end x g p w o) (λ o. let s = walk-on x g p w o in absurd (omega (arith, s .least, s .inside)))
+
+pub too-short : (x : List ℕ) (g : ℕ) → length x < 8 → Found g x 0
+too-short x g h = record { inside = omega arith; place = λ e. at-end x g 0 (omega arith) (walk-start x g e) }
+
+module _ (x : List ℕ) (g p : ℕ) (w : Going x g p) (h : p + 8 ≤ length x) where
+  stands : writableBlocks x ≡ true → Stands x g p
+  stands e = walk-on x g p (w e) (omega arith)
+
+  pub found-here : u32At x (p + 4) ≡ g → Found g x p
+  found-here s = record { inside = omega arith; place = λ e. stands e .here s }
+
+  pub no-block : u32At x p < 8 → Found g x p
+  no-block o = record { inside = omega arith; place = λ e. absurd (omega (arith, stands e .least)) }
+
+  module _ (other : u32At x (p + 4) ≡ g → ⊥) where
+    pub goes-on : Going x g (p + u32At x p)
+    goes-on e = stands e .later other
+
+    pub was-last : length x < p + u32At x p + 8 → Found g x (length x)
+    was-last o = record {
+      inside = omega arith;
+      place = λ e.
+          let s = stands e in
+          let next = s .later other in
+          let end : length x ≡ p + u32At x p
+          = by-order (length x) (p + u32At x p) (λ k. omega (arith, s .inside)) (λ k. let t = walk-on x g (p + u32At x p) next k in absurd (omega (arith, t .least, t .inside))) in
+          end ∙ at-end x g (p + u32At x p) o next;
+    }
 
 -- ---- the block at its place
 

@@ -1,23 +1,15 @@
 // A path block put into a record, and the shortcut that the record is then written as (FORMAT: Path block call).
-use format::Fault;
 use format::Record;
-use format::Shape;
 use format::Verdict;
 ghost use mathlib.Core.Path.{_≡_};
-ghost use mathlib.Core.Bool.{true, cond};
+ghost use mathlib.Core.Bool.{cond};
 ghost use Prim.Native.Nat.{_+_, _-_, _≤_};
 ghost use lib.ListN.{length};
 ghost use Rattle.octets.specs.Numbers.{little};
 ghost use Rattle.octets.specs.Parts.{put};
 ghost use Rattle.format.specs.Numbers.{Numbered};
-ghost use Rattle.format.specs.Bodies.{blocksSlot, placed};
-ghost use Rattle.format.specs.Contents.{bodyIn, contents};
-ghost use Rattle.format.specs.Writing.{canonical, writableBlocks, writable};
 ghost use Rattle.format.specs.PathWriting.{isPath, pathText, pathBlock, pathWriting, pathAnswer, pathOutput, PathEnds};
-ghost use Rattle.format.specs.Steps.Shape.{shapeOf};
-ghost use Rattle.sizes.specs.Steps.Sizes.{sizesOf};
-ghost use Rattle.canonical.specs.Steps.Puts.{RoomFor};
-ghost use Rattle.pathing.specs.Steps.Places.{blockPlace, pathFits};
+ghost use Rattle.pathing.specs.Steps.Places.{pathFits, Found};
 
 // ---- the block
 
@@ -66,36 +58,41 @@ fn block_of(signature: u32, text: &[u8], unicode: &[u8]) -> [u8; 788]
 
 // ---- where it goes
 
-// Where the block of this signature starts in a body of whole blocks; their end where there is none.
+// Where the block of this signature starts in a body of whole blocks; their end where there is none. It is asked before the blocks are tested, so it stops at what is no block.
 fn place_of(x: &[u8], signature: u32) -> usize
-    requires { ⌜ writableBlocks (now x) ≡ true ⌝ }
-    ensures { λ r. ⌜ r ≡ blockPlace signature (now (x .entry)) ⌝ }
+    ensures { λ r. ⌜ Found signature (now (x .entry)) r ⌝ }
 {
+    let n = x.len();
+    if n < 8 {
+        return 0;
+    }
     let mut p: usize = 0;
-    while p < x.len() {
+    // How many bytes there are beyond the head of the block at p.
+    let mut left = n - 8;
+    loop {
         if octets::u32_at(x, p + 4) == signature {
             return p;
         }
-        p += octets::u32_at(x, p) as usize;
+        let size = octets::u32_at(x, p) as usize;
+        if size < 8 {
+            return p;
+        }
+        if left < size {
+            return n;
+        }
+        left -= size;
+        p += size;
     }
-    p
 }
 
-// The same in the blocks of a record.
-fn place_in(r: Record, d: &[u8], signature: u32) -> usize
-    requires { ⌜ (placed (length (now d)) r ≡ true) × (writable (contents (now d) r) ≡ true) ⌝ }
-    ensures { λ at. ⌜ at ≡ blockPlace signature (bodyIn (contents (now (d .entry)) r) blocksSlot) ⌝ }
-{
-    let row = r.places;
-    let body = row[format::BLOCKS];
-    place_of(octets::part(d, body.at, body.len), signature)
-}
-
-// How many bytes a body of n bytes gains by a block at this place: none where one is replaced.
-fn gained(n: usize, at: usize) -> usize
+// How many bytes a body of n bytes gains by a block at this place: none where one is replaced. Where there is no such block, more than a shortcut has.
+fn gained(fits: bool, n: usize, at: usize) -> usize
     requires { ⌜ at ≤ n ⌝ }
-    ensures { λ r. ⌜ r ≡ at + 788 - n ⌝ }
+    ensures { λ r. ⌜ r ≡ cond fits (at + 788 - n) 65537 ⌝ }
 {
+    if !fits {
+        return 65537;
+    }
     let beyond = n - at;
     if 788 < beyond {
         return 0;
@@ -103,30 +100,18 @@ fn gained(n: usize, at: usize) -> usize
     788 - beyond
 }
 
-// The record as it is, the block over what stands at its place, and the terminal block after the last one: each body is copied once.
-fn put_changed(
-    out: &mut [u8],
-    r: Record,
-    s: Shape,
-    sizes: [u32; 16],
-    d: &[u8],
-    b: [u8; 788],
-    at: usize,
-    end: usize,
-)
-    requires fits { ⌜ RoomFor (now d) (now out) r ⌝ }
-    requires shape { ⌜ s ≡ shapeOf (r .header .flags) (r .link) ⌝ }
-    requires sized { ⌜ sizes ≡ sizesOf r ⌝ }
-    requires room { ⌜ (at + 788 ≤ length (now out)) × (end + 4 ≤ length (now out)) ⌝ }
-    ensures { λ _. ⌜ now (out .exit) ≡ put (put (put (now (out .entry)) 0 (canonical (contents (now (d .entry)) r))) at b) end (little 4 0) ⌝ }
+// The block over what stands at its place, and the terminal block after the last one.
+fn put_over(out: &mut [u8], b: [u8; 788], at: usize, end: usize)
+    requires { ⌜ (at + 788 ≤ length (now out)) × (end + 4 ≤ length (now out)) ⌝ }
+    ensures { λ _. ⌜ now (out .exit) ≡ put (put (now (out .entry)) at b) end (little 4 0) ⌝ }
 {
-    canonical::put_canonical(out, r, s, sizes, d);
     octets::put_bytes(out, at, &b);
     octets::put_u32(out, end, 0);
 }
 
 // ---- the call
 
+// The record is written as it is, with room for what the block adds, and the block over it: each body is copied once.
 pub fn path_block(
     r: Record,
     d: &[u8],
@@ -140,29 +125,17 @@ pub fn path_block(
     ensures numbers { λ v. ⌜ Numbered v (pathWriting r (now (d .entry)) signature (now (text .entry)) (now (unicode .entry)) (length (now (out .entry)))) ⌝ }
     ensures least { λ v. ⌜ PathEnds r (now (d .entry)) signature (now (text .entry)) (now (unicode .entry)) (now (out .entry)) v (now (out .exit)) ⌝ }
 {
-    let s = format::shape_of(r.header.flags, r.link);
-    if !writable::placed(r, s, d.len()) {
-        return Verdict::Refused(Fault::Place, 0);
-    }
-    if !path_fits(signature, text, unicode) {
-        return Verdict::Refused(Fault::Unwritable, 0);
-    }
-    let sizes = sizes::sizes_of(r, s);
-    let end = sizes::end_of(r, sizes);
-    if !writable::writable(r, s, end, d) {
-        return Verdict::Refused(Fault::Unwritable, 0);
-    }
     let row = r.places;
-    let n = row[format::BLOCKS].len;
-    let at = place_in(r, d, signature);
-    let total = end as usize + gained(n, at);
-    if 65536 < total {
-        return Verdict::Refused(Fault::Unwritable, 0);
-    }
-    if out.len() < total {
-        return Verdict::Refused(Fault::Room, 0);
-    }
+    let body = row[format::BLOCKS];
+    let x = octets::part(d, body.at, body.len);
+    let at = place_of(x, signature);
+    let fits = path_fits(signature, text, unicode);
+    let more = gained(fits, x.len(), at);
+    let v = writer::write_leaving(r, d, more, out);
+    let Verdict::Accepted(n) = v else {
+        return v;
+    };
     let b = block_of(signature, text, unicode);
-    put_changed(out, r, s, sizes, d, b, end as usize - 4 - n + at, total - 4);
-    Verdict::Accepted(total)
+    put_over(out, b, n - more - 4 - x.len() + at, n - 4);
+    Verdict::Accepted(n)
 }

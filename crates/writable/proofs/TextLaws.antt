@@ -18,17 +18,8 @@ use Rattle.writable.proofs.TestLaws.{same-test}
 
 -- ---- the bytes at a place
 
-module _ (d : List ℕ) (b : Place) where
-  pub body-past : length d < b .at → [] ≡ bytesAt d b
-  body-past h = sym (rw (drop-of-length-le d {i = b .at} (omega arith)) (take-nil (b .len)))
-
-  pub body-rest : length d - b .at < b .len → take (length d - b .at) (drop (b .at) d) ≡ bytesAt d b
-  body-rest h =
-      let l = length-drop (b .at) d in
-      take-all (length d - b .at) (drop (b .at) d) (omega arith) ∙ sym (take-all (b .len) (drop (b .at) d) (omega arith))
-
-  pub body-whole : take (b .at + b .len - b .at) (drop (b .at) d) ≡ bytesAt d b
-  body-whole = let q : b .at + b .len - b .at ≡ b .len = omega arith in rw q
+pub body-whole : (d : List ℕ) (b : Place) → take (b .at + b .len - b .at) (drop (b .at) d) ≡ bytesAt d b
+body-whole d b = let q : b .at + b .len - b .at ≡ b .len = omega arith in rw q
 
 -- ---- whole characters
 

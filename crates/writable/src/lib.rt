@@ -7,13 +7,15 @@ use format::Shape;
 ghost use mathlib.Core.Path.{_≡_};
 ghost use mathlib.Core.Bool.{true, not, _||_, cond};
 ghost use Prim.Native.Nat.{_+_, _-_, _/_, _%_, _≤_};
-ghost use lib.ListN.{length};
+ghost use lib.ListN.{length, getD};
 ghost use lib.Dec.{eqb, leb};
-ghost use Rattle.format.specs.Bodies.{placed};
+ghost use Rattle.format.specs.Tests.{noPlace};
+ghost use Rattle.format.specs.Bodies.{blocksSlot, placed};
 ghost use Rattle.format.specs.Contents.{bytesAt, contents};
 ghost use Rattle.format.specs.Writing.{writableIf, writableHeader, writableItems, writableText, writableString, writableBlocks, writableBody, writableLink, writable};
 ghost use Rattle.format.specs.Steps.Shape.{shapeOf};
 ghost use Rattle.sizes.specs.Steps.Sizes.{clippedLength};
+ghost use Rattle.canonical.specs.Steps.Puts.{InBuffer, RowInBuffer};
 ghost use Rattle.writable.specs.Steps.Slots.{kindAt, slotsOk, bodiesOk};
 
 // ---- whether the bodies lie in the buffer
@@ -49,19 +51,13 @@ pub fn placed(q: Record, s: Shape, n: usize) -> bool
 
 // ---- whether a body can be written
 
-// The bytes at a place, as far as the buffer reaches.
+// The bytes at a place, which was tested before.
 fn body(d: &[u8], b: Place) -> &[u8]
+    requires { ⌜ InBuffer (now d) b ⌝ }
     ensures { λ r. ⌜ now r ≡ bytesAt (now (d .entry)) b ⌝ }
 {
     let at = b.at;
-    let len = b.len;
-    if d.len() < at {
-        return &d[..0];
-    }
-    if d.len() - at < len {
-        return &d[at..];
-    }
-    let end = at + len;
+    let end = at + b.len;
     &d[at..end]
 }
 
@@ -102,20 +98,16 @@ fn items_ok(x: &[u8]) -> bool
     if 65533 < n {
         return false;
     }
-    if n < 2 {
-        return 0 == n;
-    }
-    // The last place where a size can stand.
-    let last = n - 2;
-    let mut p: usize = 0;
-    while p <= last {
-        let size = octets::u16_at(x, p) as usize;
+    // Where the size of the item ends that is due.
+    let mut p: usize = 2;
+    while p <= n {
+        let size = octets::u16_at(x, p - 2) as usize;
         if size < 2 {
             return false;
         }
         p += size;
     }
-    p == n
+    p == n + 2
 }
 
 // Blocks up to the end, with no terminal block among them. What the walk notes on its way serves nobody here.
@@ -147,6 +139,7 @@ fn link_ok(flags: u32, l: Link) -> bool
 // ---- whether the bodies can be written, each by the rule of its kind
 
 fn items_if(there: bool, b: Place, d: &[u8]) -> bool
+    requires { ⌜ (there ≡ true → InBuffer (now d) b) ⌝ }
     ensures { λ r. ⌜ r ≡ writableIf there writableItems (bytesAt (now (d .entry)) b) ⌝ }
 {
     if there { items_ok(body(d, b)) } else { true }
@@ -164,7 +157,8 @@ fn slot_ok(k: usize, unicode: bool, x: &[u8]) -> bool
 
 // The bodies of characters in the slots from one to before another.
 fn slots_ok(row: [Place; 16], s: Shape, d: &[u8], from: usize, to: usize) -> bool
-    requires { ⌜ (from ≤ to) × (to ≤ 16) ⌝ }
+    requires inside { ⌜ RowInBuffer (now d) row s ⌝ }
+    requires span { ⌜ (from ≤ to) × (to ≤ 16) ⌝ }
     ensures { λ r. ⌜ r ≡ slotsOk (now (d .entry)) row s from (to - from) ⌝ }
 {
     let there = s.there;
@@ -183,6 +177,8 @@ fn slots_ok(row: [Place; 16], s: Shape, d: &[u8], from: usize, to: usize) -> boo
 
 // Texts and strings apart, so that the compiler unrolls both walks.
 fn bodies_ok(row: [Place; 16], s: Shape, d: &[u8]) -> bool
+    requires inside { ⌜ RowInBuffer (now d) row s ⌝ }
+    requires blocks { ⌜ InBuffer (now d) (getD row blocksSlot noPlace) ⌝ }
     ensures { λ r. ⌜ r ≡ bodiesOk (now (d .entry)) row s ⌝ }
 {
     let there = s.there;

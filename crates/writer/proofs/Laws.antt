@@ -1,12 +1,13 @@
--- One law for each way out of the writer, and that each of them ends as demand 3 says.
-use mathlib.Core.Path.{_≡_, sym, ap, _∙_}
+-- One law for each way out of the writer, and that each of them ends as demand 3 says where no room is left.
+use mathlib.Core.Path.{_≡_, refl, sym, ap, _∙_}
 use mathlib.Core.List.{List}
 use mathlib.Core.Bool.{Bool, true, false, not}
-use Prim.Native.Nat.{ℕ, _≤_, _<_}
+use Prim.Native.Nat.{ℕ, _+_, _-_, _≤_, _<_}
 use native.Mathlib.Omega.{arith}
+use native.Mathlib.Nat.{add-zero}
 use lib.ListN.{length}
 use lib.Dec.{leb}
-use borrow.Author.Tests.{le-leb, lt-leb, not-true, not-false}
+use borrow.Author.Tests.{leb-true, leb-false, le-leb, lt-leb, not-true, not-false}
 use Rattle.octets.specs.Numbers.{Bytes}
 use Rattle.octets.specs.Parts.{put}
 use Rattle.format.specs.declared.Record.{Record}
@@ -15,68 +16,123 @@ use Rattle.format.specs.declared.Verdict.{Verdict}
 use Rattle.format.specs.declared.Verdict.the-variants.{Accepted, Refused}
 use Rattle.format.specs.Tests.{got, refused}
 use Rattle.format.specs.Numbers.{Numbered}
-use Rattle.format.specs.Shortcut.{most}
+use Rattle.format.specs.Shortcut.{most, verdictOf}
 use Rattle.format.specs.Bodies.{placed}
 use Rattle.format.specs.Contents.{Contents, contents}
 use Rattle.format.specs.Writing.{canonical, writable, writing, outputOf, writeAnswer, writeOutput}
 use Rattle.format.specs.Demands.{Ends}
+use Rattle.format.proofs.Holds.{all-writable}
 use Rattle.format.proofs.Ranges.{FitsRecord}
 use Rattle.format.proofs.AnswerLaws.{nowhere, numbered}
 use Rattle.format.proofs.Demands.{the-writer}
 use Rattle.sizes.specs.Steps.Sizes.{clippedLength}
 use Rattle.writable.proofs.WholeLaws.{short-length, writable-few}
 use Rattle.canonical.specs.Steps.Puts.{RoomFor}
+use Rattle.writer.specs.Steps.Leaving.{leaving}
 
--- an outcome of the definitions is an end of demand 3, since the types give that the numbers fit and that bytes are bytes
-pub ended : (r : Record) (d out : List ℕ) → FitsRecord r × Bytes d → {v : Verdict} {x : List ℕ} → (v ≡ writeAnswer r d out) × (x ≡ writeOutput r d out)
-    → (v ≡ writeAnswer r d out) × ((x ≡ writeOutput r d out) × (Numbered v (writing r d (length out)) × Ends r d out v x))
-unfolding writeAnswer
-ended r d out (fits, bytes) (p, q) = (p, (q, (numbered (writing r d (length out)) p, rw (p, q) (the-writer r d fits bytes out))))
+-- ---- with room for more
 
-module _ (r : Record) (d out : List ℕ) {p : Bool} (i : p ≡ placed (length d) r) where
+module _ (r : Record) (d : List ℕ) (more : ℕ) (out : List ℕ) where
   abbrev c : Contents
   c = contents d r
 
-  pub write-outside : not p ≡ true → (Refused PLACE 0 ≡ writeAnswer r d out) × (out ≡ writeOutput r d out)
-  unfolding writing writeAnswer writeOutput outputOf
-  write-outside t =
-      let z : writing r d (length out) ≡ refused PLACE nowhere = rw (sym i ∙ not-true p t) in
-      (rw z, rw z)
+  -- an answer and the buffer afterwards, as the definition has them
+  abbrev pub Leaves : Verdict → List ℕ → Type 0
+  Leaves v x = (v ≡ verdictOf (leaving r d more (length out))) × (x ≡ outputOf (leaving r d more (length out)) out)
 
-  module _ (inside : not p ≡ false) where
-    pub all-placed : placed (length d) r ≡ true
-    all-placed = sym i ∙ not-false p inside
+  -- how it may end, and what is known then
+  pub leaving-ends {ℓ} : (X : Verdict → List ℕ → Type ℓ) → (placed (length d) r ≡ false → X (Refused PLACE 0) out)
+      → (placed (length d) r ≡ true → writable c ≡ false → X (Refused UNWRITABLE 0) out)
+      → (placed (length d) r ≡ true → writable c ≡ true → most < length (canonical c) + more → X (Refused UNWRITABLE 0) out)
+      → (placed (length d) r ≡ true → writable c ≡ true → length (canonical c) + more ≤ most → length out < length (canonical c) + more → X (Refused ROOM 0) out)
+      → (placed (length d) r ≡ true → writable c ≡ true → length (canonical c) + more ≤ most → length (canonical c) + more ≤ length out → X (Accepted (length (canonical c) + more)) (put out 0 (canonical c)))
+      → {v : Verdict} {x : List ℕ} → Leaves v x → X v x
+  unfolding leaving outputOf
+  leaving-ends X f g h k l (e, o) = rw (e, o) (go (placed (length d) r) refl (writable c) refl (leb n most) refl (leb n (length out)) refl)
+    where
+      n : ℕ
+      n = length (canonical c) + more
 
-    module _ {b : Bool} (j : b ≡ writable c) where
-      pub write-unwritable : not b ≡ true → (Refused UNWRITABLE 0 ≡ writeAnswer r d out) × (out ≡ writeOutput r d out)
-      unfolding writing writeAnswer writeOutput outputOf
-      write-unwritable t =
-          let z : writing r d (length out) ≡ refused UNWRITABLE nowhere = rw (all-placed, sym j ∙ not-true b t) in
-          (rw z, rw z)
+      go : (p : Bool) → placed (length d) r ≡ p → (b : Bool) → writable c ≡ b → (t : Bool) → leb n most ≡ t → (u : Bool) → leb n (length out) ≡ u
+          → X (verdictOf (leaving r d more (length out))) (outputOf (leaving r d more (length out)) out)
+      go false i b j t a u z = rw i (f i)
+      go true i false j t a u z = rw (i, j) (g i j)
+      go true i true j false a u z = rw (i, j, a) (h i j (leb-false n most a))
+      go true i true j true a false z = rw (i, j, a, z) (k i j (leb-true n most a) (leb-false n (length out) z))
+      go true i true j true a true z = rw (i, j, a, z) (l i j (leb-true n most a) (leb-true n (length out) z))
 
-      module _ (can : not b ≡ false) {n : ℕ} (count : n ≡ clippedLength r) where
-        is-writable : writable c ≡ true
-        is-writable = sym j ∙ not-false b can
+  module _ {p : Bool} (i : p ≡ placed (length d) r) where
+    pub write-outside : not p ≡ true → Leaves (Refused PLACE 0) out
+    unfolding leaving outputOf
+    write-outside t =
+        let z : leaving r d more (length out) ≡ refused PLACE nowhere = rw (sym i ∙ not-true p t) in
+        (rw z, rw z)
 
-        few : n ≤ most
-        few = writable-few d r all-placed count is-writable
+    module _ (inside : not p ≡ false) where
+      pub all-placed : placed (length d) r ≡ true
+      all-placed = sym i ∙ not-false p inside
 
-        long : n ≡ length (canonical c)
-        long = short-length d r all-placed count few
-
-        pub write-room : length out < n → (Refused ROOM 0 ≡ writeAnswer r d out) × (out ≡ writeOutput r d out)
-        unfolding writing writeAnswer writeOutput outputOf
-        write-room h =
-            let k : leb (length (canonical c)) (length out) ≡ false = lt-leb (length (canonical c)) (length out) (omega (arith, long)) in
-            let z : writing r d (length out) ≡ refused ROOM nowhere = rw (all-placed, is-writable, k) in
+      module _ {b : Bool} (j : b ≡ writable c) where
+        pub write-unwritable : not b ≡ true → Leaves (Refused UNWRITABLE 0) out
+        unfolding leaving outputOf
+        write-unwritable t =
+            let z : leaving r d more (length out) ≡ refused UNWRITABLE nowhere = rw (all-placed, sym j ∙ not-true b t) in
             (rw z, rw z)
 
-        pub write-fits : n ≤ length out → RoomFor d out r
-        write-fits h = record { inside = all-placed; few = omega (arith, few, long); room = omega (arith, long) }
+        module _ (can : not b ≡ false) {n : ℕ} (count : n ≡ clippedLength r) where
+          is-writable : writable c ≡ true
+          is-writable = sym j ∙ not-false b can
 
-        pub write-written : n ≤ length out → {m : ℕ} {x : List ℕ} → m ≡ length (canonical c) → x ≡ put out 0 (canonical c) → (Accepted m ≡ writeAnswer r d out) × (x ≡ writeOutput r d out)
-        unfolding writing writeAnswer writeOutput outputOf
-        write-written h l e =
-            let k : leb (length (canonical c)) (length out) ≡ true = le-leb (length (canonical c)) (length out) (omega (arith, long)) in
-            let z : writing r d (length out) ≡ got (canonical c) (length (canonical c)) = rw (all-placed, is-writable, k) in
-            (rw z (ap Accepted l), rw z e)
+          pub few : n ≤ most
+          few = writable-few d r all-placed count is-writable
+
+          long : n ≡ length (canonical c)
+          long = short-length d r all-placed count few
+
+          pub write-long : most - n < more → Leaves (Refused UNWRITABLE 0) out
+          unfolding leaving outputOf
+          write-long h =
+              let k : leb (length (canonical c) + more) most ≡ false = lt-leb (length (canonical c) + more) most (omega (arith, long, few)) in
+              let z : leaving r d more (length out) ≡ refused UNWRITABLE nowhere = rw (all-placed, is-writable, k) in
+              (rw z, rw z)
+
+          module _ (short : more ≤ most - n) where
+            fits-most : leb (length (canonical c) + more) most ≡ true
+            fits-most = le-leb (length (canonical c) + more) most (omega (arith, long, few))
+
+            pub write-room : length out < n + more → Leaves (Refused ROOM 0) out
+            unfolding leaving outputOf
+            write-room h =
+                let k : leb (length (canonical c) + more) (length out) ≡ false = lt-leb (length (canonical c) + more) (length out) (omega (arith, long)) in
+                let z : leaving r d more (length out) ≡ refused ROOM nowhere = rw (all-placed, is-writable, fits-most, k) in
+                (rw z, rw z)
+
+            pub write-fits : n + more ≤ length out → RoomFor d out r
+            write-fits h = record { inside = all-placed; few = omega (arith, few, long); room = omega (arith, long) }
+
+            pub write-written : n + more ≤ length out → {x : List ℕ} → x ≡ put out 0 (canonical c) → Leaves (Accepted (n + more)) x
+            unfolding leaving outputOf
+            write-written h e =
+                let k : leb (length (canonical c) + more) (length out) ≡ true = le-leb (length (canonical c) + more) (length out) (omega (arith, long)) in
+                let z : leaving r d more (length out) ≡ got (canonical c) (length (canonical c) + more) = rw (all-placed, is-writable, fits-most, k) in
+                (rw z (ap (λ (m : ℕ). Accepted (m + more)) long), rw z e)
+
+-- ---- with no room for more
+
+-- what can be written is no longer than the most anyway
+pub none-left : (r : Record) (d : List ℕ) (room : ℕ) → leaving r d 0 room ≡ writing r d room
+unfolding leaving writing
+none-left r d room = go (writable (contents d r)) refl
+  where
+    go : (b : Bool) → writable (contents d r) ≡ b → leaving r d 0 room ≡ writing r d room
+    go true e = rw (e, add-zero, all-writable (contents d r) e .short)
+    go false e = rw e
+
+-- an outcome of the definitions is an end of demand 3, since the types give that the numbers fit and that bytes are bytes
+pub ended : (r : Record) (d out : List ℕ) → FitsRecord r × Bytes d → {v : Verdict} {x : List ℕ} → Leaves r d 0 out v x
+    → (v ≡ writeAnswer r d out) × ((x ≡ writeOutput r d out) × (Numbered v (writing r d (length out)) × Ends r d out v x))
+unfolding writeAnswer writeOutput
+ended r d out (fits, bytes) (p, q) =
+    let a : _ ≡ writeAnswer r d out = p ∙ ap verdictOf (none-left r d (length out)) in
+    let b : _ ≡ writeOutput r d out = q ∙ rw (none-left r d (length out)) in
+    (a, (b, (numbered (writing r d (length out)) a, rw (a, b) (the-writer r d fits bytes out))))

@@ -1,4 +1,5 @@
 -- The rules kind by kind.
+use Rattle.format.specs.Bodies.{itemsSlot}
 use Rattle.writable.specs.Steps.Slots.{bodiesOk}
 use borrow.Author.Needs.{needs}
 use native.Mathlib.Omega.{arith}
@@ -12,19 +13,19 @@ array-copy-out-items-if : tie.Need-array-copy-out-items-if
 array-copy-out-items-if c = omega arith
 
 items-if-requires : tie.Need-items-if-requires
-items-if-requires c κs = search needs
+items-if-requires c κs = let start = c .before .before .before in start .pre .0 .slot itemsSlot
 
 slots-ok-requires : tie.Need-slots-ok-requires
-slots-ok-requires c κs = search needs
+slots-ok-requires c κs = let start = c .before .before .before .before in (start .pre .0, (omega arith, omega arith))
 
 slots-ok-requires-2 : tie.Need-slots-ok-requires-2
-slots-ok-requires-2 c κs = search needs
+slots-ok-requires-2 c κs = let start = c .before .before .before .before .before in (start .pre .0, (omega arith, omega arith))
 
 array-copy-out-body : tie.Need-array-copy-out-body
 array-copy-out-body c = omega arith
 
 body-requires : tie.Need-body-requires
-body-requires c κs = search needs
+body-requires c κs = let after-strings = c .before in let start = after-strings .before .before .before .before .before .before in start .pre .1
 
 blocks-ok-requires : tie.Need-blocks-ok-requires
 blocks-ok-requires c κs = search needs

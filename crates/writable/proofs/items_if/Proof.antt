@@ -6,7 +6,7 @@ use Rattle.writable.proofs.items_if.Statement.{statement}
 use Rattle.writable.proofs.items_if.Tie as tie
 
 body-requires : tie.Need-body-requires
-body-requires c κs = search needs
+body-requires c κs = c .before .before .pre (c .if1 .taken)
 
 items-ok-requires : tie.Need-items-ok-requires
 items-ok-requires c κs = search needs

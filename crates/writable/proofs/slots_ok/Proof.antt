@@ -36,7 +36,11 @@ array-copy-out-body : tie.Need-array-copy-out-body Inv-loop μ-loop
 array-copy-out-body c = omega arith
 
 body-requires : tie.Need-body-requires Inv-loop μ-loop
-body-requires c κs = search needs
+body-requires c κs =
+    let after-if1 = c .before in
+    let at = after-if1 .before .before in
+    let start = at .before .before .before .before in
+    start .pre .0 .slot (at .loop .k) (after-if1 .if1 .taken)
 
 slot-ok-requires : tie.Need-slot-ok-requires Inv-loop μ-loop
 slot-ok-requires c κs = search needs

@@ -1,4 +1,5 @@
 -- A record longer than the most is not writable; of any other the rules decide.
+use Rattle.canonical.proofs.FitsLaws.{row-inside, blocks-inside}
 use Rattle.writable.proofs.WholeLaws.{writable-long, writable-short}
 use Rattle.writable.proofs.SectionLaws.{sections-are}
 use native.Mathlib.Omega.{arith}
@@ -18,7 +19,10 @@ link-ok-requires : tie.Need-link-ok-requires
 link-ok-requires c κs = search needs
 
 bodies-ok-requires : tie.Need-bodies-ok-requires
-bodies-ok-requires c κs = search needs
+bodies-ok-requires c κs =
+    let start = c .before .before .before .before .before in
+    let row = row-inside (start .args .q) (start .pre .0) (start .args .d .now) (start .pre .1 .0) in
+    (row, blocks-inside (start .args .q) (start .pre .0) row)
 
 returns-2 : tie.Need-returns-2
 returns-2 c =
