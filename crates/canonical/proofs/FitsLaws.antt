@@ -58,7 +58,7 @@ module _ (q : Record) {s : Shape} (e : s ≡ shapeOf (q .header .flags) (q .link
 
   -- ---- the whole
 
-  total-parts : (i : Bool) → infoThere (q .header .flags) ≡ i
+  pub total-parts : (i : Bool) → infoThere (q .header .flags) ≡ i
       → writtenLength q
       ≡ 76
       + (cond (itemsThere (q .header .flags)) (placeIn q itemsSlot .len + 4) 0

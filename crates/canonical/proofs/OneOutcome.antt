@@ -3,6 +3,10 @@ use mathlib.Core.Path.{sym, _∙_}
 use denote.Ref.{now}
 use Rattle.octets.proofs.Outcomes.{OneOutcome}
 use Rattle.canonical.proofs.put_canonical as put-canonical
+use Rattle.canonical.proofs.put_header as put-header
+use Rattle.canonical.proofs.put_items_if as put-items-if
+use Rattle.canonical.proofs.put_slots as put-slots
+use Rattle.canonical.proofs.put_blocks as put-blocks
 use Rattle.canonical.proofs.heads.put_volume_head as put-volume-head
 use Rattle.canonical.proofs.heads.put_network_head as put-network-head
 use Rattle.canonical.proofs.heads.put_info_head as put-info-head
@@ -15,6 +19,18 @@ use Rattle.canonical.proofs.texts.put_text as put-text
 
 pub put-canonical-one-outcome : OneOutcome put-canonical.ended (λ κs s. now (s .0)) put-canonical.Reads.Post
 put-canonical-one-outcome κs a r q s t p o = (p .0 ∙ sym (o .0), p .1 ∙ sym (o .1))
+
+pub put-header-one-outcome : OneOutcome put-header.ended (λ κs s. now (s .0)) put-header.Reads.Post
+put-header-one-outcome κs a r q s t p o = (p .next ∙ sym (o .next), p .content ∙ sym (o .content))
+
+pub put-items-if-one-outcome : OneOutcome put-items-if.ended (λ κs s. now (s .1 .0)) put-items-if.Reads.Post
+put-items-if-one-outcome κs a r q s t p o = (p .next ∙ sym (o .next), p .content ∙ sym (o .content))
+
+pub put-slots-one-outcome : OneOutcome put-slots.ended (λ κs s. now (s .0)) put-slots.Reads.Post
+put-slots-one-outcome κs a r q s t p o = (p .next ∙ sym (o .next), p .content ∙ sym (o .content))
+
+pub put-blocks-one-outcome : OneOutcome put-blocks.ended (λ κs s. now (s .0)) put-blocks.Reads.Post
+put-blocks-one-outcome κs a r q s t p o = (p .next ∙ sym (o .next), p .content ∙ sym (o .content))
 
 pub put-volume-head-one-outcome : OneOutcome put-volume-head.ended (λ κs s. now (s .0)) put-volume-head.Reads.Post
 put-volume-head-one-outcome κs a r q s t p o = (p .next ∙ sym (o .next), p .content ∙ sym (o .content))

@@ -12,11 +12,9 @@ use Rattle.format.specs.Tests.{noPlace}
 use Rattle.format.specs.Shortcut.{sum}
 use Rattle.format.specs.Bodies.{BodyRow, along}
 use Rattle.format.specs.Writing.{endToEnd}
-use Rattle.format.specs.Steps.Lengths.{writtenBody}
 use Rattle.format.specs.Steps.Shape.{rowsFrom}
-use Rattle.format.specs.Steps.Flat.{slotBytes, slotsBytes}
 use Rattle.format.proofs.RowLaws.{along-split}
-use Rattle.canonical.specs.Steps.Puts.{Room, slotsSize}
+use Rattle.canonical.specs.Steps.Puts.{Room}
 
 sum-append : (xs ys : List ℕ) → sum (xs ++ ys) ≡ sum xs + sum ys
 sum-append [] ys = omega arith
@@ -26,48 +24,45 @@ end-append : (xs ys : List (List ℕ)) → endToEnd (xs ++ ys) ≡ endToEnd xs +
 end-append [] ys = refl
 end-append (x ∷ xs) ys = ap (λ (l : List ℕ). x ++ l) (end-append xs ys) ∙ sym (append-assoc x (endToEnd xs) (endToEnd ys))
 
-module _ (d : List ℕ) (ps : List Place) (row : ℕ → BodyRow) (from : ℕ) where
+-- F is what is put of a slot's body, and G how much that is
+module _ (F : BodyRow → Place → List ℕ) (G : BodyRow → Place → ℕ) (ps : List Place) (row : ℕ → BodyRow) (from : ℕ) where
   abbrev place : ℕ → Place
   place k = getD ps k noPlace
 
   abbrev pub bytesTo : ℕ → List ℕ
-  bytesTo k = slotsBytes d ps from (rowsFrom row from (k - from))
+  bytesTo k = endToEnd (along noPlace F from (rowsFrom row from (k - from)) ps)
 
   abbrev pub sizeTo : ℕ → ℕ
-  sizeTo k = slotsSize ps from (rowsFrom row from (k - from))
+  sizeTo k = sum (along noPlace G from (rowsFrom row from (k - from)) ps)
 
   -- one slot more
-  bytes-more : (k : ℕ) → from ≤ k → bytesTo k ++ slotBytes d (row k) (place k) ≡ bytesTo (k + 1)
-  unfolding slotsBytes
+  bytes-more : (k : ℕ) → from ≤ k → bytesTo k ++ F (row k) (place k) ≡ bytesTo (k + 1)
   bytes-more k h =
       let e : k + 1 - from ≡ k - from + 1 = omega arith in
       let f : from + (k - from) ≡ k = omega arith in
-      rw (e, along-split noPlace (slotBytes d) row ps from (k - from) 1, end-append, f, append-nil)
+      rw (e, along-split noPlace F row ps from (k - from) 1, end-append, f, append-nil)
 
-  size-split : (k b : ℕ) → from ≤ k → sizeTo (k + b) ≡ sizeTo k + slotsSize ps k (rowsFrom row k b)
-  unfolding slotsSize
+  size-split : (k b : ℕ) → from ≤ k → sizeTo (k + b) ≡ sizeTo k + sum (along noPlace G k (rowsFrom row k b) ps)
   size-split k b h =
       let e : k + b - from ≡ k - from + b = omega arith in
       let f : from + (k - from) ≡ k = omega arith in
-      rw (e, along-split noPlace writtenBody row ps from (k - from) b, sum-append, f)
+      rw (e, along-split noPlace G row ps from (k - from) b, sum-append, f)
 
-  size-one : (k : ℕ) → slotsSize ps k (rowsFrom row k 1) ≡ writtenBody (row k) (place k)
-  unfolding slotsSize
+  size-one : (k : ℕ) → sum (along noPlace G k (rowsFrom row k 1) ps) ≡ G (row k) (place k)
   size-one k = omega arith
 
   module _ {out₀ : List ℕ} {at : ℕ} where
     pub none-put : at ≤ length out₀ → Wrote out₀ at (bytesTo from) (sizeTo from) out₀ at
-    unfolding slotsBytes slotsSize
     none-put h = let e : from - from ≡ 0 = omega arith in rw e (wrote-none out₀ at h)
 
     module _ {out : List ℕ} {p : ℕ} (k : ℕ) (h : from ≤ k) (w : Wrote out₀ at (bytesTo k) (sizeTo k) out p) where
-      pub more-put : {x : List ℕ} {r : ℕ} → Wrote out p (slotBytes d (row k) (place k)) (writtenBody (row k) (place k)) x r → Wrote out₀ at (bytesTo (k + 1)) (sizeTo (k + 1)) x r
+      pub more-put : {x : List ℕ} {r : ℕ} → Wrote out p (F (row k) (place k)) (G (row k) (place k)) x r → Wrote out₀ at (bytesTo (k + 1)) (sizeTo (k + 1)) x r
       more-put v = reword (join w v) (bytes-more k h) (sym (size-split k 1 h ∙ ap (λ (n : ℕ). sizeTo k + n) (size-one k)))
 
       -- the next has room where all have
-      pub room-next : (to : ℕ) → k < to → Room out₀ at (sizeTo to) → Room out p (writtenBody (row k) (place k))
+      pub room-next : (to : ℕ) → k < to → Room out₀ at (sizeTo to) → Room out p (G (row k) (place k))
       room-next to l m =
           let e : to ≡ k + 1 + (to - (k + 1)) = omega arith in
-          let s : sizeTo to ≡ sizeTo (k + 1) + slotsSize ps (k + 1) (rowsFrom row (k + 1) (to - (k + 1))) = ap sizeTo e ∙ size-split (k + 1) (to - (k + 1)) (omega arith) in
-          let t : sizeTo (k + 1) ≡ sizeTo k + writtenBody (row k) (place k) = size-split k 1 h ∙ ap (λ (n : ℕ). sizeTo k + n) (size-one k) in
+          let s : sizeTo to ≡ sizeTo (k + 1) + sum (along noPlace G (k + 1) (rowsFrom row (k + 1) (to - (k + 1))) ps) = ap sizeTo e ∙ size-split (k + 1) (to - (k + 1)) (omega arith) in
+          let t : sizeTo (k + 1) ≡ sizeTo k + G (row k) (place k) = size-split k 1 h ∙ ap (λ (n : ℕ). sizeTo k + n) (size-one k) in
           record { room = omega (arith, kept w, w .next, m .room); few = omega (arith, m .few) }

@@ -1,5 +1,5 @@
 // Puts the canonical bytes of a record into a lent buffer (FORMAT: Canonical form). A function that puts answers the place after what it put.
-mod heads;
+pub mod heads;
 pub mod numbers;
 pub mod texts;
 
@@ -71,7 +71,7 @@ fn put_view(out: &mut [u8], at: usize, h: Header) -> usize
     add_u16(out, p, 0)
 }
 
-fn put_header(out: &mut [u8], at: usize, h: Header) -> usize
+pub fn put_header(out: &mut [u8], at: usize, h: Header) -> usize
     requires { ⌜ at + 76 ≤ length (now out) ⌝ }
     ensures { λ r. ⌜ Wrote (now (out .entry)) at (headerBytes h) 76 (now (out .exit)) r ⌝ }
 {
@@ -122,7 +122,7 @@ fn put_string(out: &mut [u8], at: usize, d: &[u8], unicode: bool, b: Place) -> u
 }
 
 // The blocks, and a zero terminal block.
-fn put_blocks(out: &mut [u8], at: usize, d: &[u8], b: Place) -> usize
+pub fn put_blocks(out: &mut [u8], at: usize, d: &[u8], b: Place) -> usize
     requires { ⌜ InBuffer (now d) b ⌝ }
     requires { ⌜ Room (now out) at (b .len + 4) ⌝ }
     ensures written { λ r. ⌜ Wrote (now (out .entry)) at
@@ -133,7 +133,7 @@ fn put_blocks(out: &mut [u8], at: usize, d: &[u8], b: Place) -> usize
     add_u32(out, p, 0)
 }
 
-fn put_items_if(there: bool, out: &mut [u8], at: usize, d: &[u8], b: Place) -> usize
+pub fn put_items_if(there: bool, out: &mut [u8], at: usize, d: &[u8], b: Place) -> usize
     requires inside { ⌜ (there ≡ true → InBuffer (now d) b) ⌝ }
     requires room { ⌜ Room (now out) at (cond there (b .len + 4) 0) ⌝ }
     ensures written { λ r. ⌜ Wrote (now (out .entry)) at
@@ -161,7 +161,7 @@ fn put_slot(k: usize, out: &mut [u8], at: usize, d: &[u8], unicode: bool, b: Pla
 }
 
 // The bodies of characters in the slots from one to before another.
-fn put_slots(
+pub fn put_slots(
     out: &mut [u8],
     at: usize,
     row: [Place; 16],

@@ -13,12 +13,12 @@ use Rattle.format.specs.Tests.{noPlace}
 use Rattle.format.specs.Presence.{infoThere, nameBit, relativeBit, workdirBit, argumentsBit, iconBit, localThere, networkThere, localUnicodeThere, deviceThere, providerThere, deviceUnicodeThere}
 use Rattle.format.specs.Volume.{labelLeast}
 use Rattle.format.specs.Network.{networkHead}
-use Rattle.format.specs.Bodies.{itemsSlot, stringSlot, labelSlot, localSlot, netSlot, deviceSlot, netUnicodeSlot, deviceUnicodeSlot, suffixSlot, localUnicodeSlot, suffixUnicodeSlot, tableOf, along, writtenHead}
+use Rattle.format.specs.Bodies.{textKind, itemsSlot, stringSlot, labelSlot, localSlot, netSlot, deviceSlot, netUnicodeSlot, deviceUnicodeSlot, suffixSlot, localUnicodeSlot, suffixUnicodeSlot, bodyTable, tableOf, along, writtenHead}
 use Rattle.format.specs.Contents.{presentLink, present, Contents, bodyIn, infoIn, contents}
 use Rattle.format.specs.Writing.{endToEnd, ifThere, textBytes, twoFields, offsetField, labelFields, volumeBytes, networkBytes, networkLength, infoBytes, canonical}
 use Rattle.format.specs.Steps.Lengths.{volumePart, networkPart}
-use Rattle.format.specs.Steps.Shape.{shapeOf}
-use Rattle.format.specs.Steps.Flat.{rowBytes, slotBytes, slotsBytes, volumeHeadBytes, networkHeadBytes, infoHeadBytes, infoFlat, flatBytes}
+use Rattle.format.specs.Steps.Shape.{shapeOf, rowAs, rowsFrom}
+use Rattle.format.specs.Steps.Flat.{rowBytes, slotBytes, slotsBytes, bodiesBytes, volumeHeadBytes, networkHeadBytes, infoHeadBytes, infoFlat, flatBytes, contentsFlat}
 use Rattle.format.proofs.Bools.{choose-twice}
 use Rattle.format.proofs.RowLaws.{along-contents}
 use Rattle.format.proofs.FieldLaws.{length-two}
@@ -108,6 +108,43 @@ module _ (c : Contents) (sizes : List ℕ) where
       let lv = volume-long (localThere (c .link .flags)) (t .label) in
       let ln = network-long (networkThere (c .link .flags)) (names t) in
       rw (lv, ln, ← t .local, ← t .suffix, ← t .localUnicode, ← t .suffixUnicode, v, n) (simp (append-assoc, append-nil))
+
+  -- ---- the whole
+
+  -- the size of each slot is that of its body as written
+  abbrev pub SizedOf : Type 0
+  SizedOf = (k : ℕ) → k < 16 → getD sizes k 0 ≡ length (getD (along [] rowBytes 0 (bodyTable (c .header .flags) (c .link)) (c .bodies)) k [])
+
+  sizes-there : infoThere (c .header .flags) ≡ true → SizedOf → TextSizes c sizes
+  sizes-there e m = record {
+    label = rw e at (m labelSlot (omega arith));
+    local = rw e at (m localSlot (omega arith));
+    net = rw e at (m netSlot (omega arith));
+    device = rw e at (m deviceSlot (omega arith));
+    netUnicode = rw e at (m netUnicodeSlot (omega arith));
+    deviceUnicode = rw e at (m deviceUnicodeSlot (omega arith));
+    suffix = rw e at (m suffixSlot (omega arith));
+    localUnicode = rw e at (m localUnicodeSlot (omega arith));
+    suffixUnicode = rw e at (m suffixUnicodeSlot (omega arith));
+  }
+
+  -- LinkInfo's bodies by their slots
+  abbrev infoRows : List ℕ
+  infoRows =
+      infoHeadBytes (c .link) sizes
+      ++ (cond (localThere (c .link .flags)) (volumeHeadBytes (c .link) sizes) []
+      ++ (bodiesBytes (c .bodies) 1 (rowsFrom (rowAs textKind (shapeOf (c .header .flags) (c .link))) 1 2)
+      ++ (cond (networkThere (c .link .flags)) (networkHeadBytes (c .link) sizes) [] ++ bodiesBytes (c .bodies) 3 (rowsFrom (rowAs textKind (shapeOf (c .header .flags) (c .link))) 3 7))))
+
+  contents-info : (i : Bool) → infoThere (c .header .flags) ≡ i → SizedOf → ifThere i infoBytes (infoIn c) ≡ cond i infoRows []
+  unfolding bodiesBytes shapeOf
+  contents-info true e m = info-flat (sizes-there e m) ∙ rw e (simp (append-assoc, append-nil))
+  contents-info false e m = refl
+
+  -- the canonical form of contents is what is put of them
+  pub contents-flat : SizedOf → canonical c ≡ contentsFlat c (shapeOf (c .header .flags) (c .link)) sizes
+  unfolding canonical contentsFlat bodiesBytes shapeOf
+  contents-flat m = rw (contents-info (infoThere (c .header .flags)) refl m) (simp (append-assoc, append-nil))
 
 -- ---- heads go by the record as by its zeros
 

@@ -40,7 +40,7 @@ use Rattle.format.proofs.KeyDemands.{record-tells}
 abbrev firstBytes : InfoContents → List ℕ
 firstBytes i = cond (localThere (i .flags)) (i .local) (i .network .net)
 
-abbrev wholeText : InfoContents → List ℕ
+abbrev pub wholeText : InfoContents → List ℕ
 wholeText i = joined (firstBytes i) (i .suffix)
 
 abbrev pub keyFrom : Contents → Part → Key

@@ -22,7 +22,7 @@ use Rattle.format.specs.Demands.{Accepts}
 use Rattle.format.specs.Key.{partIf, environment, keyIn}
 use Rattle.format.proofs.Chains.{no-value, drop-take}
 use Rattle.format.proofs.BlockLaws.{none-left, step-elim, blocks-walked, blocks-same, ends-terminal}
-use Rattle.format.proofs.KeyRoom.{keyFrom, environmentOf, made, body-long}
+use Rattle.format.proofs.KeyRoom.{keyFrom, environmentOf, Made, made, body-long}
 
 -- the blocks' bytes tell the blocks' lengths
 lengths-told : (p q : ℕ) (s t ls ms : List ℕ) (n m : ℕ) → blocks p s ≡ got ls n → blocks q t ≡ got ms m
@@ -64,17 +64,21 @@ environment-told (suc k) before s t p q ls n l e =
     (this-or-later s t p q n (firstPlace s 0xA0000001 (p + n) ls) (firstPlace t 0xA0000001 (q + n) ls) (eqb (u32At t (q + 4)) 0xA0000001) x h))
     ls n e
 
+-- blocks with the same bytes have the same text for a key
+pub same-environment : {s : List ℕ} {r : Record} {t : List ℕ} {q : Record} (m : Made s r) (o : Made t q) → bodyIn (contents s r) blocksSlot ≡ bodyIn (contents t q) blocksSlot
+    → environmentOf s (m .start) (m .lengths) ≡ environmentOf t (o .start) (o .lengths)
+same-environment {s} {r} {t} {q} m o e =
+    let l : sum (m .lengths) ≡ sum (o .lengths) = sym (body-long m) ∙ ap length e ∙ body-long o in
+    let u : take (sum (m .lengths)) (drop (m .start) s) ≡ take (sum (m .lengths)) (drop (o .start) t) = rw (← l) at (sym (m .body) ∙ e ∙ o .body) in
+    let d : m .lengths ≡ o .lengths
+    = lengths-told (m .start) (o .start) (drop (m .start) s) (drop (o .start) t) (m .lengths) (o .lengths) (m .count) (o .count) (m .walk) (o .walk) l u in
+    environment-told (length (drop (m .start) s)) [] s t (m .start) (o .start) (m .lengths) (m .count) (omega arith) (m .walk) u ∙ ap (environmentOf t (o .start)) d
+
 -- so all that is in a key is in the contents
 pub same-record-same-key : (s : List ℕ) (r : Record) (t : List ℕ) (q : Record) → Accepts s r → Accepts t q → Same s r t q → keyIn s ≡ keyIn t
 unfolding Same
 same-record-same-key s r t q a b e =
     let m = made s r a in
     let o = made t q b in
-    let l : sum (m .lengths) ≡ sum (o .lengths) = sym (body-long m) ∙ ap (λ (c : Contents). length (bodyIn c blocksSlot)) e ∙ body-long o in
-    let u : take (sum (m .lengths)) (drop (m .start) s) ≡ take (sum (m .lengths)) (drop (o .start) t)
-    = rw (← l) at (sym (m .body) ∙ ap (λ (c : Contents). bodyIn c blocksSlot) e ∙ o .body) in
-    let d : m .lengths ≡ o .lengths
-    = lengths-told (m .start) (o .start) (drop (m .start) s) (drop (o .start) t) (m .lengths) (o .lengths) (m .count) (o .count) (m .walk) (o .walk) l u in
-    let v : environmentOf s (m .start) (m .lengths) ≡ environmentOf t (o .start) (o .lengths)
-    = environment-told (length (drop (m .start) s)) [] s t (m .start) (o .start) (m .lengths) (m .count) (omega arith) (m .walk) u ∙ ap (environmentOf t (o .start)) d in
+    let v = same-environment m o (ap (λ (c : Contents). bodyIn c blocksSlot) e) in
     m .is ∙ ap (λ (c : Contents). keyFrom c (environmentOf s (m .start) (m .lengths))) e ∙ ap (keyFrom (contents t q)) v ∙ sym (o .is)

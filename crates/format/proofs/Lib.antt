@@ -49,6 +49,10 @@ pub mod PathDemands
 pub mod KeyDemands
 pub mod KeyRoom
 pub mod KeySame
+pub mod CodepageLaws
+pub mod MoveLaws
+pub mod MoveRows
+pub mod MoveDemands
 pub mod NamedLaws
 pub mod ProbeLaws
 pub mod AnswerLaws

@@ -4,7 +4,7 @@ use mathlib.Core.List.{List, [], _∷_, _++_}
 use mathlib.Core.Bool.{Bool, true, _&&_}
 use Prim.Native.Nat.{ℕ, _+_}
 use lib.ListN.{length, replicate, set}
-use Rattle.octets.specs.Numbers.{number, numberAt, little}
+use Rattle.octets.specs.Numbers.{number, numberAt, little, sameNumbers}
 use Rattle.octets.specs.Characters.{units, beforeZero}
 use Rattle.octets.specs.Parts.{put}
 use Rattle.format.specs.Numbers.{numberOf, answerNumber, answerValue}
@@ -18,7 +18,7 @@ use Rattle.format.specs.Bodies.{blocksSlot, placed}
 use Rattle.format.specs.Contents.{present, contents}
 use Rattle.format.specs.Writing.{bits, headerBytes, itemsBytes, volumeBytes, networkBytes, infoBytes, stringBytes, canonical, writable, outputOf}
 use Rattle.format.specs.PathWriting.{pathBlock, blocksIn, withBlock, withPath, pathWriting, pathAnswer, pathOutput}
-use Rattle.format.specs.Probes.{answers, sameNumbers, withSection, lent, zeros}
+use Rattle.format.specs.Probes.{answers, withSection, lent, zeros}
 
 -- a record whose blocks are all of the body buffer, and a call over it: signature, texts, room, then number and value of the answer, and the blocks of what is written
 pub record PathRow : Type 0 where

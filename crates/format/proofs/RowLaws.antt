@@ -189,15 +189,15 @@ module _ {B : Type 0} (F : BodyRow → Place → B) (z : B) (gone : (k : BodyKin
   along-present r = along-alike 0 (tableOf (present r)) (tableOf r) (r .places) (present r .places) (present-alike r) refl
 
 -- the bytes at the places
+pub bytes-at : (d : List ℕ) (ps : List Place) (k : ℕ) → getD (map (bytesAt d) ps) k [] ≡ bytesAt d (getD ps k noPlace)
+bytes-at d [] k = refl
+bytes-at d (p ∷ ps) zero = refl
+bytes-at d (p ∷ ps) (suc k) = bytes-at d ps k
+
 pub along-bytes : {B : Type 0} (G : BodyRow → List ℕ → B) (d : List ℕ) (k : ℕ) (bs : List BodyRow) (ps : List Place)
     → along [] G k bs (map (bytesAt d) ps) ≡ along noPlace (λ b p. G b (bytesAt d p)) k bs ps
 along-bytes G d k [] ps = refl
-along-bytes G d k (b ∷ bs) ps = rw (bytes-at ps k, along-bytes G d (k + 1) bs ps)
-  where
-    bytes-at : (ps : List Place) (k : ℕ) → getD (map (bytesAt d) ps) k [] ≡ bytesAt d (getD ps k noPlace)
-    bytes-at [] k = refl
-    bytes-at (p ∷ ps) zero = refl
-    bytes-at (p ∷ ps) (suc k) = bytes-at ps k
+along-bytes G d k (b ∷ bs) ps = rw (bytes-at d ps k, along-bytes G d (k + 1) bs ps)
 
 pub along-contents : {B : Type 0} (G : BodyRow → List ℕ → B) (z : B) → ((k : BodyKind) (x : List ℕ) → G (bodyRow false k) x ≡ z) → (d : List ℕ) (r : Record)
     → along [] G 0 (tableOf (present r)) (contents d r .bodies) ≡ along noPlace (λ b p. G b (bytesAt d p)) 0 (tableOf r) (r .places)

@@ -21,6 +21,8 @@ pub mod Key
 pub mod Listing
 pub mod StoreList
 pub mod StoreWriting
+pub mod Codepage
+pub mod Moving
 pub mod Demands
 pub mod PathWriting
 pub mod Probes

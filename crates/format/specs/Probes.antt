@@ -4,7 +4,7 @@ use mathlib.Core.List.{List, [], _∷_, _++_}
 use mathlib.Core.Bool.{Bool, true, false, _&&_}
 use lib.ListN.{replicate, set}
 use lib.Dec.{eqb}
-use Rattle.octets.specs.Numbers.{little}
+use Rattle.octets.specs.Numbers.{little, sameNumbers}
 use Rattle.format.specs.declared.Record.{Record}
 use Rattle.format.specs.declared.Verdict.{Verdict}
 use Rattle.format.specs.Numbers.{answerNumber, answerValue}
@@ -69,12 +69,6 @@ pub data Probe : Type 0 where
   reads : List ℕ → ℕ → ℕ → Probe
   lists : List ℕ → List Row → Probe
   writes : Record → List ℕ → List ℕ → ℕ → ℕ → List ℕ → Probe
-
-abbrev pub sameNumbers : List ℕ → List ℕ → Bool
-sameNumbers [] [] = true
-sameNumbers [] (y ∷ ys) = false
-sameNumbers (x ∷ xs) [] = false
-sameNumbers (x ∷ xs) (y ∷ ys) = eqb x y && sameNumbers xs ys
 
 abbrev pub rowNumbers : List Row → List ℕ
 rowNumbers [] = []

@@ -146,6 +146,7 @@ pub enum Fault {
     NoTarget,
     Twice,
     Store,
+    NoMap,
 }
 
 // Accepted with the length, or refused with the fault and its position.
@@ -260,6 +261,7 @@ pub fn number_of(f: Fault) -> u8
         Fault::NoTarget => 13,
         Fault::Twice => 14,
         Fault::Store => 15,
+        Fault::NoMap => 16,
     }
 }
 

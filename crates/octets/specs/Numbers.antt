@@ -1,7 +1,9 @@
 -- FORMAT: Bytes and numbers. A number has its lowest byte first.
 use Prim.Native.Nat.{ℕ, zero, suc, _+_, _*_, _/_, _%_, _<_}
 use mathlib.Core.List.{List, [], _∷_}
+use mathlib.Core.Bool.{Bool, true, false, _&&_}
 use lib.ListN.{take, drop, getD}
+use lib.Dec.{eqb}
 
 -- every element is a byte
 pub record Bytes (s : List ℕ) : Type 0 where
@@ -30,3 +32,10 @@ u64At s i = numberAt 8 s i
 unfoldable pub little : ℕ → ℕ → List ℕ
 little zero n = []
 little (suc w) n = n % 256 ∷ little w (n / 256)
+
+-- two rows of numbers are equal, one by one
+abbrev pub sameNumbers : List ℕ → List ℕ → Bool
+sameNumbers [] [] = true
+sameNumbers [] (y ∷ ys) = false
+sameNumbers (x ∷ xs) [] = false
+sameNumbers (x ∷ xs) (y ∷ ys) = eqb x y && sameNumbers xs ys

@@ -5,6 +5,8 @@ use Rattle.octets.proofs.Outcomes.{OneAnswer, OneOutcome}
 use Rattle.scheduler.proofs.herringnet_check as herringnet-check
 use Rattle.scheduler.proofs.herringnet_target as herringnet-target
 use Rattle.scheduler.proofs.herringnet_key as herringnet-key
+use Rattle.scheduler.proofs.herringnet_to_unicode as herringnet-to-unicode
+use Rattle.scheduler.proofs.herringnet_to_bytes as herringnet-to-bytes
 use Rattle.scheduler.proofs.herringnet_section as herringnet-section
 use Rattle.scheduler.proofs.herringnet_read as herringnet-read
 use Rattle.scheduler.proofs.herringnet_write as herringnet-write
@@ -21,6 +23,12 @@ herringnet-target-one-outcome κs a r q s t p o = (p .0 ∙ sym (o .0), p .1 ∙
 
 pub herringnet-key-one-outcome : OneOutcome herringnet-key.ended (λ κs s. now (s .1 .0)) herringnet-key.Reads.Post
 herringnet-key-one-outcome κs a r q s t p o = (p .0 ∙ sym (o .0), p .1 ∙ sym (o .1))
+
+pub herringnet-to-unicode-one-outcome : OneOutcome herringnet-to-unicode.ended (λ κs s. now (s .1 .0)) herringnet-to-unicode.Reads.Post
+herringnet-to-unicode-one-outcome κs a r q s t p o = (p .0 ∙ sym (o .0), p .1 ∙ sym (o .1))
+
+pub herringnet-to-bytes-one-outcome : OneOutcome herringnet-to-bytes.ended (λ κs s. now (s .1 .0)) herringnet-to-bytes.Reads.Post
+herringnet-to-bytes-one-outcome κs a r q s t p o = (p .0 ∙ sym (o .0), p .1 ∙ sym (o .1))
 
 pub herringnet-section-one-outcome : OneAnswer herringnet-section.ended herringnet-section.Reads.Post
 herringnet-section-one-outcome κs a r q s t p o = p ∙ sym o

@@ -8,7 +8,7 @@ use lib.ListN.{length}
 use lib.Dec.{leb}
 use borrow.Author.Tests.{leb-true}
 use Rattle.octets.specs.Numbers.{Bytes}
-use Rattle.format.specs.declared.Fault.the-variants.{Place as PLACE, Unwritable as UNWRITABLE, Room as ROOM, NoTarget as NOTARGET}
+use Rattle.format.specs.declared.Fault.the-variants.{Place as PLACE, Unwritable as UNWRITABLE, Room as ROOM, NoTarget as NOTARGET, NoMap as NOMAP}
 use Rattle.format.specs.declared.Record.{Record}
 use Rattle.format.specs.Numbers.{answerValue}
 use Rattle.format.specs.Tests.{_else_at_, noSection, tests, Outcome, got, refused, andThen}
@@ -20,6 +20,7 @@ use Rattle.format.specs.Writing.{canonical, writable, writing, writeAnswer}
 use Rattle.format.specs.Target.{hasTarget, targetText, target, targetAnswer}
 use Rattle.format.specs.Key.{keyOf, keyBytes, key, keyAnswer, keyIn}
 use Rattle.format.specs.Demands.{Accepts}
+use Rattle.format.specs.Moving.{mapsToUnicode, mapsToBytes, inUnicode, inBytes, moving, toUnicode, toByteStrings, toUnicodeAnswer, toBytesAnswer}
 use Rattle.format.proofs.Holds.{all-writable}
 use Rattle.format.proofs.AcceptedLaws.{shortcut-whole}
 use Rattle.format.proofs.TargetLaws.{text-small}
@@ -85,3 +86,33 @@ write-small r d out =
     go w true true false h = omega arith
     go w true false c h = omega arith
     go w false b c h = omega arith
+
+-- nor is what a move makes
+module _ (s : List ℕ) (room : ℕ) (maps : Contents → Bool) (move : Contents → Contents) where
+  abbrev movedBy : Outcome Sections → Outcome (List ℕ)
+  movedBy o = andThen o (λ c n. moving (maps (contents s (recordOf c))) (move (contents s (recordOf c))) room)
+
+  moved-small : answerValue (verdictOf (movedBy (shortcut s))) ≤ 131073
+  unfolding answerValue moving
+  moved-small = go (shortcut s) refl
+    where
+      made : (m : Contents) (a b c : Bool) → (b ≡ true → length (canonical m) ≤ most)
+          → answerValue (verdictOf (cond a (cond b (cond c (got (canonical m) (length (canonical m))) (refused ROOM nowhere)) (refused UNWRITABLE nowhere)) (refused NOMAP nowhere))) ≤ 131073
+      made m true true true h = omega (arith, h refl)
+      made m true true false h = omega arith
+      made m true false c h = omega arith
+      made m false b c h = omega arith
+
+      go : (o : Outcome Sections) → shortcut s ≡ o → answerValue (verdictOf (movedBy o)) ≤ 131073
+      go (got c n) i =
+          let m = move (contents s (recordOf c)) in
+          made m (maps (contents s (recordOf c))) (writable m) (leb (length (canonical m)) room) (λ e. writable-few m e)
+      go (refused f q) i = omega (arith, positions-small s f q i)
+
+pub unicode-small : (s out : List ℕ) → answerValue (toUnicodeAnswer s out) ≤ 131073
+unfolding toUnicodeAnswer toUnicode
+unicode-small s out = moved-small s (length out) mapsToUnicode inUnicode
+
+pub bytes-small : (s out : List ℕ) → answerValue (toBytesAnswer s out) ≤ 131073
+unfolding toBytesAnswer toByteStrings
+bytes-small s out = moved-small s (length out) mapsToBytes inBytes

@@ -6,6 +6,7 @@ ghost use Rattle.format.specs.Numbers.{answerValue};
 ghost use Rattle.format.specs.Shortcut.{faulted, reading};
 ghost use Rattle.format.specs.Target.{targetAnswer, targetOutput};
 ghost use Rattle.format.specs.Key.{keyAnswer, keyOutput};
+ghost use Rattle.format.specs.Moving.{toUnicodeAnswer, toUnicodeOutput, toBytesAnswer, toBytesOutput};
 ghost use Rattle.format.specs.Listing.{sectionPlace};
 ghost use Rattle.format.specs.StoreList.{storeListAnswer, storeListOutput};
 ghost use Rattle.scheduler.specs.Code.{codeOf, faultCode, sectionCode};
@@ -59,6 +60,24 @@ pub extern "C" fn herringnet_key(s: &[u8], out: &mut [u8]) -> u64
     ensures output { λ _. ⌜ now (out .exit) ≡ keyOutput (now (s .entry)) (now (out .entry)) ⌝ }
 {
     let v = keying::key(s, out);
+    code_of(v)
+}
+
+#[no_mangle]
+pub extern "C" fn herringnet_to_unicode(s: &[u8], out: &mut [u8]) -> u64
+    ensures answer { λ r. ⌜ r ≡ codeOf (toUnicodeAnswer (now (s .entry)) (now (out .entry))) ⌝ }
+    ensures output { λ _. ⌜ now (out .exit) ≡ toUnicodeOutput (now (s .entry)) (now (out .entry)) ⌝ }
+{
+    let v = moving::to_unicode(s, out);
+    code_of(v)
+}
+
+#[no_mangle]
+pub extern "C" fn herringnet_to_bytes(s: &[u8], out: &mut [u8]) -> u64
+    ensures answer { λ r. ⌜ r ≡ codeOf (toBytesAnswer (now (s .entry)) (now (out .entry))) ⌝ }
+    ensures output { λ _. ⌜ now (out .exit) ≡ toBytesOutput (now (s .entry)) (now (out .entry)) ⌝ }
+{
+    let v = moving::to_bytes(s, out);
     code_of(v)
 }
 

@@ -1,4 +1,5 @@
 pub mod CountLaws
 pub mod SizeLaws
 pub mod WholeLaws
+pub mod MeasureLaws
 pub mod OneOutcome

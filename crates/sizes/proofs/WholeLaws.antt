@@ -33,7 +33,7 @@ width : (u : Bool) → length {A = ℕ} (replicate (bytesOf u 1) 0) ≡ bytesOf 
 width true = refl
 width false = refl
 
-kind-length : (k : BodyKind) (x : List ℕ) → length (bodyBytes k x) ≡ length x + beside k
+pub kind-length : (k : BodyKind) (x : List ℕ) → length (bodyBytes k x) ≡ length x + beside k
 unfolding itemsBytes stringBytes
 kind-length itemsKind x = simp (length-append, length-little) (omega arith)
 kind-length (textKind u) x = rw (length-append, width)
@@ -55,7 +55,7 @@ slots-length d k (b ∷ bs) ps e =
     let (h, i) = and-true (leb (kept b p .at + kept b p .len) (length d)) (allInside (length d) (along noPlace kept (k + 1) bs ps)) e in
     rw (slot-length d (b .there) (b .kind) p h, slots-length d (k + 1) bs ps i)
 
-head-if : (b : Bool) (x : List ℕ) {n : ℕ} → length x ≡ n → length (cond b x []) ≡ cond b n 0
+pub head-if : (b : Bool) (x : List ℕ) {n : ℕ} → length x ≡ n → length (cond b x []) ≡ cond b n 0
 head-if true x e = e
 head-if false x e = refl
 

@@ -13,7 +13,7 @@ use Rattle.format.specs.Presence.{itemsThere, infoThere, localThere, net
 use Rattle.format.specs.Volume.{labelLeast}
 use Rattle.format.specs.Network.{networkHead}
 use Rattle.format.specs.Bodies.{BodyKind, itemsKind, textKind, stringKind, blocksKind, BodyRow, itemsSlot, labelSlot, localSlot, netSlot, deviceSlot, netUnicodeSlot, deviceUnicodeSlot, suffixSlot, localUnicodeSlot, suffixUnicodeSlot, blocksSlot, placeIn, along, writtenHead}
-use Rattle.format.specs.Contents.{bytesAt}
+use Rattle.format.specs.Contents.{Contents, bytesAt, bodyIn}
 use Rattle.format.specs.Writing.{endToEnd, ifThere, headerBytes, itemsBytes, textBytes, twoFields, offsetField, labelFields, stringBytes, blocksBytes}
 use Rattle.format.specs.Steps.Lengths.{volumePart, networkPart}
 use Rattle.format.specs.Steps.Shape.{rowAs, rowsFrom}
@@ -36,6 +36,10 @@ slotBytes d b p = rowBytes b (bytesAt d p)
 -- slots from k on
 unfoldable pub slotsBytes : List ℕ → List Place → ℕ → List BodyRow → List ℕ
 slotsBytes d ps k rows = endToEnd (along noPlace (slotBytes d) k rows ps)
+
+-- the same of bodies that stand in a row
+unfoldable pub bodiesBytes : List (List ℕ) → ℕ → List BodyRow → List ℕ
+bodiesBytes xs k rows = endToEnd (along [] rowBytes k rows xs)
 
 -- ---- the heads
 
@@ -124,3 +128,16 @@ flatBytes d q s sizes =
     ++ (ifThere (itemsThere (q .header .flags)) itemsBytes (bytesAt d (placeIn q itemsSlot))
     ++ (cond (infoThere (q .header .flags)) (infoFlat d q s sizes) []
     ++ (slotsBytes d (q .places) 10 (rowsFrom (rowAs stringKind s) 10 5) ++ blocksBytes (bytesAt d (placeIn q blocksSlot)))))
+
+-- the same of contents
+unfoldable pub contentsFlat : Contents → Shape → List ℕ → List ℕ
+contentsFlat c s sizes =
+    headerBytes (c .header)
+    ++ (ifThere (itemsThere (c .header .flags)) itemsBytes (bodyIn c itemsSlot)
+    ++ (cond (infoThere (c .header .flags))
+    (infoHeadBytes (c .link) sizes
+    ++ (cond (localThere (c .link .flags)) (volumeHeadBytes (c .link) sizes) []
+    ++ (bodiesBytes (c .bodies) 1 (rowsFrom (rowAs textKind s) 1 2)
+    ++ (cond (networkThere (c .link .flags)) (networkHeadBytes (c .link) sizes) [] ++ bodiesBytes (c .bodies) 3 (rowsFrom (rowAs textKind s) 3 7)))))
+    []
+    ++ (bodiesBytes (c .bodies) 10 (rowsFrom (rowAs stringKind s) 10 5) ++ blocksBytes (bodyIn c blocksSlot))))

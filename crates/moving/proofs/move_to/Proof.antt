@@ -1,0 +1,61 @@
+-- A refused reading is the answer; one law for each way out after it.
+use Rattle.octets.specs.Numbers.{Bytes}
+use Rattle.moving.proofs.CallLaws.{move-left, is-read, is-inside, move-none, move-maps, move-made}
+use native.Mathlib.Omega.{arith}
+use borrow.Author.Needs.{needs}
+use Rattle.moving.proofs.move_to.Statement.{statement}
+use Rattle.moving.proofs.move_to.Tie as tie
+
+read-requires : tie.Need-read-requires
+read-requires c κs = search needs
+
+enum-told : tie.Need-enum-told
+enum-told c = search needs
+
+enum-told-2 : tie.Need-enum-told-2
+enum-told-2 c = search needs
+
+returns : tie.Need-returns
+returns c =
+    let start = c .before .before .before .before .before in
+    move-left (start .args .unicode) (start .args .s .now) (start .args .out .now) (c .before .before .read .ensures .0) (c .enum-told2 .given .1)
+
+maps-requires : tie.Need-maps-requires
+maps-requires c κs =
+    let start = c .before .before .before .before .before .before in
+    is-inside (is-read (start .args .unicode) (start .args .s .now) (start .args .out .now) (c .before .before .before .read .ensures .0) (c .before .enum-told .given .1) (record { at = λ i. omega (arith, c .before .before .before .before .before .shared-slice-known .given i) }))
+
+returns-2 : tie.Need-returns-2
+returns-2 c =
+    let start = c .before .before .before .before .before .before .before .before in
+    move-none (start .args .unicode) (start .args .s .now) (start .args .out .now) (c .before .before .before .before .before .read .ensures .0) (c .before .before .before .enum-told .given .1) (record { at = λ i. omega (arith, c .before .before .before .before .before .before .before .shared-slice-known .given i) }) (c .before .maps .ensures) (c .if1 .taken)
+
+write-moved-requires : tie.Need-write-moved-requires
+write-moved-requires c κs =
+    let start = c .before .before .before .before .before .before .before .before .before in
+    let bytes : Bytes (start .args .s .now) = record { at = λ i. omega (arith, c .before .before .before .before .before .before .before .before .shared-slice-known .given i) } in
+    (is-read (start .args .unicode) (start .args .s .now) (start .args .out .now) (c .before .before .before .before .before .before .read .ensures .0) (c .before .before .before .before .enum-told .given .1) bytes, move-maps (start .args .unicode) (start .args .s .now) (start .args .out .now) (c .before .before .before .before .before .before .read .ensures .0) (c .before .before .before .before .enum-told .given .1) bytes (c .before .before .maps .ensures) (c .before .if1 .left))
+
+same-length : tie.Need-same-length
+same-length c = search needs
+
+returns-3 : tie.Need-returns-3
+returns-3 c =
+    let start = c .before .before .before .before .before .before .before .before .before .before .before .before in
+    let bytes : Bytes (start .args .s .now) = record { at = λ i. omega (arith, c .before .before .before .before .before .before .before .before .before .before .before .shared-slice-known .given i) } in
+    let maps = move-maps (start .args .unicode) (start .args .s .now) (start .args .out .now) (c .before .before .before .before .before .before .before .before .before .read .ensures .0) (c .before .before .before .before .before .before .before .enum-told .given .1) bytes (c .before .before .before .before .before .maps .ensures) (c .before .before .before .before .if1 .left) in
+    move-made (start .args .unicode) (start .args .s .now) (start .args .out .now) (c .before .before .before .before .before .before .before .before .before .read .ensures .0) (c .before .before .before .before .before .before .before .enum-told .given .1) bytes maps (c .before .before .write-moved .ensures .0) (c .before .before .write-moved .ensures .1)
+
+pub move-to-spec : {M : Type 1} → statement M
+move-to-spec =
+    tie.close
+    (tie.spec
+    read-requires
+    enum-told
+    enum-told-2
+    returns
+    maps-requires
+    returns-2
+    write-moved-requires
+    same-length
+    returns-3)

@@ -1,0 +1,186 @@
+// A shortcut of byte strings moved to one of Unicode, and home again (FORMAT: Moving). `unicode` tells the way.
+pub mod pieces;
+pub mod records;
+
+use crate::pieces::put_info;
+use crate::pieces::put_strings;
+use format::Fault;
+use format::Place;
+use format::Record;
+use format::Shape;
+use format::Verdict;
+ghost use mathlib.Core.Path.{_≡_};
+ghost use mathlib.Core.List.{map};
+ghost use mathlib.Core.Bool.{true};
+ghost use Prim.Native.Nat.{_≤_};
+ghost use lib.ListN.{length};
+ghost use Rattle.octets.specs.Steps.Puts.{Wrote};
+ghost use Rattle.format.specs.Numbers.{Numbered};
+ghost use Rattle.format.specs.Shortcut.{verdictOf};
+ghost use Rattle.format.specs.Contents.{bytesAt, bodiesOf, contents};
+ghost use Rattle.format.specs.Writing.{every, outputOf};
+ghost use Rattle.format.specs.Codepage.{isTranslation};
+ghost use Rattle.format.specs.Moving.{strings, moving, toUnicode, toByteStrings, toUnicodeAnswer, toUnicodeOutput, toBytesAnswer, toBytesOutput, MovesToUnicode, MovesToBytes};
+ghost use Rattle.format.specs.Steps.Lengths.{writtenRow, writtenLength};
+ghost use Rattle.format.specs.Steps.Shape.{shapeOf};
+ghost use Rattle.canonical.specs.Steps.Puts.{InBuffer};
+ghost use Rattle.moving.specs.Steps.Moves.{translatable, asked, textsMap, maps, moved, call, movedRecord, Inside, Going, ReadFrom};
+ghost use Rattle.moving.specs.Steps.Pieces.{movedFlat};
+
+// ---- whether it can be moved
+
+// Each character of the body has one to move to.
+fn translatable(d: &[u8], b: Place, unicode: bool) -> bool
+    requires { ⌜ InBuffer (now d) b ⌝ }
+    ensures { λ r. ⌜ r ≡ translatable unicode (bytesAt (now (d .entry)) b) ⌝ }
+{
+    let from = b.at;
+    let n = b.len;
+    let x = octets::part(d, from, n);
+    if unicode {
+        return codepage::texts::all_assigned(x);
+    }
+    codepage::texts::all_in_table(x)
+}
+
+// The second body is the translation of the first.
+fn translated(d: &[u8], text: Place, wide: Place) -> bool
+    requires { ⌜ InBuffer (now d) text × InBuffer (now d) wide ⌝ }
+    ensures { λ r. ⌜ r ≡ isTranslation (bytesAt (now (d .entry)) text) (bytesAt (now (d .entry)) wide) ⌝ }
+{
+    let x = octets::part(d, text.at, text.len);
+    let y = octets::part(d, wide.at, wide.len);
+    codepage::texts::is_translation(x, y)
+}
+
+fn strings_map(d: &[u8], r: Record, unicode: bool) -> bool
+    requires { ⌜ Inside (now d) (r .places) ⌝ }
+    ensures { λ b. ⌜ b ≡ every (map (translatable unicode) (strings (bodiesOf (now (d .entry)) r))) ⌝ }
+{
+    let row = r.places;
+    translatable(d, row[10], unicode)
+        & translatable(d, row[11], unicode)
+        & translatable(d, row[12], unicode)
+        & translatable(d, row[13], unicode)
+        & translatable(d, row[14], unicode)
+}
+
+// LinkInfo's texts: those that will be translated, or those that will be dropped.
+fn texts_map(d: &[u8], r: Record, unicode: bool) -> bool
+    requires { ⌜ Inside (now d) (r .places) ⌝ }
+    ensures { λ b. ⌜ b ≡ textsMap unicode (bodiesOf (now (d .entry)) r) ⌝ }
+{
+    let row = r.places;
+    if unicode {
+        if !records::gains(r) {
+            return true;
+        }
+        return translatable(d, row[format::LOCAL], true)
+            & translatable(d, row[format::SUFFIX], true);
+    }
+    if !r.link.long {
+        return true;
+    }
+    translated(d, row[format::LOCAL], row[format::LOCAL_UNICODE])
+        & translated(d, row[format::SUFFIX], row[format::SUFFIX_UNICODE])
+}
+
+// Flag bit 7 is not yet as asked.
+fn asked(unicode: bool, flags: u32) -> bool
+    ensures { λ b. ⌜ b ≡ asked unicode flags ⌝ }
+{
+    let is = format::strings_unicode(flags);
+    if unicode { !is } else { is }
+}
+
+fn maps(d: &[u8], r: Record, unicode: bool) -> bool
+    requires { ⌜ Inside (now d) (r .places) ⌝ }
+    ensures { λ b. ⌜ b ≡ maps unicode (bodiesOf (now (d .entry)) r) ⌝ }
+{
+    asked(unicode, r.header.flags) & strings_map(d, r, unicode) & texts_map(d, r, unicode)
+}
+
+// ---- the result
+
+// The sections in file order. `q` has the moved lengths.
+fn put_moved(
+    out: &mut [u8],
+    unicode: bool,
+    r: Record,
+    q: Record,
+    s: Shape,
+    sizes: [u32; 16],
+    d: &[u8],
+) -> usize
+    requires going { ⌜ Going unicode (now d) (now out) r ⌝ }
+    requires lengths { ⌜ q ≡ movedRecord unicode r ⌝ }
+    requires shape { ⌜ s ≡ shapeOf (q .header .flags) (q .link) ⌝ }
+    requires sized { ⌜ sizes ≡ writtenRow q ⌝ }
+    ensures written { λ p. ⌜ Wrote (now (out .entry)) 0
+        (movedFlat unicode (now (d .entry)) r q s sizes)
+        (writtenLength q) (now (out .exit)) p ⌝ }
+{
+    let flags = q.header.flags;
+    let row = r.places;
+    let p = canonical::put_header(out, 0, q.header);
+    let p = canonical::put_items_if(format::items_there(flags), out, p, d, row[format::ITEMS]);
+    let p = put_info(format::info_there(flags), out, p, r, q, s, sizes, d);
+    let p = put_strings(out, p, row, s, d, unicode);
+    canonical::put_blocks(out, p, d, row[format::BLOCKS])
+}
+
+// The length alone decides whether it can be written, since all that was read could be.
+fn write_moved(unicode: bool, r: Record, d: &[u8], out: &mut [u8]) -> Verdict
+    requires read { ⌜ ReadFrom (now d) r ⌝ }
+    requires maps { ⌜ maps unicode (contents (now d) r) ≡ true ⌝ }
+    ensures answer { λ v. ⌜ v ≡ verdictOf (moving true (moved unicode (contents (now (d .entry)) r)) (length (now (out .entry)))) ⌝ }
+    ensures output { λ _. ⌜ now (out .exit) ≡ outputOf (moving true (moved unicode (contents (now (d .entry)) r)) (length (now (out .entry)))) (now (out .entry)) ⌝ }
+{
+    let q = records::moved(unicode, r);
+    let s = format::shape_of(q.header.flags, q.link);
+    let sizes = sizes::sizes_of(q, s);
+    let end = sizes::end_of(q, sizes);
+    if 65536 < end {
+        return Verdict::Refused(Fault::Unwritable, 0);
+    }
+    if out.len() < end as usize {
+        return Verdict::Refused(Fault::Room, 0);
+    }
+    Verdict::Accepted(put_moved(out, unicode, r, q, s, sizes, d))
+}
+
+// ---- the calls
+
+fn move_to(unicode: bool, s: &[u8], out: &mut [u8]) -> Verdict
+    ensures answer { λ v. ⌜ v ≡ verdictOf (call unicode (now (s .entry)) (length (now (out .entry)))) ⌝ }
+    ensures output { λ _. ⌜ now (out .exit) ≡ outputOf (call unicode (now (s .entry)) (length (now (out .entry)))) (now (out .entry)) ⌝ }
+{
+    let g = reader::read(s);
+    let v = g.verdict;
+    let Verdict::Accepted(_) = v else {
+        return v;
+    };
+    let r = g.held;
+    if !maps(s, r, unicode) {
+        return Verdict::Refused(Fault::NoMap, 0);
+    }
+    write_moved(unicode, r, s, out)
+}
+
+pub fn to_unicode(s: &[u8], out: &mut [u8]) -> Verdict
+    ensures answer { λ v. ⌜ v ≡ toUnicodeAnswer (now (s .entry)) (now (out .entry)) ⌝ }
+    ensures output { λ _. ⌜ now (out .exit) ≡ toUnicodeOutput (now (s .entry)) (now (out .entry)) ⌝ }
+    ensures numbers { λ v. ⌜ Numbered v (toUnicode (now (s .entry)) (length (now (out .entry)))) ⌝ }
+    ensures moves { λ v. ⌜ MovesToUnicode (now (s .entry)) (now (out .entry)) v (now (out .exit)) ⌝ }
+{
+    move_to(true, s, out)
+}
+
+pub fn to_bytes(s: &[u8], out: &mut [u8]) -> Verdict
+    ensures answer { λ v. ⌜ v ≡ toBytesAnswer (now (s .entry)) (now (out .entry)) ⌝ }
+    ensures output { λ _. ⌜ now (out .exit) ≡ toBytesOutput (now (s .entry)) (now (out .entry)) ⌝ }
+    ensures numbers { λ v. ⌜ Numbered v (toByteStrings (now (s .entry)) (length (now (out .entry)))) ⌝ }
+    ensures moves { λ v. ⌜ MovesToBytes (now (s .entry)) (now (out .entry)) v (now (out .exit)) ⌝ }
+{
+    move_to(false, s, out)
+}
