@@ -48,7 +48,8 @@ extern "C" {
 #define HERRINGNET_LONGEST 65536
 
 /* The numbers of answers (FORMAT: Numbers). A position is the first byte of the field found wrong, 65,536 for LONG, the
- * first byte after the terminal block for TRAIL, and 0 from PLACE to NOTARGET and from 201 on (FORMAT: Positions). */
+ * first byte after the terminal block for TRAIL, and 0 from PLACE to NOTARGET, for NOMAP and from 201 on (FORMAT:
+ * Positions). */
 enum herringnet_number {
     HERRINGNET_OK = 0,
     HERRINGNET_LONG = 1,        /* over 65,536 bytes */
@@ -66,6 +67,7 @@ enum herringnet_number {
     HERRINGNET_NOTARGET = 13,   /* no target text */
     HERRINGNET_TWICE = 14,      /* a block has the known signature of one before it */
     HERRINGNET_STORE = 15,      /* the property store of a block */
+    HERRINGNET_NOMAP = 16,      /* a text cannot be moved, or flag bit 7 is already as asked */
     HERRINGNET_FIELDS = 201,    /* fields are not 49 numbers, or rows not whole rows; tested first */
     HERRINGNET_VALUES = 202     /* a number of fields does not fit its field; tested next */
 };
@@ -90,6 +92,7 @@ static inline const char *herringnet_name(unsigned number)
     case HERRINGNET_NOTARGET: return "NOTARGET";
     case HERRINGNET_TWICE: return "TWICE";
     case HERRINGNET_STORE: return "STORE";
+    case HERRINGNET_NOMAP: return "NOMAP";
     case HERRINGNET_FIELDS: return "FIELDS";
     case HERRINGNET_VALUES: return "VALUES";
     default: return "OTHER";
@@ -188,6 +191,17 @@ uint64_t herringnet_target(const uint8_t *shortcut, size_t shortcut_len, uint8_t
  * accepted shortcuts have equal keys exactly if all this is equal. Success: the key's length, which is never more than
  * shortcut_len. Refusals: as herringnet_check, then ROOM. */
 uint64_t herringnet_key(const uint8_t *shortcut, size_t shortcut_len, uint8_t *out, size_t out_len);
+
+/* Moves a shortcut without bit 7 of LINK_FLAGS to one with it, into out: the strings are translated by windows-1252,
+ * and a LinkInfo with the short head gets the long one, with both its paths in Unicode. The rest is as it was. Success:
+ * the length of the result. Refusals: as herringnet_check, then NOMAP for a byte that is not assigned or a shortcut
+ * with the bit, then UNWRITABLE for a result over 65,536 bytes, then ROOM. */
+uint64_t herringnet_to_unicode(const uint8_t *shortcut, size_t shortcut_len, uint8_t *out, size_t out_len);
+
+/* Moves a shortcut with that bit home to one without it. Its Unicode local path and suffix are dropped. Refusals: as
+ * herringnet_check, then NOMAP for a unit that is not in the table, a dropped text that is not the translation of its
+ * byte twin or a shortcut without the bit, then UNWRITABLE, then ROOM. */
+uint64_t herringnet_to_bytes(const uint8_t *shortcut, size_t shortcut_len, uint8_t *out, size_t out_len);
 
 /* Says where a section stands, all of it as listed: HERRINGNET_START and HERRINGNET_LENGTH of the answer. block is the
  * number of a block, from 0, and looked at for that name alone. Never refuses: what is absent, stands in a refused

@@ -24,6 +24,9 @@ const COPY_SETTING: &str = "glibc.cpu.x86_rep_movsb_threshold=1000000000";
 /// A shortcut with all that the calls need.
 struct Case {
     shortcut: Vec<u8>,
+    /// The shortcut with strings of bytes and with Unicode ones; empty where it cannot be moved.
+    in_bytes: Vec<u8>,
+    in_unicode: Vec<u8>,
     record: [u64; FIELDS],
     fields: [u64; FIELDS],
     out: Vec<u8>,
@@ -38,7 +41,7 @@ struct Call {
     independent: Side,
 }
 
-const CALLS: [Call; 7] = [
+const CALLS: [Call; 9] = [
     Call {
         name: "check",
         proved: |case| proved::check(&case.shortcut),
@@ -80,6 +83,16 @@ const CALLS: [Call; 7] = [
             independent::boundary_path_block(&case.record, &case.shortcut, ENVIRONMENT, TEXT, UNICODE, &mut case.out)
         },
     },
+    Call {
+        name: "to_unicode",
+        proved: |case| proved::to_unicode(&case.in_bytes, &mut case.out),
+        independent: |case| independent::boundary_to_unicode(&case.in_bytes, &mut case.out),
+    },
+    Call {
+        name: "to_bytes",
+        proved: |case| proved::to_bytes(&case.in_unicode, &mut case.out),
+        independent: |case| independent::boundary_to_bytes(&case.in_unicode, &mut case.out),
+    },
 ];
 
 /// The path block that is put in.
@@ -92,12 +105,32 @@ impl Case {
         let shortcut = shapes::shape(shape).unwrap_or_else(|| stop("no such shape"));
         let mut record = [0; FIELDS];
         independent::boundary_read(&shortcut, &mut record);
-        Case { shortcut, record, fields: [0; FIELDS], out: vec![0; LIMIT] }
+        let [in_bytes, in_unicode] = both_kinds(&shortcut);
+        Case { shortcut, in_bytes, in_unicode, record, fields: [0; FIELDS], out: vec![0; LIMIT] }
     }
 
-    /// A refused shortcut has no record to write.
+    /// A refused shortcut has no record to write, and not all can be moved.
     fn can(&self, call: &Call) -> bool {
-        !["write", "path_block"].contains(&call.name) || independent::check(&self.shortcut).is_ok()
+        match call.name {
+            "write" | "path_block" => independent::check(&self.shortcut).is_ok(),
+            "to_unicode" | "to_bytes" => !self.in_unicode.is_empty(),
+            _ => true,
+        }
+    }
+}
+
+/// A shortcut with strings of bytes and what it is in Unicode, if it can be moved.
+fn both_kinds(shortcut: &[u8]) -> [Vec<u8>; 2] {
+    let moved = |to: fn(&[u8], &mut [u8]) -> u64, shortcut: &[u8]| {
+        let mut out = vec![0; LIMIT];
+        let answer = to(shortcut, &mut out);
+        out.truncate((answer >> 8) as usize);
+        (answer & 0xFF == 0).then_some(out)
+    };
+    let home = moved(independent::boundary_to_bytes, shortcut).unwrap_or_else(|| shortcut.to_vec());
+    match moved(independent::boundary_to_unicode, &home) {
+        Some(there) => [home, there],
+        None => [Vec::new(), Vec::new()],
     }
 }
 
@@ -120,6 +153,9 @@ fn count_calls(shape: &str, call: &str, count: &str, side: &str) {
     let mut case = Case::new(shape);
     let call = CALLS.iter().find(|known| known.name == call);
     let call = call.unwrap_or_else(|| stop("no such call"));
+    if !case.can(call) {
+        stop("this shape cannot be called so");
+    }
     let side = match side {
         "--proved" => call.proved,
         "--independent" => call.independent,
@@ -208,7 +244,7 @@ fn tables() {
     let machine = if emulated { "under emulation" } else { "on the machine itself" };
     println!("Run {}; {} repeats, in each the quickest of {} turns.", machine, REPEATS, TURNS);
     println!("Ratio = independent time / proved time: at least 1.0 where the proved code is as fast.");
-    println!("Shapes `overlap` and `unended` are refused, so nothing of them is written.");
+    println!("Shapes `overlap` and `unended` are refused, so nothing of them is written or moved.");
     if emulated && !copies_as_on_a_machine() {
         println!("Emulation makes the C library's long copies very slow, and so the independent side's");
         println!("`write`, `target` and `key`; for fair figures set GLIBC_TUNABLES={}.", COPY_SETTING);
@@ -259,7 +295,7 @@ fn rows(shape: &str) {
 fn per_byte(shape: &str) {
     let mut cases = [4, 16, 64].map(|size| Case::new(&format!("{}-{}", shape, size)));
     for call in CALLS {
-        if !cases[0].can(&call) {
+        if !cases.iter().all(|case| case.can(&call)) {
             continue;
         }
         let columns: Vec<String> = cases

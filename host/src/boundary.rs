@@ -1,4 +1,4 @@
-//! The ten proved functions, as they stand in the archive.
+//! The twelve proved functions, as they stand in the archive.
 //!
 //! Every answer is one number (FORMAT: C numbers): its number, 0 for success, + 256 × a value, which is the length
 //! of a success or the position of a refusal. A refusal changes no byte of `out` and no number of `fields`. The other
@@ -19,6 +19,12 @@ extern "C" {
 
     // pub extern "C" fn herringnet_key(s: &[u8], out: &mut [u8]) -> u64
     fn herringnet_key(s: *const u8, s_len: usize, out: *mut u8, out_len: usize) -> u64;
+
+    // pub extern "C" fn herringnet_to_unicode(s: &[u8], out: &mut [u8]) -> u64
+    fn herringnet_to_unicode(s: *const u8, s_len: usize, out: *mut u8, out_len: usize) -> u64;
+
+    // pub extern "C" fn herringnet_to_bytes(s: &[u8], out: &mut [u8]) -> u64
+    fn herringnet_to_bytes(s: *const u8, s_len: usize, out: *mut u8, out_len: usize) -> u64;
 
     // pub extern "C" fn herringnet_section(s: &[u8], name: u32, block: usize) -> u64
     fn herringnet_section(s: *const u8, s_len: usize, name: u32, block: usize) -> u64;
@@ -59,7 +65,7 @@ extern "C" {
     ) -> u64;
 }
 
-// In all ten calls pointer and length come from one slice, and a slice that is written to is borrowed by
+// In all twelve calls pointer and length come from one slice, and a slice that is writtwelve to is borrowed by
 // nobody else: that is all that the functions need, since they have no other condition.
 
 /// The verdict on a shortcut; the value of a success is its length.
@@ -81,6 +87,16 @@ pub fn target(shortcut: &[u8], out: &mut [u8]) -> u64 {
 /// Puts the cache key at the front of `out`; the value of a success is its length.
 pub fn key(shortcut: &[u8], out: &mut [u8]) -> u64 {
     unsafe { herringnet_key(shortcut.as_ptr(), shortcut.len(), out.as_mut_ptr(), out.len()) }
+}
+
+/// Moves a shortcut of byte strings to Unicode, into the front of `out`; the value of a success is the length.
+pub fn to_unicode(shortcut: &[u8], out: &mut [u8]) -> u64 {
+    unsafe { herringnet_to_unicode(shortcut.as_ptr(), shortcut.len(), out.as_mut_ptr(), out.len()) }
+}
+
+/// Moves a shortcut of Unicode strings to bytes, into the front of `out`; the value of a success is the length.
+pub fn to_bytes(shortcut: &[u8], out: &mut [u8]) -> u64 {
+    unsafe { herringnet_to_bytes(shortcut.as_ptr(), shortcut.len(), out.as_mut_ptr(), out.len()) }
 }
 
 /// Where a section stands: the value is its start + 65,537 × its length, 0 for one that is not there.

@@ -23,6 +23,7 @@ pub mod show;
 mod spot;
 pub mod store;
 pub mod text;
+mod unmapped;
 mod unwritable;
 
 pub use path::{PathKind, PathTexts};
@@ -32,12 +33,13 @@ pub use section::{listed, listing, section, sections, Section, SectionName};
 pub use spot::{Spot, WrongField};
 pub use store::Store;
 pub use text::{StringName, Text};
+pub use unmapped::{unmapped, Unmapped};
 pub use unwritable::Cause;
 
 use refusal::answer;
 
 /// The requests whose rules this package and its archive follow; docs/requests of the repository has a note of each.
-pub const REQUESTS: [&str; 8] = ["01", "02", "03", "04", "05", "06", "07", "08"];
+pub const REQUESTS: [&str; 9] = ["01", "02", "03", "04", "05", "06", "07", "08", "09"];
 
 /// The SHA-256 of the archive that is linked, in hex.
 pub const ARCHIVE_DIGEST: &str = env!("HERRINGNET_DIGEST");
@@ -125,4 +127,58 @@ pub fn key(shortcut: &[u8]) -> Result<Vec<u8>, Refusal> {
 /// `out`.
 pub fn key_into(shortcut: &[u8], out: &mut [u8]) -> Result<usize, Refusal> {
     answer(boundary::key(shortcut, out))
+}
+
+/// Moves a shortcut without LinkFlags bit 7 to one with it: its strings are translated by windows-1252, and a
+/// LinkInfo with the short head gets the long one, with both its paths in Unicode. The rest is as it was.
+///
+/// # Errors
+///
+/// As [`check`], then [`Fault::NoMap`] for a byte that is not assigned or a shortcut with the bit, then
+/// [`Fault::Unwritable`] if the result would be too long. [`unmapped`] says what stands against the move.
+///
+/// ```
+#[doc = include_str!("../examples/moves.rs")]
+/// ```
+pub fn to_unicode(shortcut: &[u8]) -> Result<Vec<u8>, Refusal> {
+    moved(shortcut, to_unicode_into)
+}
+
+/// Puts the shortcut that [`to_unicode`] makes at the front of `out`, and gives its length. The rest of `out` stays as
+/// it is.
+///
+/// # Errors
+///
+/// As [`to_unicode`], then [`Fault::Room`]. A refusal changes no byte of `out`.
+pub fn to_unicode_into(shortcut: &[u8], out: &mut [u8]) -> Result<usize, Refusal> {
+    answer(boundary::to_unicode(shortcut, out))
+}
+
+/// Moves a shortcut with LinkFlags bit 7 home to one without it: its strings are translated back by windows-1252, and
+/// LinkInfo loses its Unicode local path and suffix, which have to be the translation of their byte twins.
+///
+/// # Errors
+///
+/// As [`check`], then [`Fault::NoMap`] for a unit that is not in the table, a Unicode text that differs or a shortcut
+/// without the bit. The example of [`to_unicode`] has both ways.
+pub fn to_bytes(shortcut: &[u8]) -> Result<Vec<u8>, Refusal> {
+    moved(shortcut, to_bytes_into)
+}
+
+/// Puts the shortcut that [`to_bytes`] makes at the front of `out`, and gives its length. The rest of `out` stays as it
+/// is.
+///
+/// # Errors
+///
+/// As [`to_bytes`], then [`Fault::Room`]. A refusal changes no byte of `out`.
+pub fn to_bytes_into(shortcut: &[u8], out: &mut [u8]) -> Result<usize, Refusal> {
+    answer(boundary::to_bytes(shortcut, out))
+}
+
+/// What a move makes: never longer than the longest shortcut, and so never short of room there.
+fn moved(shortcut: &[u8], into: fn(&[u8], &mut [u8]) -> Result<usize, Refusal>) -> Result<Vec<u8>, Refusal> {
+    let mut out = vec![0; LONGEST];
+    let length = into(shortcut, &mut out)?;
+    out.truncate(length);
+    Ok(out)
 }

@@ -1,5 +1,5 @@
 //! The blocks that hold a path, as bytes and as Unicode (FORMAT: Path blocks put in).
-use crate::text::{to_windows_1252, Misfit, Text};
+use crate::text::{to_windows_1252, two_bytes_each, Misfit, Text};
 use crate::unwritable::Cause;
 
 /// The kinds of block that hold a path in two texts.
@@ -70,8 +70,7 @@ impl PathTexts {
 
     /// These bytes, and a `str` in Unicode.
     pub fn beside(bytes: Vec<u8>, text: &str) -> PathTexts {
-        let unicode = text.encode_utf16().flat_map(u16::to_le_bytes).collect();
-        PathTexts { bytes, unicode }
+        PathTexts { bytes, unicode: two_bytes_each(text.encode_utf16()) }
     }
 
     /// The texts of a block of such a kind, up to their zeros.

@@ -37,6 +37,8 @@ pub enum Fault {
     Twice,
     /// 15: the property store of a block.
     Store,
+    /// 16: a text cannot be moved, or flag bit 7 is already as asked.
+    NoMap,
     /// 201, of the boundary alone: the slice of fields has not 49 numbers.
     Fields,
     /// 202, of the boundary alone: a field's number does not fit its field.
@@ -46,7 +48,7 @@ pub enum Fault {
 }
 
 /// Number, name and reason of every fault that has a name.
-const TABLE: [(Fault, u8, &str, &str); 17] = [
+const TABLE: [(Fault, u8, &str, &str); 18] = [
     (Fault::Long, 1, "LONG", "it has more than 65,536 bytes"),
     (Fault::Cut, 2, "CUT", "it is cut off inside a field or a part"),
     (Fault::Magic, 3, "MAGIC", "header size or class identifier is not that of a shortcut"),
@@ -62,6 +64,7 @@ const TABLE: [(Fault, u8, &str, &str); 17] = [
     (Fault::NoTarget, 13, "NOTARGET", "it has no target text"),
     (Fault::Twice, 14, "TWICE", "a known block stands there twice"),
     (Fault::Store, 15, "STORE", "the property store of a block is wrong"),
+    (Fault::NoMap, 16, "NOMAP", "a text cannot be moved, or it is already as asked"),
     (Fault::Fields, 201, "FIELDS", "a record has 49 numbers"),
     (Fault::Values, 202, "VALUES", "a number does not fit its field"),
 ];

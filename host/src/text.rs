@@ -62,7 +62,7 @@ impl<'a> Text<'a> {
     /// The first character that windows-1252 lacks, for a text of bytes. A Unicode text has place for all.
     pub fn encode(unicode: bool, text: &str) -> Result<Text<'static>, Misfit> {
         match unicode {
-            true => Ok(Text::Unicode(text.encode_utf16().flat_map(u16::to_le_bytes).collect())),
+            true => Ok(Text::Unicode(two_bytes_each(text.encode_utf16()).into())),
             false => Ok(Text::Byte(to_windows_1252(text)?.into())),
         }
     }
@@ -111,6 +111,11 @@ impl fmt::Display for Misfit {
 
 impl Error for Misfit {}
 
+/// Units as they stand in a file.
+pub(crate) fn two_bytes_each(units: impl Iterator<Item = u16>) -> Vec<u8> {
+    units.flat_map(u16::to_le_bytes).collect()
+}
+
 /// What windows-1252 has from byte 80 to 9F; the five bytes without a character have U+0000 here.
 const HIGH: [char; 32] = [
     '€', '\0', '‚', 'ƒ', '„', '…', '†', '‡', 'ˆ', '‰', 'Š', '‹', 'Œ', '\0', 'Ž', '\0', //
@@ -139,6 +144,16 @@ fn from_windows_1252(byte: u8) -> Option<char> {
         0x80..=0x9F => Some(HIGH[usize::from(byte) - 0x80]).filter(|&high| high != '\0'),
         _ => Some(char::from(byte)),
     }
+}
+
+/// The unit of a byte, by windows-1252.
+pub(crate) fn unit_of_byte(byte: u8) -> Option<u16> {
+    from_windows_1252(byte).map(|character| character as u16)
+}
+
+/// The byte of a unit, by windows-1252.
+pub(crate) fn byte_of_unit(unit: u16) -> Option<u8> {
+    char::from_u32(unit.into()).and_then(byte_of)
 }
 
 #[cfg(test)]

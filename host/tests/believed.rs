@@ -13,6 +13,7 @@ const CALLS: &[(&str, &[&str])] = &[
     ("target", &["target"]),
     ("keying", &["key"]),
     ("storing", &["store_list", "store_name", "store_raw", "store_write"]),
+    ("moving", &["to_unicode", "to_bytes"]),
     ("writer", &["write"]),
     ("pathing", &["path_block"]),
     ("rewriting", &["rewrite"]),

@@ -236,6 +236,49 @@ fn rewrite_writes_the_canonical_form() {
 }
 
 #[test]
+fn move_goes_home_and_there_again() {
+    let s = Shortcuts::new("move");
+    s.run(&["move", "--to-bytes", "-o", "home.lnk", "a.lnk"]).is(0, "home.lnk: 445 bytes, from 459\n", "");
+    s.run(&["move", "--to-unicode", "--in-place", "home.lnk"]).is(0, "home.lnk: 497 bytes, from 445\n", "");
+    s.run(&["move", "--to-bytes", "--suffix", ".b", "home.lnk"]).is(0, "home.lnk.b: 445 bytes, from 497\n", "");
+    let mut unicode = z();
+    unicode[20] = 0x80;
+    assert_eq!(s.run(&["move", "--to-unicode", "loose.lnk"]).out, unicode);
+    assert_eq!(s.run(&["move", "--to-unicode", "a.lnk", "z.lnk"]).status, 2);
+    assert_eq!(s.run(&["move", "z.lnk"]).status, 2);
+}
+
+#[test]
+fn move_says_what_stands_against_it() {
+    let s = Shortcuts::new("move_refused");
+    let with_arguments = |flags: u8, section: &[u8]| {
+        let mut shortcut = z();
+        shortcut[20] = flags;
+        shortcut.splice(76..76, section.iter().copied());
+        shortcut
+    };
+    s.put("byte.lnk", &with_arguments(0x20, &[2, 0, 0x41, 0x81]));
+    s.put("unit.lnk", &with_arguments(0xA0, &[2, 0, 0x41, 0, 0x81, 0]));
+    let mut other = Record::read(SAMPLE).unwrap();
+    let info = other.info.as_mut().unwrap();
+    info.unicode = Some(InfoUnicode { local: b"C\0", suffix: b"" });
+    s.put("other.lnk", &other.to_vec().unwrap());
+    let rows: [(&str, &str, &str); 5] = [
+        ("--to-unicode", "a.lnk", "LinkFlags bit 7 is set already"),
+        ("--to-bytes", "z.lnk", "LinkFlags bit 7 is clear already"),
+        ("--to-unicode", "byte.lnk", "arguments: the byte 0x81 at 79 is not assigned in windows-1252"),
+        ("--to-bytes", "unit.lnk", "arguments: the unit 0x0081 at 80 is not in windows-1252"),
+        ("--to-bytes", "other.lnk", "Unicode local path: the text at 335 is not the translation of the byte text"),
+    ];
+    for (way, file, why) in rows {
+        let reason = "refused 16 NOMAP at 0: a text cannot be moved, or it is already as asked";
+        s.run(&["move", way, file]).is(1, "", &format!("herringnet: {}: {}; {}\n", file, reason, why));
+    }
+    let cut = "herringnet: cut.lnk: refused 2 CUT at 76: it is cut off inside a field or a part\n";
+    s.run(&["move", "--to-bytes", "cut.lnk"]).is(1, "", cut);
+}
+
+#[test]
 fn rewrite_to_a_named_file() {
     let s = Shortcuts::new("rewrite_to");
     let before = s.names();

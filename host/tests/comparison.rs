@@ -48,6 +48,67 @@ fn both_agree_on_the_printed_examples() {
     assert_eq!(comparison.verdicts.counts[..4], [400, 0, 200, 200]);
 }
 
+/// Arguments of one character: each byte, and each unit of the table with its neighbours.
+#[test]
+fn both_agree_on_all_bytes_and_on_units_around_the_table() {
+    let page = independent::code_page();
+    let mut units: Vec<u16> = (0..=0x200).chain([0x7FFF, 0x8000, 0xFFFE, 0xFFFF]).collect();
+    for unit in page.iter().flatten() {
+        units.extend([unit.wrapping_sub(1), *unit, unit.wrapping_add(1)]);
+    }
+    let mut comparison = Comparison::new();
+    let mut random = inputs::random_of(0);
+    for byte in 0..=255 {
+        comparison.moves(&with_arguments(0x20, &[byte]), &mut random);
+    }
+    let bytes = comparison.tally.counts;
+    for unit in units {
+        comparison.moves(&with_arguments(0xA0, &unit.to_le_bytes()), &mut random);
+    }
+    assert_eq!(bytes[16] - 256, 5, "five bytes are unassigned, and no byte string goes home");
+    assert!(comparison.tally.counts[16] > bytes[16]);
+}
+
+/// Random bytes seldom are texts that can be moved; these are, and most go there or home.
+#[test]
+fn both_agree_on_shortcuts_made_for_moving() {
+    let (page, count) = (independent::code_page(), 5_000);
+    let (mut comparison, mut out, mut moved) = (Comparison::new(), vec![0; LIMIT], [0; 2]);
+    for number in 0..count {
+        let shortcut = inputs::movable(number, &page);
+        comparison.compare(number, &shortcut);
+        let moves: [Putting; 2] = [independent::boundary_to_unicode, independent::boundary_to_bytes];
+        for (count, to) in moved.iter_mut().zip(moves) {
+            *count += u64::from(to(&shortcut, &mut out) & 0xFF == 0);
+        }
+    }
+    println!("of {} moved to Unicode {}, to bytes {}", count, moved[0], moved[1]);
+    assert_eq!(comparison.verdicts.counts[0], count, "all are accepted");
+    assert!(moved.iter().all(|&moved| moved > count * 2 / 5));
+    assert!(moved.iter().sum::<u64>() < count * 19 / 20, "some cannot be moved");
+}
+
+#[test]
+fn both_agree_on_moves_at_the_limit() {
+    let mut comparison = Comparison::new();
+    for (number, (shortcut, length)) in (0..).zip(inputs::at_the_limit()) {
+        comparison.compare(number, &shortcut);
+        let answer = proved::to_unicode(&shortcut, &mut vec![0; LIMIT + 2]);
+        assert_eq!(answer, if length <= LIMIT { 256 * length as u64 } else { 11 }, "{}", length);
+    }
+}
+
+/// A header with these LinkFlags, arguments of one character, and a terminal block.
+fn with_arguments(flags: u32, character: &[u8]) -> Vec<u8> {
+    let mut shortcut = vec![0x4C, 0, 0, 0, 0x01, 0x14, 0x02, 0, 0, 0, 0, 0, 0xC0, 0, 0, 0, 0, 0, 0, 0x46];
+    shortcut.extend(flags.to_le_bytes());
+    shortcut.resize(76, 0);
+    shortcut.extend([1, 0]);
+    shortcut.extend(character);
+    shortcut.extend([0; 4]);
+    shortcut
+}
+
 fn from_hex(text: &str) -> Vec<u8> {
     text.split_whitespace().map(|byte| u8::from_str_radix(byte, 16).unwrap()).collect()
 }
@@ -106,6 +167,7 @@ impl Comparison {
         self.sections(shortcut, &mut random);
         self.putting("target", [proved::target, independent::boundary_target], shortcut, &mut random);
         self.putting("key", [proved::key, independent::boundary_key], shortcut, &mut random);
+        self.moves(shortcut, &mut random);
         let rows = self.store_list(shortcut, &mut random);
         if answer & 0xFF != 0 {
             return;
@@ -247,6 +309,20 @@ impl Comparison {
             if answer & 0xFF != 0 {
                 break;
             }
+        }
+    }
+
+    /// Both moves, and what the first of them makes moved home again.
+    fn moves(&mut self, shortcut: &[u8], random: &mut Random) {
+        let there: [Putting; 2] = [proved::to_unicode, independent::boundary_to_unicode];
+        let home: [Putting; 2] = [proved::to_bytes, independent::boundary_to_bytes];
+        self.putting("to unicode", there, shortcut, random);
+        self.putting("to bytes", home, shortcut, random);
+        let mut moved = vec![0; LIMIT];
+        let answer = independent::boundary_to_unicode(shortcut, &mut moved);
+        if answer & 0xFF == 0 {
+            moved.truncate((answer >> 8) as usize);
+            self.putting("home again", home, &moved, random);
         }
     }
 

@@ -209,6 +209,39 @@ fn a_path_block_put_in() {
 }
 
 #[test]
+fn a_shortcut_moved_to_unicode() {
+    let text = under("A shortcut moved to Unicode");
+    let whole = |flags: u8, dump: &[&str]| {
+        let mut shortcut = Record::default().to_vec().unwrap()[..76].to_vec();
+        shortcut[20] = flags;
+        [shortcut, bytes(dump)].concat()
+    };
+    let dumps = blocks(text);
+    let (first, moved) = (whole(0x22, &dumps[0]), whole(0xA2, &dumps[1]));
+    let named = |name: &str| if name == "S" { first.clone() } else { moved.clone() };
+    assert!([&first, &moved].iter().all(|shortcut| target(shortcut).unwrap() == b"C:\\\x80"));
+    let rows = table(text);
+    assert!(rows.len() > 18);
+    for row in rows {
+        println!("{:?}", row);
+        let shortcut = match row[0].split_once(", ") {
+            Some((name, change)) => changed(named(name), change),
+            None => named(row[0]),
+        };
+        let call = if row[1] == "to_unicode" { boundary::to_unicode } else { boundary::to_bytes };
+        let mut out = vec![0xEE; number(row[2]) as usize];
+        let answer = call(&shortcut, &mut out);
+        match (row[3], row[3].strip_prefix("0, length ")) {
+            (name @ ("S" | "M"), _) => assert_eq!((answer, out), (256 * named(name).len() as u64, named(name))),
+            (_, Some(length)) => assert_eq!(answer, 256 * number(length)),
+            (refused, _) => {
+                assert_eq!((answer % 256, out.iter().all(|&byte| byte == 0xEE)), (number(refused), true))
+            }
+        }
+    }
+}
+
+#[test]
 fn a_long_head() {
     let local = Local { drive: 3, serial: 0x1234_5678, label: Label::Unicode(b"T\0"), path: br"C:\" };
     let unicode = InfoUnicode { local: b"C\0:\0\\\0", suffix: b"" };

@@ -9,7 +9,7 @@ struct Texts<'a> {
 }
 
 pub const SMALL: [&str; 3] = ["local", "network", "environment"];
-pub const LONG: [&str; 7] = ["string", "items", "blocks", "store", "texts", "overlap", "unended"];
+pub const LONG: [&str; 8] = ["string", "letters", "items", "blocks", "store", "texts", "overlap", "unended"];
 
 /// A small shape by its name, or a long one by its name, a hyphen and its KiB.
 pub fn shape(name: &str) -> Option<Vec<u8>> {
@@ -27,6 +27,7 @@ pub fn shape(name: &str) -> Option<Vec<u8>> {
 fn long(kind: &str, length: usize) -> Option<Vec<u8>> {
     match kind {
         "string" => Some(long_string(length)),
+        "letters" => Some(long_letters(length)),
         "items" => Some(many_items(length)),
         "blocks" => Some(many_blocks(length)),
         "store" => Some(many_values(length)),
@@ -207,6 +208,15 @@ fn long_string(length: usize) -> Vec<u8> {
     let units = (length - bytes.len() - 6) / 2;
     bytes.extend((units as u16).to_le_bytes());
     bytes.extend((0..2 * units).map(|n| n as u8));
+    put(&mut bytes, 0);
+    bytes
+}
+
+/// A long string of characters that windows-1252 has, so that it can be moved.
+fn long_letters(length: usize) -> Vec<u8> {
+    let mut bytes = header(0xA0);
+    let units = (length - bytes.len() - 6) / 2;
+    string(&mut bytes, &"–O2 ".chars().cycle().take(units).collect::<String>());
     put(&mut bytes, 0);
     bytes
 }

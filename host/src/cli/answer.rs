@@ -30,7 +30,7 @@ impl<'a> Answer<'a> {
             Command::Key => key(shortcut).map(Answer::Key),
             Command::Show => shown(shortcut).map(Answer::Fields),
             Command::Store => Store::read(shortcut).map(|store| Answer::Fields(vec![storages(&store)])),
-            Command::Rewrite | Command::Set => return None,
+            Command::Rewrite | Command::Set | Command::Move => return None,
         };
         Some(answer.map_err(|refusal| Refused::new(command, shortcut, refusal)))
     }

@@ -88,6 +88,8 @@ struct Given {
     /// Texts for path blocks, and their bytes where these are given.
     paths: Vec<(PathKind, OsString)>,
     path_bytes: Vec<(PathKind, OsString)>,
+    /// The ways to move, true for Unicode.
+    ways: Vec<bool>,
     files_only: bool,
 }
 
@@ -122,6 +124,8 @@ impl Given {
             Asks::Raw => self.raw = true,
             Asks::Hex => self.hex = true,
             Asks::InPlace => self.outputs.push(Output::InPlace),
+            Asks::ToUnicode => self.ways.push(true),
+            Asks::ToBytes => self.ways.push(false),
             Asks::Suffix => self.outputs.push(Output::Suffix(suffix(value)?)),
             Asks::Path(kind) => self.paths.push((kind, value)),
             Asks::PathBytes(kind) => self.path_bytes.push((kind, value)),
@@ -153,6 +157,7 @@ impl Given {
             json: self.json,
             raw: self.raw,
             hex: self.hex,
+            to_unicode: self.ways.pop().unwrap_or(false),
             output: self.outputs.pop().unwrap_or(Output::Standard),
             paths,
             several,
@@ -201,6 +206,7 @@ impl Given {
             (beside && standard, "--in-place and --suffix need files"),
             (command == Command::Set && self.paths.is_empty() && self.path_bytes.is_empty(), "set needs a text to set"),
             (self.paths_clash(), "an option for a text may stand once, and its bytes only beside it"),
+            (command == Command::Move && self.ways.len() != 1, "move needs one of --to-unicode and --to-bytes"),
         ];
         wrong.iter().find(|(is_wrong, _)| *is_wrong).map(|(_, why)| *why)
     }

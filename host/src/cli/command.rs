@@ -11,6 +11,7 @@ pub enum Command {
     Store,
     Rewrite,
     Set,
+    Move,
 }
 
 /// What help says of a command, beside its options.
@@ -23,7 +24,7 @@ struct Page {
     text: &'static str,
 }
 
-const PAGES: [Page; 8] = [
+const PAGES: [Page; 9] = [
     Page {
         word: "check",
         line: "say of each shortcut whether it is accepted, or which field is wrong, and why",
@@ -127,11 +128,32 @@ character of is refused, unless the option that ends in -bytes gives the bytes.
 Files are written as rewrite writes them.
 ",
     },
+    Page {
+        word: "move",
+        line: "move a shortcut of byte strings to Unicode, or home again",
+        usage: &[
+            "--to-unicode|--to-bytes [FILE]",
+            "--to-unicode|--to-bytes -o OUTPUT [FILE]",
+            "--to-unicode|--to-bytes --in-place FILE..",
+            "--to-unicode|--to-bytes --suffix SUFFIX FILE..",
+        ],
+        text: "\
+With --to-unicode a shortcut of byte strings becomes one of Unicode: its strings are translated
+by windows-1252, and LinkInfo with the short head gets the long one, with local path and suffix
+in Unicode too. With --to-bytes it goes home: the strings are translated back, and these two
+texts are dropped, which have to be the translation. All else is the same, and what is written
+is the canonical form. What cannot be moved is refused with 16 NOMAP, and the line says which
+text it was, and which byte or unit at which place in the file:
+  x.lnk: refused 16 NOMAP at 0: a text cannot be moved, or it is already as asked; arguments:
+         the byte 0x81 at 80 is not assigned in windows-1252
+Files are written as rewrite writes them.
+",
+    },
 ];
 
 impl Command {
     /// All of them, each at its number.
-    pub const ALL: [Command; 8] = [
+    pub const ALL: [Command; 9] = [
         Command::Check,
         Command::List,
         Command::Target,
@@ -140,6 +162,7 @@ impl Command {
         Command::Store,
         Command::Rewrite,
         Command::Set,
+        Command::Move,
     ];
 
     /// The command with this word.
@@ -173,7 +196,7 @@ impl Command {
 
     /// Whether it writes files, so that it goes on when nobody reads its lines.
     pub fn writes(self) -> bool {
-        matches!(self, Command::Rewrite | Command::Set)
+        matches!(self, Command::Rewrite | Command::Set | Command::Move)
     }
 
     /// Whether a refusal is its answer, and not a complaint.

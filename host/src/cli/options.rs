@@ -17,6 +17,8 @@ pub enum Asks {
     Suffix,
     Path(PathKind),
     PathBytes(PathKind),
+    ToUnicode,
+    ToBytes,
     Help,
 }
 
@@ -41,11 +43,12 @@ pub struct Choice {
 
 const PRINTING: &[Command] =
     &[Command::Check, Command::List, Command::Target, Command::Key, Command::Show, Command::Store];
-const WRITING: &[Command] = &[Command::Rewrite, Command::Set];
+const WRITING: &[Command] = &[Command::Rewrite, Command::Set, Command::Move];
 const SET: &[Command] = &[Command::Set];
+const MOVE: &[Command] = &[Command::Move];
 
 /// All options, in the order of help.
-pub const CHOICES: [Choice; 17] = [
+pub const CHOICES: [Choice; 19] = [
     Choice {
         asks: Asks::Recursive,
         words: &["-r", "--recursive"],
@@ -173,6 +176,20 @@ pub const CHOICES: [Choice; 17] = [
         value: Some("BYTES"),
         commands: SET,
         lines: &["with --darwin: the text of bytes, as BYTES stand on the command line"],
+    },
+    Choice {
+        asks: Asks::ToUnicode,
+        words: &["--to-unicode"],
+        value: None,
+        commands: MOVE,
+        lines: &["move from byte strings to Unicode"],
+    },
+    Choice {
+        asks: Asks::ToBytes,
+        words: &["--to-bytes"],
+        value: None,
+        commands: MOVE,
+        lines: &["move from Unicode to byte strings"],
     },
     Choice { asks: Asks::Help, words: &["-h", "--help"], value: None, commands: &Command::ALL, lines: &["print this"] },
 ];

@@ -5,12 +5,12 @@ use super::console::{Console, Outcome};
 use super::files::{replace, with_suffix, write_new};
 use super::input::{reason, Input};
 use super::walk::Walk;
-use herringnet::{PathKind, PathTexts, Record, Refusal};
+use herringnet::{to_bytes, to_unicode, unmapped, Fault, PathKind, PathTexts, Record, Refusal};
 use std::ffi::OsString;
 use std::io;
 use std::path::PathBuf;
 
-/// Where `rewrite` and `set` put what they write.
+/// Where `rewrite`, `set` and `move` put what they write.
 pub enum Output {
     Standard,
     To(PathBuf),
@@ -30,6 +30,8 @@ pub struct Run {
     pub json: bool,
     pub raw: bool,
     pub hex: bool,
+    /// The way of a move.
+    pub to_unicode: bool,
     pub output: Output,
     /// The path blocks to put in, in the order of the words.
     pub paths: Vec<(PathKind, PathTexts)>,
@@ -101,7 +103,7 @@ impl Run {
         };
         match Answer::to(self.command, &bytes) {
             Some(answer) => self.answer(input, answer, console),
-            None => self.written(&Read { input, bytes: &bytes }, console),
+            None => self.write(&Read { input, bytes: &bytes }, console),
         }
     }
 
@@ -145,7 +147,7 @@ impl Run {
         console.record(match self.command {
             Command::Key if alone => text.to_vec(),
             Command::Key => [text, b" ", &name].concat(),
-            Command::Check | Command::Rewrite | Command::Set => [&name, &b": "[..], text].concat(),
+            Command::Check | Command::Rewrite | Command::Set | Command::Move => [&name, &b": "[..], text].concat(),
             Command::Target if self.several => [&name, &b": "[..], one_colon(text).as_bytes()].concat(),
             Command::List | Command::Show | Command::Store if self.several => {
                 // An empty line stands between two inputs, unless zero bytes part them.
@@ -167,10 +169,26 @@ impl Run {
         Ok(form)
     }
 
-    fn written(&self, read: &Read, console: &mut Console) {
-        let bytes = match self.form(read.bytes) {
+    /// What `rewrite`, `set` or `move` makes, or the words of its refusal.
+    fn made(&self, shortcut: &[u8]) -> Result<Vec<u8>, String> {
+        let made = match (self.command, self.to_unicode) {
+            (Command::Move, true) => to_unicode(shortcut),
+            (Command::Move, false) => to_bytes(shortcut),
+            _ => self.form(shortcut),
+        };
+        made.map_err(|refusal| match refusal.fault {
+            Fault::NoMap => {
+                let why = unmapped(shortcut, self.to_unicode).map_or(String::new(), |why| format!("; {}", why));
+                format!("{}{}", refusal, why)
+            }
+            _ => refusal.to_string(),
+        })
+    }
+
+    fn write(&self, read: &Read, console: &mut Console) {
+        let bytes = match self.made(read.bytes) {
             Ok(bytes) => bytes,
-            Err(refusal) => return console.complain(Outcome::Refused, format!("{}: {}", read.input, refusal)),
+            Err(why) => return console.complain(Outcome::Refused, format!("{}: {}", read.input, why)),
         };
         let (path, written) = match (&self.output, read.input) {
             (Output::To(path), _) => (path.clone(), replace(path, &bytes)),

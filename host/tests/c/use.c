@@ -72,6 +72,19 @@ static void keys(const uint8_t *s, size_t n)
     answer("key of nothing", herringnet_key(NULL, 0, NULL, 0));
 }
 
+/* Home from Unicode, and there again: LinkInfo's short head has become the long one. */
+static void moves(const uint8_t *s, size_t n)
+{
+    static uint8_t home[HERRINGNET_LONGEST], there[HERRINGNET_LONGEST];
+    uint64_t a;
+    answer("to unicode", herringnet_to_unicode(s, n, home, sizeof home));
+    answer("to bytes in 444", herringnet_to_bytes(s, n, home, 444));
+    a = herringnet_to_bytes(s, n, home, sizeof home);
+    answer("to bytes", a);
+    answer("there again", herringnet_to_unicode(home, HERRINGNET_VALUE(a), there, sizeof there));
+    answer("to bytes of nothing", herringnet_to_bytes(NULL, 0, NULL, 0));
+}
+
 static void records(const uint8_t *s, size_t n)
 {
     uint64_t fields[HERRINGNET_FIELD_COUNT];
@@ -159,6 +172,7 @@ int main(void)
     sections(s, n);
     targets(s, n);
     keys(s, n);
+    moves(s, n);
     records(s, n);
     paths(s, n);
     stores(s, n);

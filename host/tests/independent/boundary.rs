@@ -1,6 +1,9 @@
 //! The calls as the C boundary gives them: number + 256 x value.
 
-use super::{check, key, path_block, section, store_list, store_write, target, walk, write, Record, Refusal, FIELDS};
+use super::{
+    check, key, path_block, section, store_list, store_write, target, to_bytes, to_unicode, walk, write, Record,
+    Refusal, FIELDS,
+};
 
 pub const WRONG_COUNT: u64 = 201;
 pub const NO_RECORD: u64 = 202;
@@ -33,6 +36,14 @@ pub fn boundary_target(shortcut: &[u8], out: &mut [u8]) -> u64 {
 
 pub fn boundary_key(shortcut: &[u8], out: &mut [u8]) -> u64 {
     answer(key(shortcut, out))
+}
+
+pub fn boundary_to_unicode(shortcut: &[u8], out: &mut [u8]) -> u64 {
+    answer(to_unicode(shortcut, out))
+}
+
+pub fn boundary_to_bytes(shortcut: &[u8], out: &mut [u8]) -> u64 {
+    answer(to_bytes(shortcut, out))
 }
 
 pub fn boundary_section(shortcut: &[u8], name: u32, block: usize) -> u64 {

@@ -6,6 +6,7 @@
 mod boundary;
 mod info;
 mod key;
+mod moving;
 mod path;
 mod record;
 mod store;
@@ -17,6 +18,8 @@ mod wrong;
 #[allow(unused_imports)]
 pub use boundary::*;
 pub use key::key;
+#[allow(unused_imports)]
+pub use moving::{code_page, to_bytes, to_unicode};
 pub use path::path_block;
 pub use record::*;
 #[allow(unused_imports)]
@@ -44,6 +47,7 @@ pub const ROOM: u8 = 12;
 pub const NOTARGET: u8 = 13;
 pub const TWICE: u8 = 14;
 pub const STORE: u8 = 15;
+pub const NOMAP: u8 = 16;
 
 pub const SECTION_HEADER: u8 = 0;
 pub const SECTION_ITEMS: u8 = 1;

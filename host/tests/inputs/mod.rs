@@ -6,6 +6,7 @@
 mod build;
 mod damage;
 mod large;
+mod moving;
 mod pairs;
 mod random;
 mod store;
@@ -14,6 +15,8 @@ mod stores;
 pub use build::Draft;
 #[allow(unused_imports)]
 pub use large::large;
+#[allow(unused_imports)]
+pub use moving::{at_the_limit, movable};
 #[allow(unused_imports)]
 pub use pairs::pairs;
 pub use random::Random;
@@ -44,10 +47,10 @@ pub fn input(number: u64) -> Vec<u8> {
     draft.bytes
 }
 
-/// How often each number was answered, 0 to 15.
+/// How often each number was answered, 0 to 16.
 #[derive(Default)]
 pub struct Tally {
-    pub counts: [u64; 16],
+    pub counts: [u64; 17],
     pub calls: u64,
 }
 
