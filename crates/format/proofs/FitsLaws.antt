@@ -12,6 +12,7 @@ use mir.Val.{Val}
 use denote.Laws.{Is}
 use Rattle.octets.specs.Numbers.{Bytes, u32At}
 use Rattle.octets.proofs.NumberLaws.{bytes-take, bytes-drop, number-below}
+use Rattle.format.specs.declared.Profile.{Profile}
 use Rattle.format.specs.declared.Info.{Info}
 use Rattle.format.specs.declared.Header.{Header}
 use Rattle.format.specs.declared.Record.{Record}
@@ -86,39 +87,39 @@ module _ (l : List ℕ) (bs : Bytes l) where
       let n = network-below (hasNetwork l) p (u32At l 20) in
       record { flags = number-below 4 l 8 bs; drive = v .0; serial = v .1; networkFlags = n .0; provider = n .1 }
 
-module _ (s : List ℕ) (bs : Bytes s) where
+module _ (profile : Profile) (s : List ℕ) (bs : Bytes s) where
   -- of other sections nothing is asked
   any : {A : Type 0} (P : Reader A) → Always s P (λ a. Unit {0})
   any P = record { always = λ p a n e. tt }
 
-  header-read : Always s (found header) (λ c. FitsHeader (c .read))
+  header-read : Always s (found (header profile)) (λ c. FitsHeader (c .read))
   header-read = record {
     always = λ p c n e.
-        found-elim header p (drop p s) (λ c n. FitsHeader (c .read))
-        (λ h n i. (header-law .fits p (drop p s) h n i (bytes-drop p s bs)) .valid .typed)
+        found-elim (header profile) p (drop p s) (λ c n. FitsHeader (c .read))
+        (λ h n i. (header-law profile .fits p (drop p s) h n i (bytes-drop p s bs)) .valid .typed)
         c n e;
   }
 
-  info-read : (p : ℕ) (i : Info) (n : ℕ) → info p (drop p s) ≡ got i n → FitsLink (linkOf i)
+  info-read : (p : ℕ) (i : Info) (n : ℕ) → info profile p (drop p s) ≡ got i n → FitsLink (linkOf i)
   info-read p =
       let t : List ℕ = drop p s in
       let l : List ℕ = take (infoSize t) t in
-      tests-elim (λ i n. FitsLink (linkOf i)) (section 2 p) (sizedTests 2 4 infoSize (λ n. leb 0x1C n else INFO at 0 ∷ []) infoRules infoValue t) (infoFields p l) (infoSize t)
+      tests-elim (λ i n. FitsLink (linkOf i)) (section 2 p) (sizedTests 2 4 infoSize (λ n. leb 0x1C n else INFO at 0 ∷ []) (infoRules profile) infoValue t) (infoFields p l) (infoSize t)
       (λ c. info-below l (bytes-take (infoSize t) t (bytes-drop p s bs)) p)
 
-  info-section : (b : Bool) → Always s (sectionIf b noInfo info) (λ c. FitsLink (linkOf (c .read)))
+  info-section : (b : Bool) → Always s (sectionIf b noInfo (info profile)) (λ c. FitsLink (linkOf (c .read)))
   info-section b =
-      section-always s info b noInfo (λ i. FitsLink (linkOf i))
+      section-always s (info profile) b noInfo (λ i. FitsLink (linkOf i))
       (λ e. record { flags = omega arith; drive = omega arith; serial = omega arith; networkFlags = omega arith; provider = omega arith })
       (λ e. info-read)
 
   abbrev TailFits : Tail → Type 0
   TailFits c = Unit {0} × (FitsLink (linkOf (c .1 .0 .read)) × Unit {0})
 
-  sections-read : Always s sections (λ c. FitsHeader (c .0 .read) × TailFits (c .1))
+  sections-read : Always s (sections profile) (λ c. FitsHeader (c .0 .read) × TailFits (c .1))
   unfolding sections
   sections-read =
-      chain-always s (λ (h : Section Header). tail (h .read .flags)) (λ h. TailFits) header-read
+      chain-always s (λ (h : Section Header). tail profile (h .read .flags)) (λ h. TailFits) header-read
       (λ h.
       let f : ℕ = h .read .flags in
       then-always s (any (sectionIf (itemsThere f) noPlace items))
@@ -126,10 +127,10 @@ module _ (s : List ℕ) (bs : Bytes s) where
       (any (stringSection f nameBit then stringSection f relativeBit then stringSection f workdirBit then stringSection f argumentsBit then stringSection f iconBit then found blocks))))
 
 -- an accepted shortcut's record
-pub accepted-fits : (s : List ℕ) (r : Record) → Accepts s r → Bytes s → FitsRecord r
+pub accepted-fits : (profile : Profile) (s : List ℕ) (r : Record) → Accepts profile s r → Bytes s → FitsRecord r
 unfolding Accepts
-accepted-fits s r e bs =
-    let x = accepted-read s r (length s) e in
-    let w = shortcut-whole s (x .sections) (length s) (x .is) in
-    let z = sections-read s bs .always 0 (x .sections) (length s) (w .read) in
+accepted-fits profile s r e bs =
+    let x = accepted-read profile s r (length s) e in
+    let w = shortcut-whole profile s (x .sections) (length s) (x .is) in
+    let z = sections-read profile s bs .always 0 (x .sections) (length s) (w .read) in
     subst FitsRecord (x .held) (record { header = z .0; link = z .1 .1 .0 })

@@ -11,6 +11,7 @@ use borrow.Author.Tests.{le-leb, ltb-true}
 use Rattle.octets.specs.Numbers.{u16At, u32At}
 use Rattle.octets.specs.Characters.{bytesOf, characters, beforeZero}
 use Rattle.octets.proofs.CharacterLaws.{characters-fit, bytes-of-le, bytes-of-add}
+use Rattle.format.specs.declared.Profile.{Profile}
 use Rattle.format.specs.declared.Place.{Place}
 use Rattle.format.specs.declared.Info.{Info}
 use Rattle.format.specs.declared.Header.{Header}
@@ -105,7 +106,7 @@ places-present flags p l e =
       choose-twice (longHead l) (place (p + u32At l 32) (textLength true (drop (u32At l 32) l))) noPlace,
     )
 
-module _ (f : List ℕ) where
+module _ (profile : Profile) (f : List ℕ) where
   abbrev Kept : Bool → Place → Type 0
   Kept there b = cond there b noPlace ≡ b
 
@@ -118,12 +119,12 @@ module _ (f : List ℕ) where
   abbrev KeptInfo : ℕ → Info → Type 0
   KeptInfo flags i = (cond (infoThere flags) (presentLink (linkOf i)) noLink ≡ linkOf i) × (keptInfo flags i ≡ infoPlaces i)
 
-  info-always : (flags : ℕ) → Always f (sectionIf (infoThere flags) noInfo info) (λ c. KeptInfo flags (c .read))
+  info-always : (flags : ℕ) → Always f (sectionIf (infoThere flags) noInfo (info profile)) (λ c. KeptInfo flags (c .read))
   info-always flags =
-      section-always f info (infoThere flags) noInfo (KeptInfo flags) (λ e. (rw e, rw e)) (λ e p a n.
+      section-always f (info profile) (infoThere flags) noInfo (KeptInfo flags) (λ e. (rw e, rw e)) (λ e p a n.
       let s : List ℕ = drop p f in
       let l : List ℕ = take (infoSize s) s in
-      tests-elim (λ a n. KeptInfo flags a) (section 2 p) (sizedTests 2 4 infoSize (λ n. leb 0x1C n else INFO at 0 ∷ []) infoRules infoValue s)
+      tests-elim (λ a n. KeptInfo flags a) (section 2 p) (sizedTests 2 4 infoSize (λ n. leb 0x1C n else INFO at 0 ∷ []) (infoRules profile) infoValue s)
       (infoFields p l) (infoSize s) (λ c. (rw e (link-present p l), places-present flags p l e)) a n)
 
   -- the blocks are what a walk from their start on gives
@@ -144,7 +145,7 @@ module _ (f : List ℕ) where
       × (Kept (stringThere argumentsBit flags) (arguments .read)
       × (Kept (stringThere iconBit flags) (icon .read) × Walk blocks))))))
 
-  tail-always : (flags : ℕ) → Always f (tail flags) (Known flags)
+  tail-always : (flags : ℕ) → Always f (tail profile flags) (Known flags)
   tail-always flags =
       then-always f (body-always items (itemsThere flags))
       (then-always f (info-always flags)
@@ -154,15 +155,15 @@ module _ (f : List ℕ) where
       (then-always f (string-always flags argumentsBit)
       (then-always f (string-always flags iconBit) blocks-always))))))
 
-  header-always : Always f (found header) (λ c. Unit {0})
+  header-always : Always f (found (header profile)) (λ c. Unit {0})
   header-always = record { always = λ p a n e. tt }
 
-  known-always : Always f (chain (found header) (λ h. tail (h .read .flags))) (λ c. Unit {0} × Known (c .0 .read .flags) (c .1))
+  known-always : Always f (chain (found (header profile)) (λ h. tail profile (h .read .flags))) (λ c. Unit {0} × Known (c .0 .read .flags) (c .1))
   known-always =
-      chain-always f (λ (h : Section Header). tail (h .read .flags)) (λ (h : Section Header). Known (h .read .flags)) header-always (λ h. tail-always (h .read .flags))
+      chain-always f (λ (h : Section Header). tail profile (h .read .flags)) (λ (h : Section Header). Known (h .read .flags)) header-always (λ h. tail-always (h .read .flags))
 
   -- reading puts zeros there: what it gives is what is present
-  pub read-present : (c : Sections) (n : ℕ) → sections 0 f ≡ got c n → present (recordOf c) ≡ recordOf c
+  pub read-present : (c : Sections) (n : ℕ) → sections profile 0 f ≡ got c n → present (recordOf c) ≡ recordOf c
   unfolding sections present
   read-present c n e =
       let (z, (items, (info, (name, (relative, (workdir, (arguments, (icon, walk)))))))) = known-always .always 0 c n e in
@@ -170,7 +171,7 @@ module _ (f : List ℕ) where
       rw (items, name, relative, workdir, arguments, icon, info .0) (ap (λ (ps : List Place). record { header = c .0 .read; link = linkOf (c .1 .1 .0 .read); places = ps }) places)
 
   -- and its blocks are those of a walk
-  pub read-walk : (c : Sections) (n : ℕ) → sections 0 f ≡ got c n → Walk (blocksOf c)
+  pub read-walk : (c : Sections) (n : ℕ) → sections profile 0 f ≡ got c n → Walk (blocksOf c)
   unfolding sections
   read-walk c n e =
       let (z, (items, (info, (name, (relative, (workdir, (arguments, (icon, walk)))))))) = known-always .always 0 c n e in
@@ -191,23 +192,23 @@ then-late P {Q} {last} L = record {
 blocks-last : Late (found blocks) (λ c. c .start)
 blocks-last = record { late = λ p s c n e. found-elim blocks p s (λ c n. p ≤ c .start) (λ ls n i. omega arith) c n e }
 
-tail-late : (flags : ℕ) → Late (tail flags) (λ c. c .1 .1 .1 .1 .1 .1 .1 .start)
-tail-late flags =
+tail-late : (profile : Profile) (flags : ℕ) → Late (tail profile flags) (λ c. c .1 .1 .1 .1 .1 .1 .1 .start)
+tail-late profile flags =
     then-late (sectionIf (itemsThere flags) noPlace items)
-    (then-late (sectionIf (infoThere flags) noInfo info)
+    (then-late (sectionIf (infoThere flags) noInfo (info profile))
     (then-late (stringSection flags nameBit)
     (then-late (stringSection flags relativeBit)
     (then-late (stringSection flags workdirBit)
     (then-late (stringSection flags argumentsBit)
     (then-late (stringSection flags iconBit) blocks-last))))))
 
-pub blocks-late : (s : List ℕ) (c : Sections) (n : ℕ) → sections 0 s ≡ got c n → 76 ≤ blocksOf c .start
+pub blocks-late : (profile : Profile) (s : List ℕ) (c : Sections) (n : ℕ) → sections profile 0 s ≡ got c n → 76 ≤ blocksOf c .start
 unfolding sections
-blocks-late s c n e =
-    chain-elim (found header) (λ (h : Section Header). tail (h .read .flags)) 0 s (λ c n. 76 ≤ blocksOf c .start)
+blocks-late profile s c n e =
+    chain-elim (found (header profile)) (λ (h : Section Header). tail profile (h .read .flags)) 0 s (λ c n. 76 ≤ blocksOf c .start)
     (λ a k b m i j.
-    let z : 76 ≤ k = found-elim header 0 s (λ a k. 76 ≤ k) (λ h k x. omega (arith, header-size 0 s h k x)) a k i in
-    omega (arith, tail-late (a .read .flags) .late (0 + k) (drop k s) b m j))
+    let z : 76 ≤ k = found-elim (header profile) 0 s (λ a k. 76 ≤ k) (λ h k x. omega (arith, header-size profile 0 s h k x)) a k i in
+    omega (arith, tail-late profile (a .read .flags) .late (0 + k) (drop k s) b m j))
     c n e
 
 -- ---- bodies inside
@@ -280,16 +281,16 @@ nine : (n : ℕ) (i : Info) → Inside n (labelPlace (i .volume .label)) → Ins
     → Inside n (i .«local_unicode») → Inside n (i .«suffix_unicode») → allInside n (infoPlaces i) ≡ true
 nine n i a b c d e g = rw (a, b, c .net, c .device, c .netUnicode, c .deviceUnicode, d, e, g)
 
-info-inside : (f : List ℕ) (p : ℕ) (i : Info) (n : ℕ) → info p (drop p f) ≡ got i n → allInside (p + n) (infoPlaces i) ≡ true
-info-inside f p i n =
+info-inside : (profile : Profile) (f : List ℕ) (p : ℕ) (i : Info) (n : ℕ) → info profile p (drop p f) ≡ got i n → allInside (p + n) (infoPlaces i) ≡ true
+info-inside profile f p i n =
     let s : List ℕ = drop p f in
     let m : ℕ = infoSize s in
     let l : List ℕ = take m s in
-    tests-elim (λ i n. allInside (p + n) (infoPlaces i) ≡ true) (section 2 p) (sizedTests 2 4 infoSize (λ n. leb 0x1C n else INFO at 0 ∷ []) infoRules infoValue s) (infoFields p l) m
+    tests-elim (λ i n. allInside (p + n) (infoPlaces i) ≡ true) (section 2 p) (sizedTests 2 4 infoSize (λ n. leb 0x1C n else INFO at 0 ∷ []) (infoRules profile) infoValue s) (infoFields p l) m
     (λ c.
     let k : p + length l ≤ p + m = omega (arith, length-take m s) in
-    let g = sized-holds 2 4 infoSize (λ n. leb 0x1C n else INFO at 0 ∷ []) infoRules infoValue s c in
-    let d = info-pieces-hold l (pass-split (infoHeadTests l) (infoPieceTests l) (g .judged) .1) in
+    let g = sized-holds 2 4 infoSize (λ n. leb 0x1C n else INFO at 0 ∷ []) (infoRules profile) infoValue s c in
+    let d = info-pieces-hold l (pass-split (infoHeadTests profile l) (infoPieceTests l) (g .judged) .1) in
     let h : ℕ = infoHead l in
     nine (p + m) (infoFields p l)
     (volume-inside h p l (hasLocal l) 12 (u32At l 12) (p + m) k (d .volume))
@@ -325,7 +326,7 @@ block-rows : (p q : ℕ) (lengths : List ℕ) → p + sum lengths + 4 ≡ q → 
 block-rows p q [] e = (refl, omega arith)
 block-rows p q (n ∷ ns) e = (refl, block-rows (p + n) q ns (omega arith))
 
-module _ (f : List ℕ) where
+module _ (profile : Profile) (f : List ℕ) where
   blocks-lies : Lies f (found blocks) (λ c. blockRows (c .start) (c .read)) (λ c. place (c .start) (sum (c .read)) ∷ [])
   blocks-lies = record {
     listed = λ p c n e.
@@ -371,26 +372,26 @@ module _ (f : List ℕ) where
       ++ ((arguments .read ∷ [])
       ++ ((icon .read ∷ []) ++ (place (blocks .start) (sum (blocks .read)) ∷ [])))))))
 
-  tail-lies : (flags : ℕ) → Lies f (tail flags) tailRows tailBodies
+  tail-lies : (flags : ℕ) → Lies f (tail profile flags) tailRows tailBodies
   tail-lies flags =
       then-lies f (section-lies f items 1 (λ b. b ∷ []) (itemsThere flags) noPlace none-inside (items-inside f))
-      (then-lies f (section-lies f info 2 infoPlaces (infoThere flags) noInfo no-info-inside (info-inside f))
+      (then-lies f (section-lies f (info profile) 2 infoPlaces (infoThere flags) noInfo no-info-inside (info-inside profile f))
       (then-lies f (string-lies flags nameBit 3)
       (then-lies f (string-lies flags relativeBit 4)
       (then-lies f (string-lies flags workdirBit 5)
       (then-lies f (string-lies flags argumentsBit 6)
       (then-lies f (string-lies flags iconBit 7) blocks-lies))))))
 
-  sections-lie : Lies f sections rowsOf (λ c. recordOf c .places)
+  sections-lie : Lies f (sections profile) rowsOf (λ c. recordOf c .places)
   unfolding sections
-  sections-lie = chain-lies f (λ h. tail (h .read .flags)) (found-lies f header 0 (λ h. []) (λ p a n e. refl)) (λ h. tail-lies (h .read .flags))
+  sections-lie = chain-lies f (λ h. tail profile (h .read .flags)) (found-lies f (header profile) 0 (λ h. []) (λ p a n e. refl)) (λ h. tail-lies (h .read .flags))
 
   -- the sections lie end to end
-  pub read-end-to-end : (c : Sections) (n : ℕ) → sections 0 f ≡ got c n → EndToEnd 0 (rowsOf c) n
+  pub read-end-to-end : (c : Sections) (n : ℕ) → sections profile 0 f ≡ got c n → EndToEnd 0 (rowsOf c) n
   read-end-to-end c n e =
       let z : 0 + n ≡ n = omega arith in
       rw z at (sections-lie .listed 0 c n e)
 
   -- the bodies lie inside
-  pub read-inside : (c : Sections) (n : ℕ) → sections 0 f ≡ got c n → n ≤ length f → allInside (length f) (recordOf c .places) ≡ true
+  pub read-inside : (c : Sections) (n : ℕ) → sections profile 0 f ≡ got c n → n ≤ length f → allInside (length f) (recordOf c .places) ≡ true
   read-inside c n e h = inside-more (0 + n) (length f) (recordOf c .places) (omega arith) (sections-lie .inside 0 c n e)

@@ -10,6 +10,7 @@ use lib.IntN.{ℤ, pos, negsuc}
 use borrow.Author.Tests.{lt-ltb, le-ltb}
 use Rattle.octets.specs.Numbers.{Bytes, number, numberAt, u16At, u32At, u64At, little}
 use Rattle.octets.proofs.NumberLaws.{bytes-append, bytes-nil, bytes-little, number-little, number-below}
+use Rattle.format.specs.declared.Profile.{Profile}
 use Rattle.format.specs.declared.Header.{Header}
 use Rattle.format.specs.declared.Fault.the-variants.{Cut as CUT}
 use Rattle.format.specs.Tests.{_else_at_, got, refused, tests, Outcome, section, spotAt}
@@ -44,8 +45,8 @@ signed-fits x h =
 
 -- ---- the fields of the canonical header
 
-abbrev pub HeaderV : Header → Type 0
-HeaderV = Ok FitsHeader writableHeader
+abbrev pub HeaderV : Profile → Header → Type 0
+HeaderV profile = Ok FitsHeader (writableHeader profile)
 
 pub length-header : (h : Header) → length (headerBytes h) ≡ 76
 unfolding headerBytes little
@@ -112,15 +113,15 @@ header-bytes h = search (bytes-append, bytes-little, bytes-nil, identifier-bytes
 
 -- ---- the law
 
-header-back : (h : Header) → HeaderV h → SizedBack (λ s. 76) (λ n. []) headerRules headerFields (headerBytes h) h
-header-back h v =
+header-back : (profile : Profile) (h : Header) → HeaderV profile h → SizedBack (λ s. 76) (λ n. []) (headerRules profile) headerFields (headerBytes h) h
+header-back profile h v =
     let t = v .typed in
-    let can = header-writable h (v .can) in
+    let can = header-writable profile h (v .can) in
     record {
       sized = λ r. sym (length-header h);
       sizable = tt;
       judged =
-          header-passes (headerBytes h) (record {
+          header-passes profile (headerBytes h) (record {
             size = size-is h t;
             identifier = identifier-is h t;
             flags = rw (at20 h t) (can .flags);
@@ -132,12 +133,12 @@ header-back h v =
           rw (at20 h t, at24 h t, at28 h t, at36 h t, at44 h t, at52 h t, at56 h t, at60 h t, at64 h t, signed-bits (h .«icon_index») (t .«icon_index»));
     }
 
-header-sized : Sized 0 76 (λ s. 76) (λ n. []) headerRules headerFields headerBytes HeaderV
-header-sized = record {
+header-sized : (profile : Profile) → Sized 0 76 (λ s. 76) (λ n. []) (headerRules profile) headerFields headerBytes (HeaderV profile)
+header-sized profile = record {
   first = λ s t e. refl;
   low = λ s e. omega arith;
   bytes = λ h v. header-bytes h;
-  back = λ h v m. header-back h v;
+  back = λ h v m. header-back profile h v;
   fits = λ l bs k g c. record {
     valid = record {
       typed = record {
@@ -152,23 +153,23 @@ header-sized = record {
         hotkey = number-below 2 l 64 bs;
       };
       can =
-          let x = header-holds l c in
-          writable-header (headerFields l) (record { flags = x .flags; attributes = x .attributes; hotkey = x .hotkey });
+          let x = header-holds profile l c in
+          writable-header profile (headerFields l) (record { flags = x .flags; attributes = x .attributes; hotkey = x .hotkey });
     };
     short = rw length-header (omega arith);
   };
 }
 
 -- a test asked twice is one test
-header-is : (p : ℕ) (s : List ℕ) → header p s ≡ sizedR 0 76 (λ s. 76) (λ n. []) headerRules headerFields p s
-header-is p s = go (leb 76 (length s)) (tests (section 0 p) (headerRules (take 76 s)) (got (headerFields (take 76 s)) 76))
+header-is : (profile : Profile) (p : ℕ) (s : List ℕ) → header profile p s ≡ sizedR 0 76 (λ s. 76) (λ n. []) (headerRules profile) headerFields p s
+header-is profile p s = go (leb 76 (length s)) (tests (section 0 p) (headerRules profile (take 76 s)) (got (headerFields (take 76 s)) 76))
   where
     go : (b : Bool) (r : Outcome Header) → cond b r (refused CUT (spotAt (section 0 p) 0)) ≡ cond b (cond b r (refused CUT (spotAt (section 0 p) 0))) (refused CUT (spotAt (section 0 p) 0))
     go true r = refl
     go false r = refl
 
-pub header-law : Law header headerBytes HeaderV
-header-law = law-same header-is (sized-law 0 76 (λ s. 76) (λ n. []) headerRules headerFields header-sized)
+pub header-law : (profile : Profile) → Law (header profile) headerBytes (HeaderV profile)
+header-law profile = law-same (header-is profile) (sized-law 0 76 (λ s. 76) (λ n. []) (headerRules profile) headerFields (header-sized profile))
 
-pub header-size : (p : ℕ) (s : List ℕ) (h : Header) (n : ℕ) → header p s ≡ got h n → n ≡ 76
-header-size p s h n e = tests-elim (λ h n. n ≡ 76) (section 0 p) (leb 76 (length s) else CUT at 0 ∷ headerRules (take 76 s)) (headerFields (take 76 s)) 76 (λ c. refl) h n e
+pub header-size : (profile : Profile) (p : ℕ) (s : List ℕ) (h : Header) (n : ℕ) → header profile p s ≡ got h n → n ≡ 76
+header-size profile p s h n e = tests-elim (λ h n. n ≡ 76) (section 0 p) (leb 76 (length s) else CUT at 0 ∷ headerRules profile (take 76 s)) (headerFields (take 76 s)) 76 (λ c. refl) h n e

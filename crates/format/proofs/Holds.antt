@@ -7,6 +7,7 @@ use lib.ListN.{length, take, drop}
 use lib.Dec.{leb}
 use borrow.Author.Tests.{leb-true, le-leb}
 use Rattle.octets.specs.Numbers.{u16At, u32At}
+use Rattle.format.specs.declared.Profile.{Profile}
 use Rattle.format.specs.declared.Header.{Header}
 use Rattle.format.specs.declared.Place.{Place}
 use Rattle.format.specs.Tests.{Test}
@@ -15,7 +16,7 @@ use Rattle.format.specs.Hotkey.{hotkeyOk}
 use Rattle.format.specs.Pieces.{Piece, textEnds, textPiece, structTests, absentZero, uncut, testsOf, eachOk, span, led, apartTests, pieceTests}
 use Rattle.format.specs.Volume.{labelUnicode, labelOffset, labelLeast, volumeRules, volumePiece}
 use Rattle.format.specs.Network.{networkFlags, hasDevice, networkUnicode, networkHead, networkPieces, networkHeadTests, networkPiece, hasDeviceUnicode}
-use Rattle.format.specs.Info.{infoHead, longHead, headOk, infoFlags, hasLocal, hasNetwork, infoPieces, infoHeadTests, hasLocalUnicode}
+use Rattle.format.specs.Info.{infoHead, longHead, headOk, infoFlags, hasLocal, hasNetwork, infoPieces, leftoverOk, infoHeadTests, hasLocalUnicode}
 use Rattle.format.specs.Presence.{localThere, networkThere, localUnicodeThere, deviceThere, deviceUnicodeThere}
 use Rattle.format.specs.Shortcut.{most}
 use Rattle.format.specs.Contents.{NetworkContents, InfoContents, Contents}
@@ -27,19 +28,19 @@ use Rattle.format.proofs.Intervals.{allApart, placesOf, tests-apart, ap
 
 -- ---- the header
 
-pub record HeaderHolds (l : List ℕ) : Type 0 where
+pub record HeaderHolds (profile : Profile) (l : List ℕ) : Type 0 where
   pub size : headerSizeOk (u32At l 0) ≡ true
   pub identifier : identifierOk l ≡ true
   pub flags : flagsOk (u32At l 20) ≡ true
-  pub attributes : attributesOk (u32At l 24) ≡ true
+  pub attributes : attributesOk profile (u32At l 24) ≡ true
   pub hotkey : hotkeyOk (u16At l 64) ≡ true
   pub zeros : zerosFrom66 l ≡ true
 
-pub header-holds : (l : List ℕ) → Pass (headerRules l) → HeaderHolds l
-header-holds l (a, (b, (c, (d, (e, (f, z)))))) = record { size = a; identifier = b; flags = c; attributes = d; hotkey = e; zeros = f }
+pub header-holds : (profile : Profile) (l : List ℕ) → Pass (headerRules profile l) → HeaderHolds profile l
+header-holds profile l (a, (b, (c, (d, (e, (f, z)))))) = record { size = a; identifier = b; flags = c; attributes = d; hotkey = e; zeros = f }
 
-pub header-passes : (l : List ℕ) → HeaderHolds l → Pass (headerRules l)
-header-passes l h = (h .size, (h .identifier, (h .flags, (h .attributes, (h .hotkey, (h .zeros, tt))))))
+pub header-passes : (profile : Profile) (l : List ℕ) → HeaderHolds profile l → Pass (headerRules profile l)
+header-passes profile l h = (h .size, (h .identifier, (h .flags, (h .attributes, (h .hotkey, (h .zeros, tt))))))
 
 -- ---- a structure
 
@@ -142,20 +143,20 @@ network-pieces-pass v h =
 
 -- ---- LinkInfo
 
-pub record InfoHeadHolds (l : List ℕ) : Type 0 where
+pub record InfoHeadHolds (profile : Profile) (l : List ℕ) : Type 0 where
   pub head : headOk l ≡ true
   pub flags : leb (infoFlags l) 3 ≡ true
-  pub volumeOffset : absentZero (hasLocal l) (u32At l 12) ≡ true
-  pub localOffset : absentZero (hasLocal l) (u32At l 16) ≡ true
-  pub networkOffset : absentZero (hasNetwork l) (u32At l 20) ≡ true
-  pub localUnicodeOffset : (not (longHead l) || absentZero (hasLocal l) (u32At l 28)) ≡ true
+  pub volumeOffset : leftoverOk profile (hasLocal l) (u32At l 12) ≡ true
+  pub localOffset : leftoverOk profile (hasLocal l) (u32At l 16) ≡ true
+  pub networkOffset : leftoverOk profile (hasNetwork l) (u32At l 20) ≡ true
+  pub localUnicodeOffset : (not (longHead l) || leftoverOk profile (hasLocal l) (u32At l 28)) ≡ true
 
-pub info-head-holds : (l : List ℕ) → Pass (infoHeadTests l) → InfoHeadHolds l
-info-head-holds l (a, (b, (c, (d, (e, (f, z)))))) =
+pub info-head-holds : (profile : Profile) (l : List ℕ) → Pass (infoHeadTests profile l) → InfoHeadHolds profile l
+info-head-holds profile l (a, (b, (c, (d, (e, (f, z)))))) =
     record { head = a; flags = b; volumeOffset = c; localOffset = d; networkOffset = e; localUnicodeOffset = f }
 
-pub info-head-passes : (l : List ℕ) → InfoHeadHolds l → Pass (infoHeadTests l)
-info-head-passes l h = (h .head, (h .flags, (h .volumeOffset, (h .localOffset, (h .networkOffset, (h .localUnicodeOffset, tt))))))
+pub info-head-passes : (profile : Profile) (l : List ℕ) → InfoHeadHolds profile l → Pass (infoHeadTests profile l)
+info-head-passes profile l h = (h .head, (h .flags, (h .volumeOffset, (h .localOffset, (h .networkOffset, (h .localUnicodeOffset, tt))))))
 
 pub record InfoPiecesHold (l : List ℕ) : Type 0 where
   pub volume : Pass (testsOf (infoHead l) (volumePiece (hasLocal l) l 12 (u32At l 12)))
@@ -180,16 +181,16 @@ info-pieces-pass l h =
 
 -- ---- what can be written
 
-pub record HeaderWritable (h : Header) : Type 0 where
+pub record HeaderWritable (profile : Profile) (h : Header) : Type 0 where
   pub flags : flagsOk (h .flags) ≡ true
-  pub attributes : attributesOk (h .attributes) ≡ true
+  pub attributes : attributesOk profile (h .attributes) ≡ true
   pub hotkey : hotkeyOk (h .hotkey) ≡ true
 
-pub header-writable : (h : Header) → writableHeader h ≡ true → HeaderWritable h
-header-writable h e = let (a, (b, (c, z))) = every-out (_ ∷ _ ∷ _ ∷ []) e in record { flags = a; attributes = b; hotkey = c }
+pub header-writable : (profile : Profile) (h : Header) → writableHeader profile h ≡ true → HeaderWritable profile h
+header-writable profile h e = let (a, (b, (c, z))) = every-out (_ ∷ _ ∷ _ ∷ []) e in record { flags = a; attributes = b; hotkey = c }
 
-pub writable-header : (h : Header) → HeaderWritable h → writableHeader h ≡ true
-writable-header h w = every-in (_ ∷ _ ∷ _ ∷ []) (w .flags, (w .attributes, (w .hotkey, tt)))
+pub writable-header : (profile : Profile) (h : Header) → HeaderWritable profile h → writableHeader profile h ≡ true
+writable-header profile h w = every-in (_ ∷ _ ∷ _ ∷ []) (w .flags, (w .attributes, (w .hotkey, tt)))
 
 pub record NetworkWritable (n : NetworkContents) : Type 0 where
   pub flags : leb (n .flags) 3 ≡ true
@@ -225,16 +226,16 @@ writable-info i w =
     every-in (_ ∷ _ ∷ _ ∷ _ ∷ _ ∷ _ ∷ _ ∷ [])
     (w .flags, (w .volume, (w .local, (w .network, (w .suffix, (w .localUnicode, (w .suffixUnicode, tt)))))))
 
-pub record Writable (c : Contents) : Type 0 where
-  pub header : writableHeader (c .header) ≡ true
+pub record Writable (profile : Profile) (c : Contents) : Type 0 where
+  pub header : writableHeader profile (c .header) ≡ true
   pub link : writableLink (c .header .flags) (c .link) ≡ true
   pub bodies : every (writableBodies c) ≡ true
   pub short : leb (length (canonical c)) most ≡ true
 
-pub all-writable : (c : Contents) → writable c ≡ true → Writable c
+pub all-writable : (profile : Profile) (c : Contents) → writable profile c ≡ true → Writable profile c
 unfolding writable
-all-writable c e = let (a, (b, (d, (f, z)))) = every-out (_ ∷ _ ∷ _ ∷ _ ∷ []) e in record { header = a; link = b; bodies = d; short = f }
+all-writable profile c e = let (a, (b, (d, (f, z)))) = every-out (_ ∷ _ ∷ _ ∷ _ ∷ []) e in record { header = a; link = b; bodies = d; short = f }
 
-pub writable-all : (c : Contents) → Writable c → writable c ≡ true
+pub writable-all : (profile : Profile) (c : Contents) → Writable profile c → writable profile c ≡ true
 unfolding writable
-writable-all c w = every-in (_ ∷ _ ∷ _ ∷ _ ∷ []) (w .header, (w .link, (w .bodies, (w .short, tt))))
+writable-all profile c w = every-in (_ ∷ _ ∷ _ ∷ _ ∷ []) (w .header, (w .link, (w .bodies, (w .short, tt))))

@@ -1,7 +1,7 @@
 -- The laws of LinkInfo.
 use mathlib.Core.Path.{_≡_, refl, sym, _∙_}
 use mathlib.Core.List.{List, [], _∷_, _++_, map}
-use mathlib.Core.Bool.{Bool, true, false, _&&_, _||_, cond}
+use mathlib.Core.Bool.{Bool, true, false, not, _&&_, _||_, cond}
 use Prim.Native.Nat.{ℕ, _+_, _≤_}
 use native.Mathlib.Omega.{arith}
 use lib.ListN.{length, take, drop, length-append}
@@ -9,12 +9,14 @@ use lib.Dec.{leb, eqb}
 use borrow.Author.Tests.{leb-true, le-leb, lt-leb, eqb-true}
 use Rattle.octets.specs.Numbers.{Bytes, number, numberAt, u32At, little}
 use Rattle.octets.proofs.NumberLaws.{bytes-append, bytes-nil, bytes-little, length-little, number-back, number-little, number-same}
+use Rattle.format.specs.declared.Profile.{Profile}
+use Rattle.format.specs.declared.Profile.the-variants.{Strict, NinetyFive}
 use Rattle.format.specs.declared.Fault.the-variants.{Info as INFO}
 use Rattle.format.specs.Tests.{_else_at_}
-use Rattle.format.specs.Pieces.{textSize, textTests, textPiece, span}
+use Rattle.format.specs.Pieces.{absentZero, textSize, textTests, textPiece, span}
 use Rattle.format.specs.Volume.{volumePiece, volumeTests}
 use Rattle.format.specs.Network.{networkPiece, networkTests}
-use Rattle.format.specs.Info.{infoSize, infoHead, longHead, infoFlags, hasLocal, hasNetwork, infoPieces, infoHeadTests, infoRules, hasLocalUnicode}
+use Rattle.format.specs.Info.{infoSize, infoHead, longHead, infoFlags, hasLocal, hasNetwork, infoPieces, leftoverOk, infoHeadTests, infoRules, hasLocalUnicode}
 use Rattle.format.specs.Presence.{localThere, networkThere, localUnicodeThere}
 use Rattle.format.specs.Shortcut.{most}
 use Rattle.format.specs.Contents.{VolumeContents, NetworkContents, InfoContents}
@@ -94,11 +96,11 @@ head-fits h n k e =
 abbrev TextFits : ℕ → Bool → Bool → List ℕ → ℕ → Type 0
 TextFits i u b l o = SlotFits i (λ o. textTests i u) (textSize u) (textValue u) b [] (textBytes u) (TextV u) (infoHead l) l o
 
-info-fits : (l : List ℕ) → Bytes l → 0x1C ≤ length l → Pass (infoRules l) → Fits infoBytes InfoV (infoValue l) (length l)
-info-fits l bs k c =
+info-fits : (profile : Profile) (l : List ℕ) → Bytes l → 0x1C ≤ length l → Pass (infoRules profile l) → Fits infoBytes InfoV (infoValue l) (length l)
+info-fits profile l bs k c =
     let h : ℕ = infoHead l in
-    let (c₁, c₂) = pass-split (infoHeadTests l) (infoPieceTests l) c in
-    let x = info-head-holds l c₁ in
+    let (c₁, c₂) = pass-split (infoHeadTests profile l) (infoPieceTests l) c in
+    let x = info-head-holds profile l c₁ in
     let d = info-pieces-hold l c₂ in
     let q = head-fits h (length l) k (x .head) in
     let s₁ : SlotFits 12 (volumeTests 12) structSize volumeHere (hasLocal l) noVolumeC volumeBytes VolumeV h l (u32At l 12)
@@ -158,7 +160,16 @@ unfolding little
 drop-head true a b c d e f g x y r = refl
 drop-head false a b c d e f g x y r = refl
 
-module _ (i : InfoContents) (v : InfoV i) (m : length (infoBytes i) ≤ most) where
+-- what is 0 is accepted under each profile
+pub zero-leftover : (profile : Profile) (b : Bool) (o : ℕ) → absentZero b o ≡ true → leftoverOk profile b o ≡ true
+zero-leftover Strict b o e = e
+zero-leftover NinetyFive b o e = refl
+
+pub leftover-either : (profile : Profile) (u b : Bool) (o : ℕ) → (not u || absentZero b o) ≡ true → (not u || leftoverOk profile b o) ≡ true
+leftover-either profile true b o e = zero-leftover profile b o e
+leftover-either profile false b o e = refl
+
+module _ (profile : Profile) (i : InfoContents) (v : InfoV i) (m : length (infoBytes i) ≤ most) where
   limit : infoLength i ≤ most
   limit = rw (length-info i) at m
 
@@ -286,17 +297,18 @@ module _ (i : InfoContents) (v : InfoV i) (m : length (infoBytes i) ≤ most) wh
       (spans-ordered (localUnicodeThere (i .long) (i .flags)) _ _ _ _ (b₅ .spans) (absent-empty (localUnicodeThere (i .long) (i .flags)) (textBytes true) (i .localUnicode))
       (spans-ordered (i .long) _ _ _ _ (b₆ .spans) (absent-empty (i .long) (textBytes true) (i .suffixUnicode)) end)))))
 
-  info-judged : Pass (infoRules (infoBytes i))
+  info-judged : Pass (infoRules profile (infoBytes i))
   info-judged =
       let b : List ℕ = infoBytes i in
-      pass-join (infoHeadTests b) (infoPieceTests b)
-      (info-head-passes b (record {
+      pass-join (infoHeadTests profile b) (infoPieceTests b)
+      (info-head-passes profile b (record {
         head = rw (is-long, at4) (head-good (i .long) (length b) (omega (arith, length-info i)));
         flags = rw at8 (can .flags);
-        volumeOffset = rw (at8, at12) (zero-absent (localThere (i .flags)) (volumeStart i));
-        localOffset = rw (at8, at16) (zero-absent (localThere (i .flags)) (localStart i));
-        networkOffset = rw (at8, at20) (zero-absent (networkThere (i .flags)) (networkStart i));
-        localUnicodeOffset = rw (is-long, at8) (zero-either (i .long) (localThere (i .flags)) (u32At b 28) (localUnicodeStart i) at28);
+        volumeOffset = rw (at8, at12) (zero-leftover profile _ _ (zero-absent (localThere (i .flags)) (volumeStart i)));
+        localOffset = rw (at8, at16) (zero-leftover profile _ _ (zero-absent (localThere (i .flags)) (localStart i)));
+        networkOffset = rw (at8, at20) (zero-leftover profile _ _ (zero-absent (networkThere (i .flags)) (networkStart i)));
+        localUnicodeOffset = rw (is-long, at8)
+            (leftover-either profile (i .long) (localThere (i .flags)) (u32At b 28) (zero-either (i .long) (localThere (i .flags)) (u32At b 28) (localUnicodeStart i) at28));
       }))
       (info-pieces-pass b (record {
         volume = rw (at4, at8, at12) (b₁ .good);
@@ -308,7 +320,7 @@ module _ (i : InfoContents) (v : InfoV i) (m : length (infoBytes i) ≤ most) wh
         apart = rw (is-long, at8, at12, at16, at20, at24) (ordered-apart in-order);
       }))
 
-  info-back : SizedBack infoSize (λ n. leb 0x1C n else INFO at 0 ∷ []) infoRules infoValue (infoBytes i) i
+  info-back : SizedBack infoSize (λ n. leb 0x1C n else INFO at 0 ∷ []) (infoRules profile) infoValue (infoBytes i) i
   info-back = record {
     sized = λ r. at0 r ∙ sym (length-info i);
     sizable = (le-leb 0x1C (length (infoBytes i)) (omega (arith, length-info i, head-is (i .long))), tt);
@@ -332,14 +344,14 @@ info-bytes i v =
     (ok-there Bytes (writableText true) (i .long) [] (i .suffixUnicode) (t .suffixUnicode) (can .suffixUnicode)) in
     search (bytes-append, bytes-little, bytes-nil, bytes-two) depth 20
 
-info-sized : Sized 2 4 infoSize (λ n. leb 0x1C n else INFO at 0 ∷ []) infoRules infoValue infoBytes InfoV
-info-sized = record {
+info-sized : (profile : Profile) → Sized 2 4 infoSize (λ n. leb 0x1C n else INFO at 0 ∷ []) (infoRules profile) infoValue infoBytes InfoV
+info-sized profile = record {
   first = λ s t e. number-same 4 4 s t 0 e (omega arith);
   low = λ s e. omega (arith, leb-true 0x1C (infoSize s) (e .0));
   bytes = info-bytes;
-  back = info-back;
-  fits = λ l bs k g c. info-fits l bs (leb-true _ _ (g .0)) c;
+  back = info-back profile;
+  fits = λ l bs k g c. info-fits profile l bs (leb-true _ _ (g .0)) c;
 }
 
-pub info-law : Law (sizedR 2 4 infoSize (λ n. leb 0x1C n else INFO at 0 ∷ []) infoRules infoValue) infoBytes InfoV
-info-law = sized-law 2 4 infoSize (λ n. leb 0x1C n else INFO at 0 ∷ []) infoRules infoValue info-sized
+pub info-law : (profile : Profile) → Law (sizedR 2 4 infoSize (λ n. leb 0x1C n else INFO at 0 ∷ []) (infoRules profile) infoValue) infoBytes InfoV
+info-law profile = sized-law 2 4 infoSize (λ n. leb 0x1C n else INFO at 0 ∷ []) (infoRules profile) infoValue (info-sized profile)

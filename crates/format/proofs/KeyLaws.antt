@@ -11,6 +11,7 @@ use lib.Seq.{take-at, drop-append-seam}
 use Rattle.octets.specs.Numbers.{number, little}
 use Rattle.octets.proofs.NumberLaws.{length-little, number-little}
 use Rattle.octets.specs.Characters.{beforeZero}
+use Rattle.format.specs.declared.Profile.{Profile}
 use Rattle.format.specs.Tests.{got, bit, oneOr0}
 use Rattle.format.specs.Presence.{workdirBit, argumentsBit, stringThere}
 use Rattle.format.specs.Blocks.{firstPlace}
@@ -123,9 +124,9 @@ key-fits s c h =
     }
 
 -- keys of accepted shortcuts are equal exactly if bit 7 is, and each part with its presence
-pub equal-keys : (s t : List ℕ) (c d : Sections) (n m : ℕ) → shortcut s ≡ got c n → shortcut t ≡ got d m
+pub equal-keys : (profile : Profile) (s t : List ℕ) (c d : Sections) (n m : ℕ) → shortcut profile s ≡ got c n → shortcut profile t ≡ got d m
     → (keyBytes (keyOf s c) ≡ keyBytes (keyOf t d)) ↔ SameParts (keyOf s c) (keyOf t d)
-equal-keys s t c d n m e f =
-    let k = key-fits s c ((shortcut-whole s c n e) .limit) in
-    let l = key-fits t d ((shortcut-whole t d m f) .limit) in
+equal-keys profile s t c d n m e f =
+    let k = key-fits s c ((shortcut-whole profile s c n e) .limit) in
+    let l = key-fits t d ((shortcut-whole profile t d m f) .limit) in
     (key-told (keyOf s c) (keyOf t d) k l, key-same (keyOf s c) (keyOf t d))

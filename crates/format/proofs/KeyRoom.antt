@@ -11,6 +11,7 @@ use borrow.Author.Tests.{le-leb}
 use Rattle.octets.specs.Numbers.{Bytes, u32At}
 use Rattle.octets.specs.Characters.{beforeZero}
 use Rattle.octets.proofs.NumberLaws.{length-little}
+use Rattle.format.specs.declared.Profile.{Profile}
 use Rattle.format.specs.declared.Place.{Place}
 use Rattle.format.specs.declared.Record.{Record}
 use Rattle.format.specs.declared.Verdict.the-variants.{Accepted}
@@ -58,34 +59,34 @@ abbrev pub environmentOf : List ℕ → ℕ → List ℕ → Part
 environmentOf s p lengths = environment s (firstPlace s 0xA0000001 p lengths)
 
 -- the blocks as reading walked over them, and the key
-pub record Made (s : List ℕ) (r : Record) : Type 0 where
+pub record Made (profile : Profile) (s : List ℕ) (r : Record) : Type 0 where
   pub start : ℕ
   pub at : placeIn r blocksSlot .at ≡ start
   pub lengths : List ℕ
   pub count : ℕ
   pub walk : blocks start (drop start s) ≡ got lengths count
   pub body : bodyIn (contents s r) blocksSlot ≡ take (sum lengths) (drop start s)
-  pub is : keyIn s ≡ keyFrom (contents s r) (environmentOf s start lengths)
+  pub is : keyIn profile s ≡ keyFrom (contents s r) (environmentOf s start lengths)
 
-pub made : (s : List ℕ) (r : Record) → Accepts s r → Made s r
+pub made : (profile : Profile) (s : List ℕ) (r : Record) → Accepts profile s r → Made profile s r
 unfolding Accepts keyIn keyOf contents
-made s r e =
-    let x = accepted-read s r (length s) e in
+made profile s r e =
+    let x = accepted-read profile s r (length s) e in
     let b = blocksOf (x .sections) in
-    let c : bodiesOf s (recordOf (x .sections)) ≡ contents s r = ap (bodiesOf s) (x .held ∙ sym (accepted-present s r (length s) e)) in
+    let c : bodiesOf s (recordOf (x .sections)) ≡ contents s r = ap (bodiesOf s) (x .held ∙ sym (accepted-present profile s r (length s) e)) in
     record {
       start = b .start;
       at = ap (λ (q : Record). placeIn q blocksSlot .at) (sym (x .held));
       lengths = b .read;
       count = b .len;
-      walk = read-walk s (x .sections) (length s) ((shortcut-whole s (x .sections) (length s) (x .is)) .read);
+      walk = read-walk profile s (x .sections) (length s) ((shortcut-whole profile s (x .sections) (length s) (x .is)) .read);
       body = ap (λ (c : Contents). bodyIn c blocksSlot) (sym c);
       is = ap (keyBy s) (x .is) ∙ ap (λ (c : Contents). keyFrom c (environmentOf s (b .start) (b .read))) c;
     }
 
 -- the blocks' lengths add up to their body's
-pub body-long : {s : List ℕ} {r : Record} (m : Made s r) → length (bodyIn (contents s r) blocksSlot) ≡ sum (m .lengths)
-body-long {s} m =
+pub body-long : (profile : Profile) {s : List ℕ} {r : Record} (m : Made profile s r) → length (bodyIn (contents s r) blocksSlot) ≡ sum (m .lengths)
+body-long profile {s} m =
     let w = blocks-walked [] (m .start) (drop (m .start) s) (m .lengths) (m .count) (m .walk) in
     ap length (m .body) ∙ length-take-le (sum (m .lengths)) (drop (m .start) s) (omega (arith, w .adds, w .inside))
 
@@ -191,26 +192,26 @@ key-few c e h =
     )
 
 -- a key is never longer than its shortcut: what is written for the contents has room for it, and is no longer than the shortcut
-pub key-short : (s : List ℕ) (r : Record) → Bytes s → Accepts s r → length (keyBytes (keyIn s)) ≤ length s
+pub key-short : (profile : Profile) (s : List ℕ) (r : Record) → Bytes s → Accepts profile s r → length (keyBytes (keyIn profile s)) ≤ length s
 unfolding Accepts
-key-short s r bs e =
-    let m = made s r e in
+key-short profile s r bs e =
+    let m = made profile s r e in
     let t = environmentOf s (m .start) (m .lengths) in
-    let k = key-few (contents s r) t (omega (arith, environment-few s (m .start) (m .lengths), body-long m)) in
-    let w = shortest s (contents s r) (length s) bs (accepted-decode s r (length s) e) in
+    let k = key-few (contents s r) t (omega (arith, environment-few s (m .start) (m .lengths), body-long profile m)) in
+    let w = shortest profile s (contents s r) (length s) bs (accepted-decode profile s r (length s) e) in
     rw (m .is) (omega (arith, k, w .short))
 
 -- nor is a target text, which its key has in it
-pub target-short : (s : List ℕ) (r : Record) → Bytes s → Accepts s r → hasTarget r ≡ true → length (targetText s r) ≤ length s
-target-short s r bs e h =
-    let k : length (keyBytes (keyIn s)) ≤ length s = key-short s r bs e in
-    let t : keyIn s .target ≡ somePart (targetText s r) = (record-tells s r e) .target ∙ ap (λ (b : Bool). partIf b (targetText s r)) h in
-    omega (arith, length-key (keyIn s), ap bytesIn t)
+pub target-short : (profile : Profile) (s : List ℕ) (r : Record) → Bytes s → Accepts profile s r → hasTarget r ≡ true → length (targetText s r) ≤ length s
+target-short profile s r bs e h =
+    let k : length (keyBytes (keyIn profile s)) ≤ length s = key-short profile s r bs e in
+    let t : keyIn profile s .target ≡ somePart (targetText s r) = (record-tells profile s r e) .target ∙ ap (λ (b : Bool). partIf b (targetText s r)) h in
+    omega (arith, length-key (keyIn profile s), ap bytesIn t)
 
 -- a buffer as long as the shortcut always has room for its key
-pub room-enough : (s out : List ℕ) (r : Record) → Bytes s → Accepts s r → length s ≤ length out → keyAnswer s out ≡ Accepted (length (keyBytes (keyIn s)))
+pub room-enough : (profile : Profile) (s out : List ℕ) (r : Record) → Bytes s → Accepts profile s r → length s ≤ length out → keyAnswer profile s out ≡ Accepted (length (keyBytes (keyIn profile s)))
 unfolding Accepts keyAnswer key keyIn
-room-enough s out r bs e h =
-    let x = accepted-read s r (length s) e in
-    let k = rw (x .is) at (key-short s r bs e) in
+room-enough profile s out r bs e h =
+    let x = accepted-read profile s r (length s) e in
+    let k = rw (x .is) at (key-short profile s r bs e) in
     rw (x .is, le-leb (length (keyBytes (keyOf s (x .sections)))) (length out) (omega arith))

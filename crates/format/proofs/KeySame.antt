@@ -11,6 +11,7 @@ use borrow.Author.Tests.{leb-true}
 use Rattle.octets.specs.Numbers.{u32At}
 use Rattle.octets.specs.Characters.{beforeZero}
 use Rattle.octets.proofs.NumberLaws.{number-same, number-drop}
+use Rattle.format.specs.declared.Profile.{Profile}
 use Rattle.format.specs.declared.Place.{Place}
 use Rattle.format.specs.declared.Record.{Record}
 use Rattle.format.specs.Tests.{got, place}
@@ -65,20 +66,20 @@ environment-told (suc k) before s t p q ls n l e =
     ls n e
 
 -- blocks with the same bytes have the same text for a key
-pub same-environment : {s : List ℕ} {r : Record} {t : List ℕ} {q : Record} (m : Made s r) (o : Made t q) → bodyIn (contents s r) blocksSlot ≡ bodyIn (contents t q) blocksSlot
+pub same-environment : (profile : Profile) {s : List ℕ} {r : Record} {t : List ℕ} {q : Record} (m : Made profile s r) (o : Made profile t q) → bodyIn (contents s r) blocksSlot ≡ bodyIn (contents t q) blocksSlot
     → environmentOf s (m .start) (m .lengths) ≡ environmentOf t (o .start) (o .lengths)
-same-environment {s} {r} {t} {q} m o e =
-    let l : sum (m .lengths) ≡ sum (o .lengths) = sym (body-long m) ∙ ap length e ∙ body-long o in
+same-environment profile {s} {r} {t} {q} m o e =
+    let l : sum (m .lengths) ≡ sum (o .lengths) = sym (body-long profile m) ∙ ap length e ∙ body-long profile o in
     let u : take (sum (m .lengths)) (drop (m .start) s) ≡ take (sum (m .lengths)) (drop (o .start) t) = rw (← l) at (sym (m .body) ∙ e ∙ o .body) in
     let d : m .lengths ≡ o .lengths
     = lengths-told (m .start) (o .start) (drop (m .start) s) (drop (o .start) t) (m .lengths) (o .lengths) (m .count) (o .count) (m .walk) (o .walk) l u in
     environment-told (length (drop (m .start) s)) [] s t (m .start) (o .start) (m .lengths) (m .count) (omega arith) (m .walk) u ∙ ap (environmentOf t (o .start)) d
 
 -- so all that is in a key is in the contents
-pub same-record-same-key : (s : List ℕ) (r : Record) (t : List ℕ) (q : Record) → Accepts s r → Accepts t q → Same s r t q → keyIn s ≡ keyIn t
+pub same-record-same-key : (profile : Profile) (s : List ℕ) (r : Record) (t : List ℕ) (q : Record) → Accepts profile s r → Accepts profile t q → Same s r t q → keyIn profile s ≡ keyIn profile t
 unfolding Same
-same-record-same-key s r t q a b e =
-    let m = made s r a in
-    let o = made t q b in
-    let v = same-environment m o (ap (λ (c : Contents). bodyIn c blocksSlot) e) in
+same-record-same-key profile s r t q a b e =
+    let m = made profile s r a in
+    let o = made profile t q b in
+    let v = same-environment profile m o (ap (λ (c : Contents). bodyIn c blocksSlot) e) in
     m .is ∙ ap (λ (c : Contents). keyFrom c (environmentOf s (m .start) (m .lengths))) e ∙ ap (keyFrom (contents t q)) v ∙ sym (o .is)

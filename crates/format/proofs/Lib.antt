@@ -54,6 +54,8 @@ pub mod MoveLaws
 pub mod MoveRows
 pub mod MoveDemands
 pub mod NamedLaws
+pub mod ProfileLaws
 pub mod ProbeLaws
+pub mod ProfileRows
 pub mod AnswerLaws
 pub mod OneOutcome

@@ -11,6 +11,7 @@ use borrow.Author.Tests.{leb-true, ltb-true, lt-ltb, eqb-true, eq-eqb, eqb-false
 use Rattle.octets.specs.Numbers.{Bytes}
 use Rattle.octets.specs.Characters.{units, beforeZero}
 use Rattle.octets.proofs.NumberLaws.{bytes-nil}
+use Rattle.format.specs.declared.Profile.{Profile}
 use Rattle.format.specs.declared.Header.{Header}
 use Rattle.format.specs.Tests.{bit}
 use Rattle.format.specs.Presence.{itemsThere, infoThere, nameBit, relativeBit, workdirBit, argumentsBit, iconBit, stringThere, stringsUnicode, localThere, localUnicodeThere}
@@ -110,9 +111,9 @@ bit-set f e = eqb-true (f / 128 % 2) 1 e
 
 -- ---- the parts
 
-header-moved : (h : Header) (f : ℕ) → f < 2 ^ 32 → flagsOk f ≡ true → HeaderV h → HeaderV (withFlags f h)
-header-moved h f l e v =
-    let w = header-writable h (v .can) in
+header-moved : (profile : Profile) (h : Header) (f : ℕ) → f < 2 ^ 32 → flagsOk f ≡ true → HeaderV profile h → HeaderV profile (withFlags f h)
+header-moved profile h f l e v =
+    let w = header-writable profile h (v .can) in
     let t = v .typed in
     record {
       typed = record {
@@ -126,7 +127,7 @@ header-moved h f l e v =
         command = t .command;
         hotkey = t .hotkey;
       };
-      can = writable-header (withFlags f h) (record { flags = e; attributes = w .attributes; hotkey = w .hotkey });
+      can = writable-header profile (withFlags f h) (record { flags = e; attributes = w .attributes; hotkey = w .hotkey });
     }
 
 -- a string in units, and in bytes again
@@ -257,20 +258,20 @@ maps-unicode c e =
     let (a, (b, (d, z))) = every-out (_ ∷ _ ∷ _ ∷ []) e in
     record { clear = not-true (stringsUnicode (flagsOf c)) a; strings = of-strings allAssigned c b; texts = d }
 
-pub unicode-valid : (c : Contents) → Valid c → mapsToUnicode c ≡ true → Valid (inUnicode c)
+pub unicode-valid : (profile : Profile) (c : Contents) → Valid profile c → mapsToUnicode c ≡ true → Valid profile (inUnicode c)
 unfolding Valid inUnicode
-unicode-valid c v e =
+unicode-valid profile c v e =
     let t = maps-unicode c e in
     let g = flagsOf c in
     let z = bit-clear g (t .clear) in
     let s = set-bits g z in
     let u = set-unicode g z in
     let (header, (items, (info, (name, (relative, (workdir, (arguments, (icon, blocks)))))))) = v .1 in
-    let ok = header-writable (c .header) (header .can) .flags in
+    let ok = header-writable profile (c .header) (header .can) .flags in
     let few : g / 134217728 ≡ 0 = eqb-true (g / 134217728) 0 ok in (
       refl,
       (
-        header-moved (c .header) (g + 0x80) (omega arith) (set-ok g z ok) header,
+        header-moved profile (c .header) (g + 0x80) (omega arith) (set-ok g z ok) header,
         (
           rw (s .items) items,
           (
@@ -306,20 +307,20 @@ maps-bytes c e =
     let (a, (b, (d, z))) = every-out (_ ∷ _ ∷ _ ∷ []) e in
     record { set = a; strings = of-strings allInTable c b; texts = d }
 
-pub bytes-valid : (c : Contents) → Valid c → mapsToBytes c ≡ true → Valid (inBytes c)
+pub bytes-valid : (profile : Profile) (c : Contents) → Valid profile c → mapsToBytes c ≡ true → Valid profile (inBytes c)
 unfolding Valid inBytes
-bytes-valid c v e =
+bytes-valid profile c v e =
     let t = maps-bytes c e in
     let f = flagsOf c in
     let z = bit-set f (t .set) in
     let s = clear-bits f z in
     let u = clear-unicode f z in
     let (header, (items, (info, (name, (relative, (workdir, (arguments, (icon, blocks)))))))) = v .1 in
-    let ok = header-writable (c .header) (header .can) .flags in
+    let ok = header-writable profile (c .header) (header .can) .flags in
     let few = header .typed .flags in (
       refl,
       (
-        header-moved (c .header) (f - 0x80) (omega arith) (clear-ok f z ok) header,
+        header-moved profile (c .header) (f - 0x80) (omega arith) (clear-ok f z ok) header,
         (
           rw (s .items) items,
           (
@@ -346,9 +347,9 @@ bytes-valid c v e =
     )
 
 -- the length alone decides
-pub valid-writable : (c : Contents) → Valid c → writable c ≡ leb (length (canonical c)) most
-valid-writable c v =
-    same-truth (writable c) (leb (length (canonical c)) most) (λ e. (all-writable c e) .short) (λ e. valid-can c v (leb-true (length (canonical c)) most e))
+pub valid-writable : (profile : Profile) (c : Contents) → Valid profile c → writable profile c ≡ leb (length (canonical c)) most
+valid-writable profile c v =
+    same-truth (writable profile c) (leb (length (canonical c)) most) (λ e. (all-writable profile c e) .short) (λ e. valid-can profile c v (leb-true (length (canonical c)) most e))
 
 -- ---- there and back
 
@@ -364,9 +365,9 @@ pub record StringBytes (c : Contents) : Type 0 where
   pub arguments : Bytes (bodyIn c (stringSlot argumentsBit))
   pub icon : Bytes (bodyIn c (stringSlot iconBit))
 
-valid-strings : (c : Contents) → Valid c → StringBytes c
+valid-strings : (profile : Profile) (c : Contents) → Valid profile c → StringBytes c
 unfolding Valid
-valid-strings c v =
+valid-strings profile c v =
     let f = flagsOf c in
     let u = stringsUnicode f in
     let (header, (items, (info, (name, (relative, (workdir, (arguments, (icon, blocks)))))))) = v .1 in
@@ -384,9 +385,9 @@ pub record Short (c : Contents) : Type 0 where
   pub local : bodyIn c localUnicodeSlot ≡ []
   pub suffix : bodyIn c suffixUnicodeSlot ≡ []
 
-pub short-head : (c : Contents) → Valid c → (infoThere (flagsOf c) ≡ true → c .link .long ≡ false) → Short c
+pub short-head : (profile : Profile) (c : Contents) → Valid profile c → (infoThere (flagsOf c) ≡ true → c .link .long ≡ false) → Short c
 unfolding Valid
-short-head c v h = go (infoThere (flagsOf c)) refl (v .1 .1 .1 .0)
+short-head profile c v h = go (infoThere (flagsOf c)) refl (v .1 .1 .1 .0)
   where
     none : (l : Bool) → l ≡ false → IfThere (localUnicodeThere l (c .link .flags)) [] Bytes (bodyIn c localUnicodeSlot) → IfThere l [] Bytes (bodyIn c suffixUnicodeSlot)
         → (bodyIn c localUnicodeSlot ≡ []) × (bodyIn c suffixUnicodeSlot ≡ [])
@@ -400,12 +401,12 @@ short-head c v h = go (infoThere (flagsOf c)) refl (v .1 .1 .1 .0)
         record { long = l; local = n .0; suffix = n .1 }
     go false i x = record { long = ap (λ (y : InfoContents). y .long) x; local = ap (λ (y : InfoContents). y .localUnicode) x; suffix = ap (λ (y : InfoContents). y .suffixUnicode) x }
 
-module _ (c : Contents) (v : Valid c) (e : mapsToUnicode c ≡ true) (short : infoThere (flagsOf c) ≡ true → c .link .long ≡ false) where
+module _ (profile : Profile) (c : Contents) (v : Valid profile c) (e : mapsToUnicode c ≡ true) (short : infoThere (flagsOf c) ≡ true → c .link .long ≡ false) where
   t : ToUnicode c
   t = maps-unicode c e
 
   bs : StringBytes c
-  bs = valid-strings c v
+  bs = valid-strings profile c v
 
   -- the contents with these flags, this head, these Unicode texts and these strings
   abbrev made : ℕ → Bool → List ℕ → List ℕ → List ℕ → List ℕ → List ℕ → List ℕ → List ℕ → Contents
@@ -420,7 +421,7 @@ module _ (c : Contents) (v : Valid c) (e : mapsToUnicode c ≡ true) (short : in
   unfolding inBytes inUnicode Valid
   there-and-back =
       let f : flagsOf c + 0x80 - 0x80 ≡ flagsOf c = omega arith in
-      let h = short-head c v short in
+      let h = short-head profile c v short in
       let string : ℕ → List ℕ = λ k. bodyIn c (stringSlot k) in
       let p : made (flagsOf c + 0x80 - 0x80) false [] [] (toBytes (toUnits (string nameBit))) (toBytes (toUnits (string relativeBit))) (toBytes (toUnits (string workdirBit))) (toBytes (toUnits (string argumentsBit))) (toBytes (toUnits (string iconBit)))
       ≡ made (flagsOf c) (c .link .long) (bodyIn c localUnicodeSlot) (bodyIn c suffixUnicodeSlot) (string nameBit) (string relativeBit) (string workdirBit) (string argumentsBit) (string iconBit)
@@ -454,7 +455,7 @@ module _ (c : Contents) (v : Valid c) (e : mapsToUnicode c ≡ true) (short : in
               ),
             ),
           ),
-          (texts (infoThere (flagsOf c)) (c .link .long) (short-head c v short .long) (t .texts), tt),
+          (texts (infoThere (flagsOf c)) (c .link .long) (short-head profile c v short .long) (t .texts), tt),
         ),
       )
     where

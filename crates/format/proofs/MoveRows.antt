@@ -5,6 +5,7 @@ use Prim.Native.Nat.{ℕ}
 use lib.ListN.{length}
 use Rattle.octets.specs.Numbers.{number, numberAt, little}
 use Rattle.octets.specs.Characters.{units, beforeZero}
+use Rattle.format.specs.declared.Profile.the-variants.{Strict}
 use Rattle.format.specs.declared.Fault.the-variants.{Cut as CUT, Room as ROOM, NoMap as NOMAP}
 use Rattle.format.specs.Tests.{Outcome, got, refused, section, spotAt}
 use Rattle.format.proofs.AnswerLaws.{nowhere}
@@ -48,16 +49,16 @@ other = 0x43 ∷ 0 ∷ 0 ∷ 0 ∷ 0x80 ∷ 0 ∷ 0 ∷ 0 ∷ []
 
 -- Z; P9's arguments, and into a room one too small; a euro sign and a zero; 9F and FF; an unassigned byte; flag bit 7 set; LinkInfo with the short head;
 -- with the long one, which stays; a shortcut cut short
-pub unicode-rows : toUnicode Z 80
-    ∷ toUnicode (bytes (0x2D ∷ 0x67 ∷ 0x31 ∷ [])) 88
-    ∷ toUnicode (bytes (0x2D ∷ 0x67 ∷ 0x31 ∷ [])) 87
-    ∷ toUnicode (bytes (0x80 ∷ 0x00 ∷ [])) 100
-    ∷ toUnicode (bytes (0x9F ∷ 0xFF ∷ [])) 100
-    ∷ toUnicode (bytes (0x41 ∷ 0x81 ∷ [])) 100
-    ∷ toUnicode (withSection 0xA0 dashG1) 100
-    ∷ toUnicode (withSection 2 short) 200
-    ∷ toUnicode (withSection 2 (long other)) 200
-    ∷ toUnicode (withSection 0x20 (0x09 ∷ 0x00 ∷ 0x2D ∷ [])) 100
+pub unicode-rows : toUnicode Strict Z 80
+    ∷ toUnicode Strict (bytes (0x2D ∷ 0x67 ∷ 0x31 ∷ [])) 88
+    ∷ toUnicode Strict (bytes (0x2D ∷ 0x67 ∷ 0x31 ∷ [])) 87
+    ∷ toUnicode Strict (bytes (0x80 ∷ 0x00 ∷ [])) 100
+    ∷ toUnicode Strict (bytes (0x9F ∷ 0xFF ∷ [])) 100
+    ∷ toUnicode Strict (bytes (0x41 ∷ 0x81 ∷ [])) 100
+    ∷ toUnicode Strict (withSection 0xA0 dashG1) 100
+    ∷ toUnicode Strict (withSection 2 short) 200
+    ∷ toUnicode Strict (withSection 2 (long other)) 200
+    ∷ toUnicode Strict (withSection 0x20 (0x09 ∷ 0x00 ∷ 0x2D ∷ [])) 100
     ∷ []
     ≡ whole (withSection 0x80 [])
     ∷ whole (withSection 0xA0 dashG1)
@@ -74,18 +75,18 @@ unfolding number numberAt little units beforeZero identifierOk signed itemTests 
 unicode-rows = refl
 
 -- the way back of the same; units that no byte has, the mark among them; flag bit 7 clear; a Unicode text that differs
-pub bytes-rows : toByteStrings (withSection 0x80 []) 80
-    ∷ toByteStrings (withSection 0xA0 dashG1) 85
-    ∷ toByteStrings (withSection 0xA0 dashG1) 84
-    ∷ toByteStrings (unicode (0xAC ∷ 0x20 ∷ 0x00 ∷ 0x00 ∷ [])) 100
-    ∷ toByteStrings (unicode (0x78 ∷ 0x01 ∷ 0xFF ∷ 0x00 ∷ [])) 100
-    ∷ toByteStrings (unicode (0x81 ∷ 0x00 ∷ [])) 100
-    ∷ toByteStrings (unicode (0xFF ∷ 0xFF ∷ [])) 100
-    ∷ toByteStrings (unicode (0x00 ∷ 0x01 ∷ [])) 100
-    ∷ toByteStrings Z 100
-    ∷ toByteStrings (withSection 0x82 (long translated)) 200
-    ∷ toByteStrings (withSection 0x82 (long other)) 200
-    ∷ toByteStrings (withSection 0x82 short) 200
+pub bytes-rows : toByteStrings Strict (withSection 0x80 []) 80
+    ∷ toByteStrings Strict (withSection 0xA0 dashG1) 85
+    ∷ toByteStrings Strict (withSection 0xA0 dashG1) 84
+    ∷ toByteStrings Strict (unicode (0xAC ∷ 0x20 ∷ 0x00 ∷ 0x00 ∷ [])) 100
+    ∷ toByteStrings Strict (unicode (0x78 ∷ 0x01 ∷ 0xFF ∷ 0x00 ∷ [])) 100
+    ∷ toByteStrings Strict (unicode (0x81 ∷ 0x00 ∷ [])) 100
+    ∷ toByteStrings Strict (unicode (0xFF ∷ 0xFF ∷ [])) 100
+    ∷ toByteStrings Strict (unicode (0x00 ∷ 0x01 ∷ [])) 100
+    ∷ toByteStrings Strict Z 100
+    ∷ toByteStrings Strict (withSection 0x82 (long translated)) 200
+    ∷ toByteStrings Strict (withSection 0x82 (long other)) 200
+    ∷ toByteStrings Strict (withSection 0x82 short) 200
     ∷ []
     ≡ whole Z
     ∷ whole (bytes (0x2D ∷ 0x67 ∷ 0x31 ∷ []))

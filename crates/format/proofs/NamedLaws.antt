@@ -5,6 +5,7 @@ use mathlib.Core.Bool.{Bool, true, false, _&&_}
 use Prim.Native.Nat.{ℕ}
 use lib.ListN.{length}
 use lib.Dec.{leb}
+use Rattle.format.specs.declared.Profile.{Profile}
 use Rattle.format.specs.declared.Place.{Place}
 use Rattle.format.specs.declared.Label.{Label}
 use Rattle.format.specs.declared.Label.the-variants.{Byte, Unicode}
@@ -108,15 +109,15 @@ canonical-as-before : (c : Contents) → namedCanonical (asNamedContents c) ≡ 
 unfolding namedCanonical canonical
 canonical-as-before c = refl
 
-writable-as-before : (c : Contents) → namedWritable (asNamedContents c) ≡ writable c
+writable-as-before : (profile : Profile) (c : Contents) → namedWritable profile (asNamedContents c) ≡ writable profile c
 unfolding namedWritable namedCanonical canonical
-writable-as-before c = same-truth (namedWritable (asNamedContents c)) (writable c) forth back
+writable-as-before profile c = same-truth (namedWritable profile (asNamedContents c)) (writable profile c) forth back
   where
-    forth : namedWritable (asNamedContents c) ≡ true → writable c ≡ true
+    forth : namedWritable profile (asNamedContents c) ≡ true → writable profile c ≡ true
     forth e =
         let (header, (items, (info, (name, (relative, (workdir, (arguments, (icon, (blocks, (short, z)))))))))) = every-out (_ ∷ _ ∷ _ ∷ _ ∷ _ ∷ _ ∷ _ ∷ _ ∷ _ ∷ _ ∷ []) e in
         let (n, t) = info-slots c (infoThere (c .header .flags)) info in
-        writable-all c (record {
+        writable-all profile c (record {
           header = header;
           link = every-in (_ ∷ _ ∷ _ ∷ []) (n .flags, (n .drive, (n .networkFlags, tt)));
           bodies =
@@ -142,9 +143,9 @@ writable-as-before c = same-truth (namedWritable (asNamedContents c)) (writable 
           short = short;
         })
 
-    back : writable c ≡ true → namedWritable (asNamedContents c) ≡ true
+    back : writable profile c ≡ true → namedWritable profile (asNamedContents c) ≡ true
     back e =
-        let can = all-writable c e in
+        let can = all-writable profile c e in
         let (flags, (drive, (networkFlags, z))) = every-out (_ ∷ _ ∷ _ ∷ []) (can .link) in
         let (items, (label, (local, (net, (device, (netUnicode, (deviceUnicode, (suffix, (localUnicode, (suffixUnicode, strings)))))))))) = every-out (writableBodies c) (can .bodies) in
         let (name, (relative, (workdir, (arguments, (icon, (blocks, y)))))) = strings in
@@ -168,11 +169,11 @@ ended p a w room = tests noSection (p else PLACE at 0 ∷ a else UNWRITABLE at 0
 ended-same : {p q a b : Bool} {w v : List ℕ} (room : ℕ) → p ≡ q → a ≡ b → w ≡ v → ended p a w room ≡ ended q b v room
 ended-same room e f g = cc
 
-pub write-as-before : (r : Record) (d : List ℕ) (room : ℕ) → namedWriting (asNamed r) d room ≡ writing r d room
+pub write-as-before : (profile : Profile) (r : Record) (d : List ℕ) (room : ℕ) → namedWriting profile (asNamed r) d room ≡ writing profile r d room
 unfolding namedWriting writing ended
-write-as-before r d room =
+write-as-before profile r d room =
     let c = contents-as-before d r in
-    ended-same room (placed-as-before (length d) r) (ap namedWritable c ∙ writable-as-before (contents d r)) (ap namedCanonical c ∙ canonical-as-before (contents d r))
+    ended-same room (placed-as-before (length d) r) (ap (namedWritable profile) c ∙ writable-as-before profile (contents d r)) (ap namedCanonical c ∙ canonical-as-before (contents d r))
 
 -- ---- read, target, key
 
@@ -184,19 +185,19 @@ held-now : (o : Outcome Sections) → heldBy o ≡ inRow (namedBy o)
 held-now (got c n) = refl
 held-now (refused f p) = refl
 
-pub record ReadAsBefore (s : List ℕ) : Type 0 where
-  pub verdict : namedReading s .verdict ≡ reading s .verdict
-  pub before : namedReading s .held ≡ asNamed (reading s .held)
-  pub now : reading s .held ≡ inRow (namedReading s .held)
+pub record ReadAsBefore (profile : Profile) (s : List ℕ) : Type 0 where
+  pub verdict : namedReading profile s .verdict ≡ reading profile s .verdict
+  pub before : namedReading profile s .held ≡ asNamed (reading profile s .held)
+  pub now : reading profile s .held ≡ inRow (namedReading profile s .held)
 
-pub read-as-before : (s : List ℕ) → ReadAsBefore s
+pub read-as-before : (profile : Profile) (s : List ℕ) → ReadAsBefore profile s
 unfolding namedReading reading
-read-as-before s = record { verdict = refl; before = held-before (shortcut s); now = held-now (shortcut s) }
+read-as-before profile s = record { verdict = refl; before = held-before (shortcut profile s); now = held-now (shortcut profile s) }
 
-pub target-as-before : (s : List ℕ) (room : ℕ) → namedTarget s room ≡ target s room
+pub target-as-before : (profile : Profile) (s : List ℕ) (room : ℕ) → namedTarget profile s room ≡ target profile s room
 unfolding namedTarget target
-target-as-before s room = refl
+target-as-before profile s room = refl
 
-pub key-as-before : (s : List ℕ) (room : ℕ) → namedKey s room ≡ key s room
+pub key-as-before : (profile : Profile) (s : List ℕ) (room : ℕ) → namedKey profile s room ≡ key profile s room
 unfolding namedKey namedKeyOf key keyOf
-key-as-before s room = refl
+key-as-before profile s room = refl

@@ -11,6 +11,7 @@ use lib.Dec.{eqb}
 use borrow.Author.Tests.{leb-true, eq-eqb, eqb-true}
 use Rattle.octets.specs.Numbers.{u32At}
 use Rattle.octets.proofs.NumberLaws.{number-drop}
+use Rattle.format.specs.declared.Profile.{Profile}
 use Rattle.format.specs.declared.Place.{Place}
 use Rattle.format.specs.declared.Record.{Record}
 use Rattle.format.specs.Tests.{got, place}
@@ -93,19 +94,19 @@ past k c x rest other eight m = ⊎-elim (λ q. go (c .there) q) (λ q. q) (List
     go false q = absurd (List·Memᴰ·not-nil q)
 
 -- a block of the listing
-pub record BlockRow (s : List ℕ) (x : Row) : Type 0 where
-  pub listed : List·Memᴰ x (listing s)
+pub record BlockRow (profile : Profile) (s : List ℕ) (x : Row) : Type 0 where
+  pub listed : List·Memᴰ x (listing profile s)
   pub block : x .name ≡ 8
 
-pub record FirstListed (s : List ℕ) (x : Row) : Type 0 where
+pub record FirstListed (profile : Profile) (s : List ℕ) (x : Row) : Type 0 where
   pub sections : Sections
-  pub read : shortcut s ≡ got sections (length s)
+  pub read : shortcut profile s ≡ got sections (length s)
   pub is : place (x .start) (x .len) ≡ firstPlace s (signature s x) (blocksOf sections .start) (blocksOf sections .read)
 
-first-listed : (s : List ℕ) (r : Record) → Accepts s r → (x : Row) → BlockRow s x → known (slotOf (signature s x)) ≡ true → FirstListed s x
+first-listed : (profile : Profile) (s : List ℕ) (r : Record) → Accepts profile s r → (x : Row) → BlockRow profile s x → known (slotOf (signature s x)) ≡ true → FirstListed profile s x
 unfolding Accepts listing
-first-listed s r e x b kn =
-    let a = accepted-read s r (length s) e in
+first-listed profile s r e x b kn =
+    let a = accepted-read profile s r (length s) e in
     let (header, (items, (info, (name, (relative, (workdir, (arguments, (icon, walked)))))))) = a .sections in
     let m₀ : List·Memᴰ x (rowsOf (a .sections)) = rw (a .is) at (b .listed) in
     let m₂ = past 1 items x _ (λ z. omega arith) (b .block) (past 0 header x _ (λ z. omega arith) (b .block) m₀) in
@@ -113,7 +114,7 @@ first-listed s r e x b kn =
     let m₆ = past 5 workdir x _ (λ z. omega arith) (b .block) (past 4 relative x _ (λ z. omega arith) (b .block) m₄) in
     let m₈ = past 7 icon x _ (λ z. omega arith) (b .block) (past 6 arguments x _ (λ z. omega arith) (b .block) m₆) in
     let start : ℕ = walked .start in
-    let walk = read-walk s (a .sections) (length s) ((shortcut-whole s (a .sections) (length s) (a .is)) .read) in
+    let walk = read-walk profile s (a .sections) (length s) ((shortcut-whole profile s (a .sections) (length s) (a .is)) .read) in
     record {
       sections = a .sections;
       read = a .is;
@@ -121,10 +122,10 @@ first-listed s r e x b kn =
     }
 
 -- two blocks of one known signature are one
-pub one-of-each : (s : List ℕ) (r : Record) → Accepts s r → (x y : Row) → BlockRow s x → BlockRow s y → known (slotOf (signature s x)) ≡ true → signature s x ≡ signature s y → x ≡ y
-one-of-each s r e x y b d kn q =
-    let f = first-listed s r e x b kn in
-    let g = first-listed s r e y d (rw q at kn) in
+pub one-of-each : (profile : Profile) (s : List ℕ) (r : Record) → Accepts profile s r → (x y : Row) → BlockRow profile s x → BlockRow profile s y → known (slotOf (signature s x)) ≡ true → signature s x ≡ signature s y → x ≡ y
+one-of-each profile s r e x y b d kn q =
+    let f = first-listed profile s r e x b kn in
+    let g = first-listed profile s r e y d (rw q at kn) in
     let o : f .sections ≡ g .sections = cc (f .read, g .read) in
     let z : place (x .start) (x .len) ≡ place (y .start) (y .len) = f .is ∙ rw (o, q) (sym (g .is)) in
     same-row (b .block ∙ sym (d .block)) (ap (λ (p : Place). p .at) z) (ap (λ (p : Place). p .len) z)
@@ -137,8 +138,8 @@ unfolding slotOf
 environment-known = refl
 
 -- a block of the signature A0000001 is the one whose text the key has
-pub only-environment : (s : List ℕ) (r : Record) → Accepts s r → (x : Row) → BlockRow s x → signature s x ≡ 0xA0000001 → keyIn s .environment ≡ environment s (place (x .start) (x .len))
+pub only-environment : (profile : Profile) (s : List ℕ) (r : Record) → Accepts profile s r → (x : Row) → BlockRow profile s x → signature s x ≡ 0xA0000001 → keyIn profile s .environment ≡ environment s (place (x .start) (x .len))
 unfolding keyIn keyOf
-only-environment s r e x b q =
-    let f = first-listed s r e x b (rw q environment-known) in
+only-environment profile s r e x b q =
+    let f = first-listed profile s r e x b (rw q environment-known) in
     ap (λ (k : Key). k .environment) (ap (keyBy s) (f .read)) ∙ ap (environment s) (sym (rw q at (f .is)))

@@ -7,6 +7,7 @@ use lib.ListN.{length, replicate, set}
 use Rattle.octets.specs.Numbers.{number, numberAt, little}
 use Rattle.octets.specs.Characters.{units, beforeZero}
 use Rattle.octets.specs.Parts.{put}
+use Rattle.format.specs.declared.Profile.the-variants.{Strict}
 use Rattle.format.specs.Numbers.{numberOf, answerNumber, answerValue}
 use Rattle.format.specs.Tests.{place, noPlace}
 use Rattle.format.specs.declared.Record.{Record}
@@ -68,6 +69,6 @@ rows =
     ∷ writes (withBlocks (foreign ++ foreign)) (foreign ++ foreign) (lent 96) 0 96 (withSection 0 (foreign ++ foreign))
     ∷ []
 
-pub rows-hold : allHold rows ≡ true
+pub rows-hold : allHold Strict rows ≡ true
 unfolding allHold holds number numberAt little units beforeZero put numberOf answerNumber answerValue identifierOk signed itemTests slotOf sizeFits insideTests blocksFrom sections shortcut reading present placed contents bits headerBytes itemsBytes volumeBytes networkBytes infoBytes stringBytes canonical writable writing outputOf writeAnswer writeOutput listing rows
 rows-hold = refl

@@ -11,6 +11,7 @@ use lib.Dec.{leb, eqb}
 use borrow.Author.Tests.{leb-true, leb-false, le-leb, eq-eqb}
 use Rattle.octets.specs.Numbers.{Bytes}
 use Rattle.octets.proofs.NumberLaws.{bytes-append, bytes-take, bytes-drop, bytes-nil}
+use Rattle.format.specs.declared.Profile.{Profile}
 use Rattle.format.specs.declared.Record.{Record}
 use Rattle.format.specs.declared.Fault.the-variants.{Place as PLACE, Unwritable as UNWRITABLE, Room as ROOM}
 use Rattle.format.specs.Tests.{Outcome, got, refused, Test, _else_at_, noSection, tests}
@@ -51,7 +52,7 @@ with-bytes b h (x ∷ xs) k =
 
 -- ---- the contents, r over the body buffer d, before and after
 
-module _ (r : Record) (d : List ℕ) where
+module _ (profile : Profile) (r : Record) (d : List ℕ) where
   abbrev old : Contents
   old = contents d r
 
@@ -76,9 +77,9 @@ module _ (r : Record) (d : List ℕ) where
   unfolding canonical
   before-blocks = simp (append-assoc, append-nil)
 
-  pub body-writable : writable old ≡ true → writableBlocks body ≡ true
+  pub body-writable : writable profile old ≡ true → writableBlocks body ≡ true
   body-writable e =
-      let (items, (label, (local, (net, (device, (netUnicode, (deviceUnicode, (suffix, (localUnicode, (suffixUnicode, strings)))))))))) = every-out (writableBodies old) (all-writable old e .bodies) in
+      let (items, (label, (local, (net, (device, (netUnicode, (deviceUnicode, (suffix, (localUnicode, (suffixUnicode, strings)))))))))) = every-out (writableBodies old) (all-writable profile old e .bodies) in
       let (name, (relative, (workdir, (arguments, (icon, (blocks, y)))))) = strings in
       blocks
 
@@ -121,13 +122,13 @@ module _ (r : Record) (d : List ℕ) where
         }
 
     -- what can be written stays so, but for the length
-    new-writable : writable old ≡ true → writableBlocks changed ≡ true → leb (length (canonical new)) most ≡ true → writable new ≡ true
+    new-writable : writable profile old ≡ true → writableBlocks changed ≡ true → leb (length (canonical new)) most ≡ true → writable profile new ≡ true
     unfolding withPath contents present
     new-writable e h short =
-        let can = all-writable old e in
+        let can = all-writable profile old e in
         let (items, (label, (local, (net, (device, (netUnicode, (deviceUnicode, (suffix, (localUnicode, (suffixUnicode, strings)))))))))) = every-out (writableBodies old) (can .bodies) in
         let (name, (relative, (workdir, (arguments, (icon, (blocks, y)))))) = strings in
-        writable-all new (record {
+        writable-all profile new (record {
           header = can .header;
           link = can .link;
           bodies = every-in (writableBodies new) (items, (label, (local, (net, (device, (netUnicode, (deviceUnicode, (suffix, (localUnicode, (suffixUnicode, (name, (relative, (workdir, (arguments, (icon, (h, y))))))))))))))));
@@ -142,56 +143,56 @@ module _ (r : Record) (d : List ℕ) where
     abbrev after : Contents
     after = withPath b old
 
-    pub wholes-after : writable old ≡ true → Wholes [] (withBlock b (blocksIn body))
+    pub wholes-after : writable profile old ≡ true → Wholes [] (withBlock b (blocksIn body))
     wholes-after e = with-whole b (new-whole p) (new-known p) (blocksIn body) [] (body-parted body (body-writable e) .wholes) (rw (and-no (known (slotAt b))))
 
     -- after the tests before it, the length alone decides whether the changed record can be written
-    pub length-decides : writable old ≡ true → writable after ≡ leb (length (canonical after)) most
+    pub length-decides : writable profile old ≡ true → writable profile after ≡ leb (length (canonical after)) most
     length-decides e =
-        same-truth (writable after) (leb (length (canonical after)) most)
-        (λ w. all-writable after w .short)
+        same-truth (writable profile after) (leb (length (canonical after)) most)
+        (λ w. all-writable profile after w .short)
         (new-writable b e (wholes-writable (withBlock b (blocksIn body)) (wholes-after e)))
 
-    pub held-blocks : writable old ≡ true → blocksIn (bodyIn after blocksSlot) ≡ withBlock b (blocksIn body)
+    pub held-blocks : writable profile old ≡ true → blocksIn (bodyIn after blocksSlot) ≡ withBlock b (blocksIn body)
     held-blocks e = ap blocksIn (blocks-change b) ∙ wholes-in (withBlock b (blocksIn body)) (wholes-after e)
 
     -- put in twice is put in once
-    pub after-again : writable old ≡ true → withPath b after ≡ after
+    pub after-again : writable profile old ≡ true → withPath b after ≡ after
     unfolding withPath
     after-again e =
         rw (held-blocks e, with-twice b (blocksIn body), set-set (old .bodies) blocksSlot (changed b) (changed b))
 
     module _ (fits : FitsRecord r) (bytes : Bytes d) where
-      after-typed : writable old ≡ true → Typed after
+      after-typed : writable profile old ≡ true → Typed after
       after-typed e =
           let x : Bytes body = record-typed d bytes r fits .bodies .1 .1 .1 .1 .1 .1 .1 .1 .1 .1 .1 .1 .1 .1 .1 .0 in
           let parted = body-parted body (body-writable e) in
           new-typed b (record-typed d bytes r fits) (with-bytes b (new-bytes p) (blocksIn body) (rw (parted .joined) x))
 
       -- what is written reads as the record with the block
-      pub reads-with : writable old ≡ true → writable after ≡ true → ReadsWith (canonical after) r d signature text unicode
+      pub reads-with : writable profile old ≡ true → writable profile after ≡ true → ReadsWith profile (canonical after) r d signature text unicode
       unfolding Accepts
       reads-with e f =
           let t = after-typed e in
-          let g = decode-accepted (canonical after) after (length (canonical after)) (writes after t f) in
-          record { bytes = canonical-bytes after ((can-valid after t f) .0); held = g .held; accepted = g .is; same = g .same }
+          let g = decode-accepted profile (canonical after) after (length (canonical after)) (writes profile after t f) in
+          record { bytes = canonical-bytes profile after ((can-valid profile after t f) .0); held = g .held; accepted = g .is; same = g .same }
 
-    none-shorter : (s : List ℕ) → ReadsWith s r d signature text unicode → length (canonical after) ≤ length s
+    none-shorter : (s : List ℕ) → ReadsWith profile s r d signature text unicode → length (canonical after) ≤ length s
     unfolding Accepts
     none-shorter s x =
-        let e = accepted-decode s (x .held) (length s) (x .accepted) in
-        rw (x .same) at ((shortest s (contents s (x .held)) (length s) (x .bytes) e) .short)
+        let e = accepted-decode profile s (x .held) (length s) (x .accepted) in
+        rw (x .same) at ((shortest profile s (contents s (x .held)) (length s) (x .bytes) e) .short)
 
     -- one that reads as the changed record shows that it can be written
-    read-writable : (s : List ℕ) → ReadsWith s r d signature text unicode → writable after ≡ false → ⊥
+    read-writable : (s : List ℕ) → ReadsWith profile s r d signature text unicode → writable profile after ≡ false → ⊥
     unfolding Accepts
     read-writable s x e =
-        let i = accepted-decode s (x .held) (length s) (x .accepted) in
-        refuses after e s (length s) (x .bytes) (rw (x .same) at i)
+        let i = accepted-decode profile s (x .held) (length s) (x .accepted) in
+        refuses profile after e s (length s) (x .bytes) (rw (x .same) at i)
 
 -- ---- the call
 
-module _ (r : Record) (d : List ℕ) (signature : ℕ) (text unicode : List ℕ) (fits : FitsRecord r) (bytes : Bytes d) (narrow : Bytes text) (wide : Bytes unicode) where
+module _ (profile : Profile) (r : Record) (d : List ℕ) (signature : ℕ) (text unicode : List ℕ) (fits : FitsRecord r) (bytes : Bytes d) (narrow : Bytes text) (wide : Bytes unicode) where
   abbrev made : Contents
   made = withPath (pathBlock signature text unicode) (contents d r)
 
@@ -202,10 +203,10 @@ module _ (r : Record) (d : List ℕ) (signature : ℕ) (text unicode : List ℕ)
   path s t u = record { sign = s; bytes = (narrow, wide); narrow = t; wide = u }
 
   -- it ends as the demand on writing says, whatever the room
-  pub path-ends : (out : List ℕ) → PathEnds r d signature text unicode out (pathAnswer r d signature text unicode out) (pathOutput r d signature text unicode out)
+  pub path-ends : (out : List ℕ) → PathEnds profile r d signature text unicode out (pathAnswer profile r d signature text unicode out) (pathOutput profile r d signature text unicode out)
   unfolding pathWriting pathAnswer pathOutput outputOf
   path-ends out =
-      go (placed (length d) r) refl (isPath signature) refl (pathText false text) refl (pathText true unicode) refl (writable (contents d r)) refl (writable made) refl (leb (length w) (length out)) refl
+      go (placed (length d) r) refl (isPath signature) refl (pathText false text) refl (pathText true unicode) refl (writable profile (contents d r)) refl (writable profile made) refl (leb (length w) (length out)) refl
     where
       no : Outcome (List ℕ)
       no = refused UNWRITABLE nowhere
@@ -214,30 +215,30 @@ module _ (r : Record) (d : List ℕ) (signature : ℕ) (text unicode : List ℕ)
       outcome a s t u e f g = cond a (cond s (cond t (cond u (cond e (cond f (cond g (got w (length w)) (refused ROOM nowhere)) no) no) no) no) no) (refused PLACE nowhere)
 
       go : (a : Bool) → placed (length d) r ≡ a → (s : Bool) → isPath signature ≡ s → (t : Bool) → pathText false text ≡ t → (u : Bool) → pathText true unicode ≡ u
-          → (e : Bool) → writable (contents d r) ≡ e → (f : Bool) → writable made ≡ f → (g : Bool) → leb (length w) (length out) ≡ g
-          → PathEnds r d signature text unicode out (verdictOf (outcome a s t u e f g)) (outputOf (outcome a s t u e f g) out)
+          → (e : Bool) → writable profile (contents d r) ≡ e → (f : Bool) → writable profile made ≡ f → (g : Bool) → leb (length w) (length out) ≡ g
+          → PathEnds profile r d signature text unicode out (verdictOf (outcome a s t u e f g)) (outputOf (outcome a s t u e f g) out)
       go false ea s es t et u eu e ee f ef g eg = misplaced ea
       go true ea false es t et u eu e ee f ef g eg = unwritable ea (λ s t u x i y j. clash s es)
       go true ea true es false et u eu e ee f ef g eg = unwritable ea (λ s t u x i y j. clash t et)
       go true ea true es true et false eu e ee f ef g eg = unwritable ea (λ s t u x i y j. clash u eu)
-      go true ea true es true et true eu false ee f ef g eg = unwritable ea (λ s t u x i y j. unwritable-none r d ee x i)
-      go true ea true es true et true eu true ee false ef g eg = unwritable ea (λ s t u x i y j. read-writable r d (path es et eu) y j ef)
+      go true ea true es true et true eu false ee f ef g eg = unwritable ea (λ s t u x i y j. unwritable-none profile r d ee x i)
+      go true ea true es true et true eu true ee false ef g eg = unwritable ea (λ s t u x i y j. read-writable profile r d (path es et eu) y j ef)
       go true ea true es true et true eu true ee true ef false eg =
-          no-room w ea (reads-with r d (path es et eu) fits bytes ee ef)
-          (λ s x. let k = none-shorter r d (path es et eu) s x in omega (arith, leb-false (length w) (length out) eg))
+          no-room w ea (reads-with profile r d (path es et eu) fits bytes ee ef)
+          (λ s x. let k = none-shorter profile r d (path es et eu) s x in omega (arith, leb-false (length w) (length out) eg))
       go true ea true es true et true eu true ee true ef true eg =
-          written w ea (reads-with r d (path es et eu) fits bytes ee ef) (leb-true (length w) (length out) eg) (none-shorter r d (path es et eu))
+          written w ea (reads-with profile r d (path es et eu) fits bytes ee ef) (leb-true (length w) (length out) eg) (none-shorter profile r d (path es et eu))
 
 -- its tests, over the contents before and after
-module _ (r : Record) (d : List ℕ) (signature : ℕ) (text unicode : List ℕ) (room : ℕ) (before after : Contents) where
+module _ (profile : Profile) (r : Record) (d : List ℕ) (signature : ℕ) (text unicode : List ℕ) (room : ℕ) (before after : Contents) where
   abbrev callTests : List Test
   callTests =
       placed (length d) r else PLACE at 0
       ∷ isPath signature else UNWRITABLE at 0
       ∷ pathText false text else UNWRITABLE at 0
       ∷ pathText true unicode else UNWRITABLE at 0
-      ∷ writable before else UNWRITABLE at 0
-      ∷ writable after else UNWRITABLE at 0
+      ∷ writable profile before else UNWRITABLE at 0
+      ∷ writable profile after else UNWRITABLE at 0
       ∷ leb (length (canonical after)) room else ROOM at 0
       ∷ []
 
@@ -247,10 +248,10 @@ module _ (r : Record) (d : List ℕ) (signature : ℕ) (text unicode : List ℕ)
 -- ---- what is written, in the words of the request
 
 -- w is what was written of the record r over the body buffer d
-pub record PathMade (r : Record) (d : List ℕ) (signature : ℕ) (text unicode w : List ℕ) : Type 0 where
+pub record PathMade (profile : Profile) (r : Record) (d : List ℕ) (signature : ℕ) (text unicode w : List ℕ) : Type 0 where
   -- it is accepted
   pub held : Record
-  pub accepted : Accepts w held
+  pub accepted : Accepts profile w held
   -- it has a block of that signature, no other, and this has the texts up to their zeros
   pub block : List ℕ
   pub there : List·Memᴰ block (blocksHeld w held)
@@ -269,7 +270,7 @@ pub record PathMade (r : Record) (d : List ℕ) (signature : ℕ) (text unicode 
   pub was : canonical (contents d r) ≡ sections ++ blocksBytes (bodyIn (contents d r) blocksSlot)
   pub is : w ≡ sections ++ blocksBytes (bodyIn (contents w held) blocksSlot)
   -- doing it again changes nothing
-  pub again : (room : ℕ) → length w ≤ room → pathWriting held w signature text unicode room ≡ got w (length w)
+  pub again : (room : ℕ) → length w ≤ room → pathWriting profile held w signature text unicode room ≡ got w (length w)
 
 -- the block is among the blocks
 put-there : (b : List ℕ) (bs : List (List ℕ)) → List·Memᴰ b (withBlock b bs)
@@ -322,59 +323,59 @@ others-same b (x ∷ xs) = go (others-same b xs) (eqb (signatureOf x) (signature
     go f true e = rw (eq-eqb (signatureOf b) (signatureOf b) refl)
     go f false e = rw (e, f)
 
-module _ (r : Record) (d : List ℕ) {signature : ℕ} {text unicode : List ℕ} (p : Path signature text unicode) (fits : FitsRecord r) (bytes : Bytes d)
-    (can : writable (contents d r) ≡ true) (could : writable (withPath (pathBlock signature text unicode) (contents d r)) ≡ true) where
+module _ (profile : Profile) (r : Record) (d : List ℕ) {signature : ℕ} {text unicode : List ℕ} (p : Path signature text unicode) (fits : FitsRecord r) (bytes : Bytes d)
+    (can : writable profile (contents d r) ≡ true) (could : writable profile (withPath (pathBlock signature text unicode) (contents d r)) ≡ true) where
   abbrev b₀ : List ℕ
   b₀ = pathBlock signature text unicode
 
   abbrev c₀ : Contents
   c₀ = withPath b₀ (contents d r)
 
-  reads : ReadsWith (canonical c₀) r d signature text unicode
-  reads = reads-with r d p fits bytes can could
+  reads : ReadsWith profile (canonical c₀) r d signature text unicode
+  reads = reads-with profile r d p fits bytes can could
 
   abbrev q₀ : Record
   q₀ = reads .held
 
   its-blocks : blocksHeld (canonical c₀) q₀ ≡ withBlock b₀ (blocksHeld d r)
-  its-blocks = ap (λ (c : Contents). blocksIn (bodyIn c blocksSlot)) (reads .same) ∙ held-blocks r d p can
+  its-blocks = ap (λ (c : Contents). blocksIn (bodyIn c blocksSlot)) (reads .same) ∙ held-blocks profile r d p can
 
-  its-again : (room : ℕ) → length (canonical c₀) ≤ room → pathWriting q₀ (canonical c₀) signature text unicode room ≡ got (canonical c₀) (length (canonical c₀))
+  its-again : (room : ℕ) → length (canonical c₀) ≤ room → pathWriting profile q₀ (canonical c₀) signature text unicode room ≡ got (canonical c₀) (length (canonical c₀))
   unfolding pathWriting
   its-again room h =
       let w : List ℕ = canonical c₀ in
-      ap (λ (c : Contents). outcome q₀ w signature text unicode room c (withPath b₀ c)) (reads .same)
-      ∙ ap (λ (e : Contents). outcome q₀ w signature text unicode room c₀ e) (after-again r d p can)
-      ∙ pass noSection (callTests q₀ w signature text unicode room c₀ c₀) (got w (length w))
-      (bodies-inside w q₀ (reads .accepted), (p .sign, (p .narrow, (p .wide, (could, (could, (le-leb (length w) room h, tt)))))))
+      ap (λ (c : Contents). outcome profile q₀ w signature text unicode room c (withPath b₀ c)) (reads .same)
+      ∙ ap (λ (e : Contents). outcome profile q₀ w signature text unicode room c₀ e) (after-again profile r d p can)
+      ∙ pass noSection (callTests profile q₀ w signature text unicode room c₀ c₀) (got w (length w))
+      (bodies-inside profile w q₀ (reads .accepted), (p .sign, (p .narrow, (p .wide, (could, (could, (le-leb (length w) room h, tt)))))))
 
-  is-made : PathMade r d signature text unicode (canonical c₀)
+  is-made : PathMade profile r d signature text unicode (canonical c₀)
   is-made = record {
     held = q₀;
     accepted = reads .accepted;
     block = b₀;
     there = rw its-blocks (put-there b₀ (blocksHeld d r));
     sign = new-signature p;
-    only = λ x i e. one-of-each (withBlock b₀ (blocksHeld d r)) [] (wholes-after r d p can) x b₀ (rw its-blocks at i) (put-there b₀ (blocksHeld d r)) (new-known p) (e ∙ sym (new-signature p));
+    only = λ x i e. one-of-each (withBlock b₀ (blocksHeld d r)) [] (wholes-after profile r d p can) x b₀ (rw its-blocks at i) (put-there b₀ (blocksHeld d r)) (new-known p) (e ∙ sym (new-signature p));
     bytes = new-text p;
     units = new-unicode p;
     others = ap (otherThan signature) its-blocks ∙ rw (new-signature p) at (others-same b₀ (blocksHeld d r));
-    header = ap (λ (c : Contents). c .header) (reads .same) ∙ (fields-stay r d b₀) .0;
-    link = ap (λ (c : Contents). c .link) (reads .same) ∙ (fields-stay r d b₀) .1;
-    bodies = λ k h. ap (λ (c : Contents). bodyIn c k) (reads .same) ∙ others-stay r d b₀ k h;
-    sections = front r d;
-    was = before-blocks r d;
-    is = after-blocks r d b₀ ∙ ap (λ (x : List ℕ). front r d ++ blocksBytes x) (sym (ap (λ (c : Contents). bodyIn c blocksSlot) (reads .same) ∙ blocks-change r d b₀));
+    header = ap (λ (c : Contents). c .header) (reads .same) ∙ (fields-stay profile r d b₀) .0;
+    link = ap (λ (c : Contents). c .link) (reads .same) ∙ (fields-stay profile r d b₀) .1;
+    bodies = λ k h. ap (λ (c : Contents). bodyIn c k) (reads .same) ∙ others-stay profile r d b₀ k h;
+    sections = front profile r d;
+    was = before-blocks profile r d;
+    is = after-blocks profile r d b₀ ∙ ap (λ (x : List ℕ). front profile r d ++ blocksBytes x) (sym (ap (λ (c : Contents). bodyIn c blocksSlot) (reads .same) ∙ blocks-change profile r d b₀));
     again = its-again;
   }
 
 -- whenever the call writes something
-pub path-made : (r : Record) (d : List ℕ) (signature : ℕ) (text unicode : List ℕ) (room : ℕ) (w : List ℕ) (n : ℕ) → FitsRecord r → Bytes d → Bytes text → Bytes unicode
-    → pathWriting r d signature text unicode room ≡ got w n → PathMade r d signature text unicode w × (n ≡ length w)
+pub path-made : (profile : Profile) (r : Record) (d : List ℕ) (signature : ℕ) (text unicode : List ℕ) (room : ℕ) (w : List ℕ) (n : ℕ) → FitsRecord r → Bytes d → Bytes text → Bytes unicode
+    → pathWriting profile r d signature text unicode room ≡ got w n → PathMade profile r d signature text unicode w × (n ≡ length w)
 unfolding pathWriting
-path-made r d signature text unicode room w n fits bytes narrow wide e =
+path-made profile r d signature text unicode room w n fits bytes narrow wide e =
     let c : Contents = withPath (pathBlock signature text unicode) (contents d r) in
-    let (h, i) = passed noSection (callTests r d signature text unicode room (contents d r) c) (got (canonical c) (length (canonical c))) e in
+    let (h, i) = passed noSection (callTests profile r d signature text unicode room (contents d r) c) (got (canonical c) (length (canonical c))) e in
     let (inside, (s, (t, (u, (can, (could, rest)))))) = h in
     let p : Path signature text unicode = record { sign = s; bytes = (narrow, wide); narrow = t; wide = u } in
-    got-elim (λ w n. PathMade r d signature text unicode w × (n ≡ length w)) i (is-made r d p fits bytes can could, refl)
+    got-elim (λ w n. PathMade profile r d signature text unicode w × (n ≡ length w)) i (is-made profile r d p fits bytes can could, refl)

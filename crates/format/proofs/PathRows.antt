@@ -9,6 +9,7 @@ use Rattle.octets.specs.Characters.{units, beforeZero}
 use Rattle.octets.specs.Parts.{put}
 use Rattle.format.specs.Numbers.{numberOf, answerNumber, answerValue}
 use Rattle.format.specs.Tests.{place, noPlace}
+use Rattle.format.specs.declared.Profile.the-variants.{Strict}
 use Rattle.format.specs.declared.Record.{Record}
 use Rattle.format.specs.Items.{itemTests}
 use Rattle.format.specs.Store.{partTests, isNamed, storeTests}
@@ -48,12 +49,12 @@ withBlocks x = record { header = noHeader; link = noLink; places = set (replicat
 
 -- the body buffer lacks the last byte of the blocks
 abbrev misplaced : PathRow → Bool
-misplaced x = answers (pathAnswer (withBlocks (0 ∷ x .body)) (x .body) (x .signature) (x .text) (x .unicode) (lent (x .room))) 10 0
+misplaced x = answers (pathAnswer Strict (withBlocks (0 ∷ x .body)) (x .body) (x .signature) (x .text) (x .unicode) (lent (x .room))) 10 0
 
 abbrev rowHolds : PathRow → Bool
 rowHolds x =
-    answers (pathAnswer (withBlocks (x .body)) (x .body) (x .signature) (x .text) (x .unicode) (lent (x .room))) (x .number) (x .value)
-    && sameNumbers (pathOutput (withBlocks (x .body)) (x .body) (x .signature) (x .text) (x .unicode) (lent (x .room))) (x .after)
+    answers (pathAnswer Strict (withBlocks (x .body)) (x .body) (x .signature) (x .text) (x .unicode) (lent (x .room))) (x .number) (x .value)
+    && sameNumbers (pathOutput Strict (withBlocks (x .body)) (x .body) (x .signature) (x .text) (x .unicode) (lent (x .room))) (x .after)
     && misplaced x
 
 abbrev rowsHold : List PathRow → Bool

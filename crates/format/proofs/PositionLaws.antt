@@ -11,6 +11,7 @@ use borrow.Author.Tests.{leb-true, ltb-true, eqb-true}
 use Rattle.octets.specs.Numbers.{number, numberAt, u16At, u32At, little}
 use Rattle.octets.specs.Characters.{bytesOf}
 use Rattle.octets.proofs.NumberLaws.{part-inside, number-drop}
+use Rattle.format.specs.declared.Profile.{Profile}
 use Rattle.format.specs.declared.Fault.{Fault}
 use Rattle.format.specs.declared.Fault.the-variants.{Cut as CUT, Items as ITEMS, Info as INFO, Piece as PIECE, Block as BLOCK, Twice as TWICE, Store as STORE}
 use Rattle.format.specs.Tests.{Test, _else_at_, section, spotAt, tests, Outcome, got, refused, Reader, andThen, chain, _then_, place, noPlace}
@@ -52,7 +53,7 @@ part-drop i n p s h =
 
 -- ---- the readers, over the file s
 
-module _ (s : List ℕ) where
+module _ (profile : Profile) (s : List ℕ) where
   abbrev Stands : ℕ → ℕ → Fault → ℕ → Type 0
   Stands k p f i = InSection s f (spotAt (section k p) i)
 
@@ -106,13 +107,13 @@ module _ (s : List ℕ) where
 
   -- ---- header, items, strings
 
-  near-header : Near 0 (header 0 s)
+  near-header : Near 0 (header profile 0 s)
   near-header =
-      near-tests 0 0 (leb 76 (length s) else CUT at 0 ∷ headerRules (take 76 s)) (got (headerFields (take 76 s)) 76) (
+      near-tests 0 0 (leb 76 (length s) else CUT at 0 ∷ headerRules profile (take 76 s)) (got (headerFields (take 76 s)) 76) (
         (λ e. cut 0 0 (omega arith) (omega arith)),
         λ e.
             let h : 76 ≤ length s = leb-true 76 (length s) e in
-            each-below (Stands 0 0) 76 (headerRules (take 76 s)) (λ f i q. strict 0 0 f i (omega arith)) refl,
+            each-below (Stands 0 0) 76 (headerRules profile (take 76 s)) (λ f i q. strict 0 0 f i (omega arith)) refl,
       )
       (λ c. leb-true 76 (length s) (c .0))
 
@@ -170,7 +171,7 @@ module _ (s : List ℕ) where
     told : (i : ℕ) → i + 4 ≤ n → u32At l i ≡ u32At s (p + i)
     told i h = ap (λ (x : List ℕ). u32At x i) is ∙ number-part 4 n p s i h
 
-    head-in : Each (Stands 2 p) (infoHeadTests l)
+    head-in : Each (Stands 2 p) (infoHeadTests profile l)
     head-in = (
       (λ e. within INFO 4 (omega arith)),
       λ a. (
@@ -248,17 +249,17 @@ module _ (s : List ℕ) where
       ),
     )
 
-    info-in : Each (Stands 2 p) (infoRules l)
+    info-in : Each (Stands 2 p) (infoRules profile l)
     info-in =
-        each-append (Stands 2 p) (infoHeadTests l) (pieceTests (infoHead l) (infoPieces l)) head-in
-        (λ c. each-piece (Stands 2 p) (infoHead l) (infoPieces l) (pieces-in (info-head-holds l c .head)))
+        each-append (Stands 2 p) (infoHeadTests profile l) (pieceTests (infoHead l) (infoPieces l)) head-in
+        (λ c. each-piece (Stands 2 p) (infoHead l) (infoPieces l) (pieces-in (info-head-holds profile l c .head)))
 
-  near-info : NearBy info
+  near-info : NearBy (info profile)
   near-info = record {
     near = λ p k.
         let b : List ℕ = drop p s in
         let n : ℕ = infoSize b in
-        near-tests 2 p (leb 4 (length b) else CUT at 0 ∷ leb 0x1C n else INFO at 0 ∷ leb n (length b) else CUT at 0 ∷ infoRules (take n b)) (got (infoFields p (take n b)) n) (
+        near-tests 2 p (leb 4 (length b) else CUT at 0 ∷ leb 0x1C n else INFO at 0 ∷ leb n (length b) else CUT at 0 ∷ infoRules profile (take n b)) (got (infoFields p (take n b)) n) (
           (λ e. cut 2 p k (omega arith)),
           λ d.
               let four : 4 ≤ length b = leb-true 4 (length b) d in (
@@ -425,15 +426,15 @@ module _ (s : List ℕ) where
   near-strings : (flags k : ℕ) → 0 < sizeField (k + 1) → NearBy (stringSection flags k)
   near-strings flags k h = near-section (stringThere k flags) noPlace (string (k + 1) (stringsUnicode flags)) (near-string (k + 1) (stringsUnicode flags) h)
 
-  near-tail : (flags : ℕ) → NearBy (tail flags)
+  near-tail : (flags : ℕ) → NearBy (tail profile flags)
   near-tail flags =
       near-then (near-section (itemsThere flags) noPlace items near-items)
-      (near-then (near-section (infoThere flags) noInfo info near-info)
+      (near-then (near-section (infoThere flags) noInfo (info profile) near-info)
       (near-then (near-strings flags nameBit (omega arith))
       (near-then (near-strings flags relativeBit (omega arith))
       (near-then (near-strings flags workdirBit (omega arith))
       (near-then (near-strings flags argumentsBit (omega arith)) (near-then (near-strings flags iconBit (omega arith)) near-blocks))))))
 
-  pub near-sections : Near 0 (sections 0 s)
+  pub near-sections : Near 0 (sections profile 0 s)
   unfolding sections
-  near-sections = near-chain (found header) (λ h. tail (h .read .flags)) 0 (near-found header 0 near-header) (λ h. near-tail (h .read .flags))
+  near-sections = near-chain (found (header profile)) (λ h. tail profile (h .read .flags)) 0 (near-found (header profile) 0 near-header) (λ h. near-tail (h .read .flags))

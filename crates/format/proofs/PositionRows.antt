@@ -4,6 +4,7 @@ use mathlib.Core.List.{List, [], _∷_, _++_}
 use Prim.Native.Nat.{ℕ, _+_, _-_}
 use Rattle.octets.specs.Numbers.{number, numberAt, little}
 use Rattle.octets.specs.Characters.{units, beforeZero}
+use Rattle.format.specs.declared.Profile.the-variants.{Strict}
 use Rattle.format.specs.declared.Fault.the-variants.{Cut as CUT, Items as ITEMS, Piece as PIECE, Block as BLOCK, Trail as TRAIL}
 use Rattle.format.specs.Tests.{Outcome, refused, section, spotAt}
 use Rattle.format.specs.Header.{identifierOk, signed}
@@ -29,7 +30,7 @@ shortLink n =
     ++ (little 4 n ++ zeros 4 ++ little 4 0x15 ++ zeros (n - 12))
 
 -- a byte after the terminal; no terminal; the three above, the last without either and without the second of its Unicode offset fields
-pub refused-at-ends : shortcut (Z ++ zeros 1) ∷ shortcut (headerOf 0 0) ∷ shortcut noItems ∷ shortcut oneItem ∷ shortcut (shortLink 0x14) ∷ shortcut (shortLink 0x18) ∷ []
+pub refused-at-ends : shortcut Strict (Z ++ zeros 1) ∷ shortcut Strict (headerOf 0 0) ∷ shortcut Strict noItems ∷ shortcut Strict oneItem ∷ shortcut Strict (shortLink 0x14) ∷ shortcut Strict (shortLink 0x18) ∷ []
     ≡ refused TRAIL (spotAt (section 9 76) 4)
     ∷ refused CUT (spotAt (section 9 76) 0)
     ∷ refused ITEMS (spotAt (section 1 76) 2)

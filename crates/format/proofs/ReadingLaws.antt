@@ -10,6 +10,7 @@ use lib.Dec.{leb, eqb}
 use Rattle.octets.specs.Numbers.{u16At, u32At}
 use Rattle.octets.specs.Characters.{bytesOf}
 use Rattle.octets.proofs.NumberLaws.{part-inside}
+use Rattle.format.specs.declared.Profile.{Profile}
 use Rattle.format.specs.declared.Place.{Place}
 use Rattle.format.specs.declared.Header.{Header}
 use Rattle.format.specs.declared.Volume.{Volume}
@@ -38,9 +39,9 @@ use Rattle.format.proofs.LinkLaws.{noInfoC}
 use Rattle.format.proofs.WholeLaws.{itemsR, infoR, stringR, TailC, tail-s, fileR, decode, toContents}
 use Rattle.format.proofs.PlaceLaws.{PartOf, part-of, part-within, text-placed, Placed, tests-placed, found-placed, section-placed, chain-placed, then-placed, mapped, both}
 
-module _ (f : List ℕ) where
-  header-placed : Placed f header (λ h. h) header
-  header-placed = record { placed = λ p. same (header p (drop p f)) }
+module _ (profile : Profile) (f : List ℕ) where
+  header-placed : Placed f (header profile) (λ h. h) (header profile)
+  header-placed = record { placed = λ p. same (header profile p (drop p f)) }
     where
       same : (r : Outcome Header) → mapped (λ h. h) r ≡ r
       same (got h n) = refl
@@ -125,12 +126,12 @@ module _ (f : List ℕ) where
         text-placed f p l (longHead l) true (u32At l 32) F,
       )
 
-  info-placed : Placed f info infoAt infoR
+  info-placed : Placed f (info profile) infoAt (infoR profile)
   info-placed = record {
     placed = λ p.
         let s : List ℕ = drop p f in
         let n : ℕ = infoSize s in
-        tests-placed f infoAt (section 2 p) (sizedTests 2 4 infoSize (λ n. leb 0x1C n else INFO at 0 ∷ []) infoRules infoValue s) (infoFields p (take n s)) (infoValue (take n s)) n
+        tests-placed f infoAt (section 2 p) (sizedTests 2 4 infoSize (λ n. leb 0x1C n else INFO at 0 ∷ []) (infoRules profile) infoValue s) (infoFields p (take n s)) (infoValue (take n s)) n
         (λ c. info-value p (take n s) (part-of f p n));
   }
 
@@ -157,7 +158,7 @@ module _ (f : List ℕ) where
       both (λ c. bytesAt f (c .read)) (both (λ c. infoAt (c .read)) (both (λ c. bytesAt f (c .read)) (both (λ c. bytesAt f (c .read))
       (both (λ c. bytesAt f (c .read)) (both (λ c. bytesAt f (c .read)) (both (λ c. bytesAt f (c .read)) (λ c. bytesAt f (blocksPlace c))))))))
 
-  tail-placed : (flags : ℕ) → Placed f (tail flags) viewTail (tail-s flags .reader)
+  tail-placed : (flags : ℕ) → Placed f (tail profile flags) viewTail (tail-s profile flags .reader)
   tail-placed flags =
       then-placed f (section-placed f (itemsThere flags) noPlace [] refl items-placed)
       (then-placed f (section-placed f (infoThere flags) noInfo noInfoC refl info-placed)
@@ -167,32 +168,32 @@ module _ (f : List ℕ) where
       (then-placed f (string-section-placed flags argumentsBit)
       (then-placed f (string-section-placed flags iconBit) blocks-placed))))))
 
-  sections-placed : Placed f sections (both (λ c. c .read) viewTail) fileR
+  sections-placed : Placed f (sections profile) (both (λ c. c .read) viewTail) (fileR profile)
   unfolding sections fileR
-  sections-placed = chain-placed f (λ (h : Header). tail-s (h .flags) .reader) (found-placed f header-placed) (λ a. tail-placed (a .read .flags))
+  sections-placed = chain-placed f (λ (h : Header). tail-s profile (h .flags) .reader) (found-placed f header-placed) (λ a. tail-placed (a .read .flags))
 
 -- reading for places and reading for contents answer alike
-pub decode-is : (f : List ℕ) → decode f ≡ mapped (λ c. bodiesOf f (recordOf c)) (shortcut f)
+pub decode-is : (profile : Profile) (f : List ℕ) → decode profile f ≡ mapped (λ c. bodiesOf f (recordOf c)) (shortcut profile f)
 unfolding decode shortcut
-decode-is f = go (leb (length f) most) (sections 0 f) refl
+decode-is profile f = go (leb (length f) most) (sections profile 0 f) refl
   where
-    go₂ : (r : Outcome Sections) → sections 0 f ≡ r
-        → andThen (fileR 0 f) (λ c n. tests (section 9 (n - 4)) (eqb n (length f) else TRAIL at 4 ∷ []) (got (toContents c) n))
+    go₂ : (r : Outcome Sections) → sections profile 0 f ≡ r
+        → andThen (fileR profile 0 f) (λ c n. tests (section 9 (n - 4)) (eqb n (length f) else TRAIL at 4 ∷ []) (got (toContents c) n))
         ≡ mapped (λ c. bodiesOf f (recordOf c)) (andThen r (λ c n. tests (section 9 (n - 4)) (eqb n (length f) else TRAIL at 4 ∷ []) (got c n)))
     go₂ (got c n) i =
-        let e : fileR 0 f ≡ got (both (λ c. c .read) (viewTail f) c) n = sym (sections-placed f .placed 0) ∙ ap (mapped (both (λ c. c .read) (viewTail f))) i in
+        let e : fileR profile 0 f ≡ got (both (λ c. c .read) (viewTail profile f) c) n = sym (sections-placed profile f .placed 0) ∙ ap (mapped (both (λ c. c .read) (viewTail profile f))) i in
         rw e (go₃ (eqb n (length f)))
       where
-        go₃ : (b : Bool) → cond b (got (toContents (both (λ c. c .read) (viewTail f) c)) n) (refused TRAIL (spotAt (section 9 (n - 4)) 4))
+        go₃ : (b : Bool) → cond b (got (toContents (both (λ c. c .read) (viewTail profile f) c)) n) (refused TRAIL (spotAt (section 9 (n - 4)) 4))
             ≡ mapped (λ c. bodiesOf f (recordOf c)) (cond b (got c n) (refused TRAIL (spotAt (section 9 (n - 4)) 4)))
         go₃ true = refl
         go₃ false = refl
     go₂ (refused x y) i =
-        let e : fileR 0 f ≡ refused x y = sym (sections-placed f .placed 0) ∙ ap (mapped (both (λ c. c .read) (viewTail f))) i in
+        let e : fileR profile 0 f ≡ refused x y = sym (sections-placed profile f .placed 0) ∙ ap (mapped (both (λ c. c .read) (viewTail profile f))) i in
         rw e
 
-    go : (b : Bool) (r : Outcome Sections) → sections 0 f ≡ r
-        → cond b (andThen (fileR 0 f) (λ c n. tests (section 9 (n - 4)) (eqb n (length f) else TRAIL at 4 ∷ []) (got (toContents c) n))) (refused LONG (spotAt noSection most))
+    go : (b : Bool) (r : Outcome Sections) → sections profile 0 f ≡ r
+        → cond b (andThen (fileR profile 0 f) (λ c n. tests (section 9 (n - 4)) (eqb n (length f) else TRAIL at 4 ∷ []) (got (toContents c) n))) (refused LONG (spotAt noSection most))
         ≡ mapped (λ c. bodiesOf f (recordOf c)) (cond b (andThen r (λ c n. tests (section 9 (n - 4)) (eqb n (length f) else TRAIL at 4 ∷ []) (got c n))) (refused LONG (spotAt noSection most)))
     go true r i = go₂ r i
     go false r i = refl

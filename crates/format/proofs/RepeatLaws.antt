@@ -4,6 +4,7 @@ use mathlib.Core.Bool.{Bool, true, false, cond}
 use Prim.Native.Nat.{ℕ, zero, suc, _+_, _-_}
 use lib.ListN.{length, drop}
 use lib.Dec.{leb, eqb}
+use Rattle.format.specs.declared.Profile.{Profile}
 use Rattle.format.specs.declared.Fault.the-variants.{Long as LONG, Trail as TRAIL, Twice as TWICE}
 use Rattle.format.specs.declared.Spot.{Spot}
 use Rattle.format.specs.Tests.{_else_at_, section, noSection, spotAt, tests, Outcome, got, refused, Reader, andThen, chain, noPlace}
@@ -61,10 +62,10 @@ kept-chain {A = A} {B = B} P {Q} {R} h = record { kept = λ p s. go p s (P p s) 
     go p s (got a n) = kept-then _ (h a .kept (p + n) (drop n s))
     go p s (refused f w) = same
 
-kept-tail : (flags : ℕ) → KeptBy (tail flags) (repeats.tail flags)
-kept-tail flags =
+kept-tail : (profile : Profile) (flags : ℕ) → KeptBy (tail profile flags) (repeats.tail profile flags)
+kept-tail profile flags =
     kept-chain (sectionIf (itemsThere flags) noPlace items) (λ a.
-    kept-chain (sectionIf (infoThere flags) noInfo info) (λ b.
+    kept-chain (sectionIf (infoThere flags) noInfo (info profile)) (λ b.
     kept-chain (stringSection flags nameBit) (λ c.
     kept-chain (stringSection flags relativeBit) (λ d.
     kept-chain (stringSection flags workdirBit) (λ e.
@@ -73,9 +74,9 @@ kept-tail flags =
     kept-found {P = blocks} {Q = repeats.blocks} (record { kept = λ p s. kept-walk [] p 0 s }))))))))
 
 -- every file: refused with TWICE, or with the sections, the fault and the field of before
-pub twice-or-same : (s : List ℕ) → Kept (shortcut s) (repeats.shortcut s)
+pub twice-or-same : (profile : Profile) (s : List ℕ) → Kept (shortcut profile s) (repeats.shortcut profile s)
 unfolding sections shortcut repeats.sections repeats.shortcut
-twice-or-same s = go (leb (length s) most) (kept-chain (found header) (λ h. kept-tail (h .read .flags)) .kept 0 s)
+twice-or-same profile s = go (leb (length s) most) (kept-chain (found (header profile)) (λ h. kept-tail profile (h .read .flags)) .kept 0 s)
   where
     ends : Sections → ℕ → Outcome Sections
     ends c n = tests (section 9 (n - 4)) (eqb n (length s) else TRAIL at 4 ∷ []) (got c n)

@@ -10,6 +10,7 @@ use lib.Dec.{leb, eqb}
 use borrow.Author.Tests.{leb-true, leb-false, le-leb, eqb-true, le-ltb}
 use Rattle.octets.specs.Numbers.{Bytes, u32At, little}
 use Rattle.octets.proofs.NumberLaws.{bytes-take, bytes-drop, length-little, number-back, number-drop, number-same}
+use Rattle.format.specs.declared.Profile.{Profile}
 use Rattle.format.specs.declared.Place.{Place}
 use Rattle.format.specs.declared.StoreRow.{StoreRow}
 use Rattle.format.specs.declared.Fault.the-variants.{Place as PLACE, Unwritable as UNWRITABLE, Room as ROOM}
@@ -138,23 +139,23 @@ pub first-store : (s : List ℕ) (p : ℕ) (lengths : List ℕ) (n : ℕ) → bl
 first-store s p lengths n e = first-holds (length (drop p s)) [] s p lengths n (omega arith) e
 
 -- the store of an accepted shortcut, if it has one: no longer than the longest, since header, block head and terminal stand around it
-module _ (s : List ℕ) (c : Sections) (n : ℕ) (e : shortcut s ≡ got c n) where
+module _ (profile : Profile) (s : List ℕ) (c : Sections) (n : ℕ) (e : shortcut profile s ≡ got c n) where
   abbrev storePlace : Place
   storePlace = firstPlace s 0xA0000009 (blocksOf c .start) (blocksOf c .read)
 
   pub held-store : (storePlace .len ≡ 0 → ⊥) → HoldsStore s (blocksOf c .start) storePlace
-  held-store z = first-store s (blocksOf c .start) (blocksOf c .read) (blocksOf c .len) (read-walk s c n ((shortcut-whole s c n e) .read)) z
+  held-store z = first-store s (blocksOf c .start) (blocksOf c .read) (blocksOf c .len) (read-walk profile s c n ((shortcut-whole profile s c n e) .read)) z
 
   pub held-small : (storePlace .len ≡ 0 → ⊥) → length (drop 8 (bytesAt s storePlace)) ≤ mostStore
   held-small z =
       let h = held-store z in
-      let w = shortcut-whole s c n e in
+      let w = shortcut-whole profile s c n e in
       omega (
         arith,
         h .from,
         h .inside,
         w .limit,
-        blocks-late s c n (w .read),
+        blocks-late profile s c n (w .read),
         length-drop 8 (bytesAt s storePlace),
         length-take (storePlace .len) (drop (storePlace .at) s),
       )

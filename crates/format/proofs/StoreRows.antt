@@ -4,6 +4,7 @@ use mathlib.Core.List.{List, [], _∷_, _++_, map}
 use Prim.Native.Nat.{ℕ, _+_}
 use lib.ListN.{length}
 use Rattle.octets.specs.Numbers.{number, numberAt, little}
+use Rattle.format.specs.declared.Profile.the-variants.{Strict}
 use Rattle.format.specs.declared.Fault.the-variants.{Store as STORE, Block as BLOCK, Place as PLACE, Unwritable as UNWRITABLE, Room as ROOM}
 use Rattle.format.specs.Tests.{got, refused, section, spotAt}
 use Rattle.format.specs.Store.{partTests, isNamed, namedFormat, storeTests}
@@ -116,12 +117,12 @@ itsRows =
     ∷ []
 
 -- listed, and into a room one too small; a shortcut without the block
-pub lists : storeList holder 24 ∷ storeList holder 23 ∷ storeList Z 0 ∷ [] ≡ got itsRows 4 ∷ refused ROOM nowhere ∷ got [] 0 ∷ []
+pub lists : storeList Strict holder 24 ∷ storeList Strict holder 23 ∷ storeList Strict Z 0 ∷ [] ≡ got itsRows 4 ∷ refused ROOM nowhere ∷ got [] 0 ∷ []
 unfolding number numberAt little isNamed partTests storeTests identifierOk signed itemTests slotOf sizeFits insideTests blocksFrom sections shortcut perPart storeRows rowsOf storeList
 lists = refl
 
 -- of the second storage, the two values, and a row that is not there
-pub parts : map (storeName holder) (1 ∷ 2 ∷ 3 ∷ 4 ∷ []) ++ map (storeRaw holder) (1 ∷ 2 ∷ 3 ∷ 4 ∷ [])
+pub parts : map (storeName Strict holder) (1 ∷ 2 ∷ 3 ∷ 4 ∷ []) ++ map (storeRaw Strict holder) (1 ∷ 2 ∷ 3 ∷ 4 ∷ [])
     ≡ [] ∷ (0x63 ∷ 0x6F ∷ 0x72 ∷ 0x65 ∷ []) ∷ [] ∷ [] ∷ namedFormat ∷ (5 ∷ []) ∷ (6 ∷ []) ∷ [] ∷ []
 unfolding number numberAt little isNamed partTests storeTests identifierOk signed itemTests slotOf sizeFits insideTests blocksFrom sections shortcut perPart storeRows rowsOf storeRow storeName storeRaw
 parts = refl

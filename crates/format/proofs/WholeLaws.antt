@@ -8,6 +8,7 @@ use lib.ListN.{length, take, drop, length-take}
 use lib.Dec.{leb, eqb}
 use borrow.Author.Tests.{leb-true, le-leb, eqb-true, eq-eqb}
 use Rattle.octets.specs.Numbers.{Bytes}
+use Rattle.format.specs.declared.Profile.{Profile}
 use Rattle.format.specs.declared.Header.{Header}
 use Rattle.format.specs.declared.Link.{Link}
 use Rattle.format.specs.declared.Fault.the-variants.{Long as LONG, Trail as TRAIL, Info as INFO}
@@ -40,8 +41,8 @@ use Rattle.format.proofs.BlockLaws.{blocksR, BlocksV, blocks-law}
 abbrev pub itemsR : Reader (List ℕ)
 itemsR = sizedR 1 2 itemsLength (λ n. []) itemsRules itemsValue
 
-abbrev pub infoR : Reader InfoContents
-infoR = sizedR 2 4 infoSize (λ n. leb 0x1C n else INFO at 0 ∷ []) infoRules infoValue
+abbrev pub infoR : Profile → Reader InfoContents
+infoR profile = sizedR 2 4 infoSize (λ n. leb 0x1C n else INFO at 0 ∷ []) (infoRules profile) infoValue
 
 abbrev pub stringR : ℕ → Bool → Reader (List ℕ)
 stringR k u = sizedR k 2 (stringLength u) (λ n. []) (λ l. []) (λ l. drop 2 l)
@@ -74,14 +75,14 @@ infixr 60 _and_
 abbrev _and_ : {A B : Type 0} → Sect A → Sect B → Sect (A × B)
 S and T = by-value S (λ a. T)
 
-abbrev header-s : Sect Header
-header-s = record { reader = header; writer = headerBytes; Valid = HeaderV; law = header-law }
+abbrev header-s : Profile → Sect Header
+header-s profile = record { reader = header profile; writer = headerBytes; Valid = HeaderV profile; law = header-law profile }
 
 abbrev items-s : Sect (List ℕ)
 items-s = record { reader = itemsR; writer = itemsBytes; Valid = ItemsV; law = items-law }
 
-abbrev info-s : Sect InfoContents
-info-s = record { reader = infoR; writer = infoBytes; Valid = InfoV; law = info-law }
+abbrev info-s : Profile → Sect InfoContents
+info-s profile = record { reader = infoR profile; writer = infoBytes; Valid = InfoV; law = info-law profile }
 
 abbrev string-s : ℕ → ℕ → Sect (List ℕ)
 string-s flags k = opt (stringThere k flags) [] (record { reader = stringR (k + 1) (stringsUnicode flags); writer = stringBytes (stringsUnicode flags); Valid = StringV (stringsUnicode flags); law = string-law (k + 1) (stringsUnicode flags) })
@@ -92,10 +93,10 @@ blocks-s = record { reader = blocksR; writer = blocksBytes; Valid = BlocksV; law
 abbrev pub TailC : Type 0
 TailC = List ℕ × (InfoContents × (List ℕ × (List ℕ × (List ℕ × (List ℕ × (List ℕ × List ℕ))))))
 
-abbrev pub tail-s : ℕ → Sect TailC
-tail-s flags =
+abbrev pub tail-s : Profile → ℕ → Sect TailC
+tail-s profile flags =
     opt (itemsThere flags) [] items-s
-    and opt (infoThere flags) noInfoC info-s
+    and opt (infoThere flags) noInfoC (info-s profile)
     and string-s flags nameBit
     and string-s flags relativeBit
     and string-s flags workdirBit
@@ -103,8 +104,8 @@ tail-s flags =
     and string-s flags iconBit
     and blocks-s
 
-abbrev pub file-s : Sect (Header × TailC)
-file-s = by-value header-s (λ h. tail-s (h .flags))
+abbrev pub file-s : Profile → Sect (Header × TailC)
+file-s profile = by-value (header-s profile) (λ h. tail-s profile (h .flags))
 
 -- ---- the contents: the way back from what LinkInfo's bytes say, and from the slots
 
@@ -159,32 +160,32 @@ whole-row c e = ap (λ (bs : List (List ℕ)). record { header = c .header; link
 
 -- ---- reading for contents
 
-unfoldable pub fileR : Reader (Header × TailC)
-fileR = file-s .reader
+unfoldable pub fileR : Profile → Reader (Header × TailC)
+fileR profile = file-s profile .reader
 
-unfoldable pub decode : List ℕ → Outcome Contents
+unfoldable pub decode : Profile → List ℕ → Outcome Contents
 unfolding fileR
-decode s =
+decode profile s =
     tests noSection (leb (length s) most else LONG at most ∷ [])
-    (andThen (fileR 0 s) (λ c n. tests (section 9 (n - 4)) (eqb n (length s) else TRAIL at 4 ∷ []) (got (toContents c) n)))
+    (andThen (fileR profile 0 s) (λ c n. tests (section 9 (n - 4)) (eqb n (length s) else TRAIL at 4 ∷ []) (got (toContents c) n)))
 
-unfoldable pub Valid : Contents → Type 0
-Valid c = (length (c .bodies) ≡ 16) × file-s .Valid (fromContents c)
+unfoldable pub Valid : Profile → Contents → Type 0
+Valid profile c = (length (c .bodies) ≡ 16) × file-s profile .Valid (fromContents c)
 
 -- end to end is one section after another
-canonical-is : (c : Contents) → canonical c ≡ file-s .writer (fromContents c)
+canonical-is : (profile : Profile) (c : Contents) → canonical c ≡ file-s profile .writer (fromContents c)
 unfolding canonical
-canonical-is c = simp append-nil
+canonical-is profile c = simp append-nil
 
-pub decode-elim {ℓ} : (s : List ℕ) (X : Contents → ℕ → Type ℓ)
-    → (length s ≤ most → (c : Header × TailC) → fileR 0 s ≡ got c (length s) → X (toContents c) (length s))
-    → (c : Contents) (n : ℕ) → decode s ≡ got c n → X c n
+pub decode-elim {ℓ} : (profile : Profile) (s : List ℕ) (X : Contents → ℕ → Type ℓ)
+    → (length s ≤ most → (c : Header × TailC) → fileR profile 0 s ≡ got c (length s) → X (toContents c) (length s))
+    → (c : Contents) (n : ℕ) → decode profile s ≡ got c n → X c n
 unfolding decode
-decode-elim s X f c n e =
+decode-elim profile s X f c n e =
     let i = passed noSection (leb (length s) most else LONG at most ∷ []) _ e in
-    go (leb-true _ _ (i .0 .0)) (fileR 0 s) refl (i .1)
+    go (leb-true _ _ (i .0 .0)) (fileR profile 0 s) refl (i .1)
   where
-    go : length s ≤ most → (r : Outcome (Header × TailC)) → fileR 0 s ≡ r
+    go : length s ≤ most → (r : Outcome (Header × TailC)) → fileR profile 0 s ≡ r
         → andThen r (λ c n. tests (section 9 (n - 4)) (eqb n (length s) else TRAIL at 4 ∷ []) (got (toContents c) n)) ≡ got c n → X c n
     go l (got a k) i h =
         let j = passed (section 9 (k - 4)) (eqb k (length s) else TRAIL at 4 ∷ []) (got (toContents a) k) h in
@@ -195,42 +196,42 @@ decode-elim s X f c n e =
 -- ---- the laws
 
 -- a written shortcut reads back as what it was written from
-pub read-back : (c : Contents) → Valid c → length (canonical c) ≤ most → decode (canonical c) ≡ got c (length (canonical c))
+pub read-back : (profile : Profile) (c : Contents) → Valid profile c → length (canonical c) ≤ most → decode profile (canonical c) ≡ got c (length (canonical c))
 unfolding decode Valid fileR
-read-back c v h =
+read-back profile c v h =
     let l : List ℕ = canonical c in
-    let q = canonical-is c in
-    let e : fileR 0 l ≡ got (fromContents c) (length l)
-    = ap (fileR 0) (q ∙ sym (append-nil (file-s .writer (fromContents c)))) ∙ file-s .law .back (fromContents c) (v .1) (rw q at h) 0 [] ∙ ap (λ (x : List ℕ). got (fromContents c) (length x)) (sym q) in
+    let q = canonical-is profile c in
+    let e : fileR profile 0 l ≡ got (fromContents c) (length l)
+    = ap (fileR profile 0) (q ∙ sym (append-nil (file-s profile .writer (fromContents c)))) ∙ file-s profile .law .back (fromContents c) (v .1) (rw q at h) 0 [] ∙ ap (λ (x : List ℕ). got (fromContents c) (length x)) (sym q) in
     rw (le-leb _ _ h, e, eq-eqb (length l) (length l) refl) (ap (λ (x : Contents). got x (length l)) (whole-row c (v .0)))
 
-pub canonical-bytes : (c : Contents) → Valid c → Bytes (canonical c)
+pub canonical-bytes : (profile : Profile) (c : Contents) → Valid profile c → Bytes (canonical c)
 unfolding Valid
-canonical-bytes c v = rw (canonical-is c) (file-s .law .bytes (fromContents c) (v .1))
+canonical-bytes profile c v = rw (canonical-is profile c) (file-s profile .law .bytes (fromContents c) (v .1))
 
-pub record Shortest (s : List ℕ) (c : Contents) (n : ℕ) : Type 0 where
-  pub valid : Valid c
+pub record Shortest (profile : Profile) (s : List ℕ) (c : Contents) (n : ℕ) : Type 0 where
+  pub valid : Valid profile c
   pub short : length (canonical c) ≤ length s
   pub all : n ≡ length s
   pub limit : length s ≤ most
 
 -- what an accepted shortcut reads as can be written, and no longer than it
-pub shortest : (s : List ℕ) (c : Contents) (n : ℕ) → Bytes s → decode s ≡ got c n → Shortest s c n
+pub shortest : (profile : Profile) (s : List ℕ) (c : Contents) (n : ℕ) → Bytes s → decode profile s ≡ got c n → Shortest profile s c n
 unfolding Valid fileR
-shortest s c n bs e =
-    decode-elim s (λ c n. Shortest s c n)
+shortest profile s c n bs e =
+    decode-elim profile s (λ c n. Shortest profile s c n)
     (λ l a i.
-    let f = file-s .law .fits 0 s a (length s) i bs in
-    record { valid = (refl, f .valid); short = rw (canonical-is (toContents a)) (f .short); all = refl; limit = l })
+    let f = file-s profile .law .fits 0 s a (length s) i bs in
+    record { valid = (refl, f .valid); short = rw (canonical-is profile (toContents a)) (f .short); all = refl; limit = l })
     c n e
 
 -- an accepted shortcut without its end is cut
-pub beginning : (s : List ℕ) (c : Contents) (n : ℕ) → decode s ≡ got c n → (k : ℕ) → k < length s → CutBy k (decode (take k s))
+pub beginning : (profile : Profile) (s : List ℕ) (c : Contents) (n : ℕ) → decode profile s ≡ got c n → (k : ℕ) → k < length s → CutBy k (decode profile (take k s))
 unfolding decode fileR
-beginning s c n e k h =
-    decode-elim s (λ c n. CutBy k (decode (take k s)))
+beginning profile s c n e k h =
+    decode-elim profile s (λ c n. CutBy k (decode profile (take k s)))
     (λ l a i.
-    let z = file-s .law .cut 0 s a (length s) i k h in
+    let z = file-s profile .law .cut 0 s a (length s) i k h in
     record {
       spot = z .spot;
       early = omega (arith, z .early);
@@ -257,10 +258,10 @@ RowV b = IfThere (b .there) [] (Ok Bytes (writableBody (b .kind)))
 row-valid : (b : BodyRow) (x : List ℕ) → IfThere (b .there) [] Bytes x → writableRow b x ≡ true → RowV b x
 row-valid b x = ok-there Bytes (writableBody (b .kind)) (b .there) [] x
 
-pub can-valid : (c : Contents) → Typed c → writable c ≡ true → Valid c × (length (canonical c) ≤ most)
+pub can-valid : (profile : Profile) (c : Contents) → Typed c → writable profile c ≡ true → Valid profile c × (length (canonical c) ≤ most)
 unfolding Valid
-can-valid c t e =
-    let can = all-writable c e in
+can-valid profile c t e =
+    let can = all-writable profile c e in
     let (flags, (drive, (networkFlags, z))) = every-out (_ ∷ _ ∷ _ ∷ []) (can .link) in
     let (items, (label, (local, (net, (device, (netUnicode, (deviceUnicode, (suffix, (localUnicode, (suffixUnicode, strings))))))))))
     = each-with [] row-valid 0 (rows c) (c .bodies) (t .bodies) (each-test [] writableRow 0 (rows c) (c .bodies) (can .bodies)) in
@@ -283,9 +284,9 @@ can-valid c t e =
 row-can : (b : BodyRow) (x : List ℕ) → RowV b x → writableRow b x ≡ true
 row-can b x v = (there-ok Bytes (writableBody (b .kind)) (b .there) [] x v) .1
 
-pub valid-can : (c : Contents) → Valid c → length (canonical c) ≤ most → writable c ≡ true
+pub valid-can : (profile : Profile) (c : Contents) → Valid profile c → length (canonical c) ≤ most → writable profile c ≡ true
 unfolding Valid
-valid-can c v h =
+valid-can profile c v h =
     let f = c .header .flags in
     let (header, (items, (info, (name, (relative, (workdir, (arguments, (icon, blocks)))))))) = v .1 in
     let (n, t) = info-can c (infoThere f) info in
@@ -293,7 +294,7 @@ valid-can c v h =
     = λ k. row-can (stringRow f (c .link) k) (stringIn c k) in
     let strings : Every (along [] writableRow 10 (drop 10 (rows c)) (c .bodies))
     = (string nameBit name, (string relativeBit relative, (string workdirBit workdir, (string argumentsBit arguments, (string iconBit icon, (blocks .can, tt)))))) in
-    writable-all c (record {
+    writable-all profile c (record {
       header = header .can;
       link = every-in (_ ∷ _ ∷ _ ∷ []) (n .flags, (n .drive, (n .networkFlags, tt)));
       bodies =
@@ -305,10 +306,10 @@ valid-can c v h =
     })
 
 -- the writer refuses exactly what no accepted shortcut reads as
-pub writes : (c : Contents) → Typed c → writable c ≡ true → decode (canonical c) ≡ got c (length (canonical c))
-writes c t e = let v = can-valid c t e in read-back c (v .0) (v .1)
+pub writes : (profile : Profile) (c : Contents) → Typed c → writable profile c ≡ true → decode profile (canonical c) ≡ got c (length (canonical c))
+writes profile c t e = let v = can-valid profile c t e in read-back profile c (v .0) (v .1)
 
-pub refuses : (c : Contents) → writable c ≡ false → (s : List ℕ) (n : ℕ) → Bytes s → decode s ≡ got c n → ⊥
-refuses c e s n bs d =
-    let q = shortest s c n bs d in
-    clash (valid-can c (q .valid) (omega (arith, q .short, q .limit))) e
+pub refuses : (profile : Profile) (c : Contents) → writable profile c ≡ false → (s : List ℕ) (n : ℕ) → Bytes s → decode profile s ≡ got c n → ⊥
+refuses profile c e s n bs d =
+    let q = shortest profile s c n bs d in
+    clash (valid-can profile c (q .valid) (omega (arith, q .short, q .limit))) e

@@ -6,6 +6,8 @@ use lib.ListN.{length, take}
 use lib.Dec.{leb, ltb, eqb}
 use lib.IntN.{ℤ, pos, negsuc}
 use Rattle.octets.specs.Numbers.{number, numberAt, u16At, u32At, u64At}
+use Rattle.format.specs.declared.Profile.{Profile}
+use Rattle.format.specs.declared.Profile.the-variants.{Strict, NinetyFive}
 use Rattle.format.specs.declared.Header.{Header}
 use Rattle.format.specs.declared.Fault.the-variants.{Cut as CUT, Magic as MAGIC, Head as HEAD}
 use Rattle.format.specs.Tests.{Test, _else_at_, section, tests, got, Reader, bit}
@@ -33,25 +35,30 @@ identifierOk l = eqb (numberAt 16 l 4) (number classIdentifier)
 abbrev pub flagsOk : ℕ → Bool
 flagsOk f = eqb (f / 2 ^ 27) 0
 
--- bits 3, 6 and all from 15 on are clear in FileAttributes (house: bit 7 may be set)
-abbrev pub attributesOk : ℕ → Bool
-attributesOk a = not (bit 3 a) && not (bit 6 a) && eqb (a / 2 ^ 15) 0
+-- FileAttributes has all bits clear from here on: 95 keeps bit 15
+abbrev pub clearFrom : Profile → ℕ
+clearFrom Strict = 15
+clearFrom NinetyFive = 16
+
+-- so are bits 3 and 6 (house: bit 7 may be set)
+abbrev pub attributesOk : Profile → ℕ → Bool
+attributesOk profile a = not (bit 3 a) && not (bit 6 a) && eqb (a / 2 ^ clearFrom profile) 0
 
 -- one field of ten bytes, from 66 on, all zero
 abbrev pub zerosFrom66 : List ℕ → Bool
 zerosFrom66 l = eqb (numberAt 10 l 66) 0
 
 -- In what follows l is the 76 bytes.
-abbrev pub headTests : List ℕ → List Test
-headTests l =
+abbrev pub headTests : Profile → List ℕ → List Test
+headTests profile l =
     flagsOk (u32At l 20) else HEAD at 20
-    ∷ attributesOk (u32At l 24) else HEAD at 24
+    ∷ attributesOk profile (u32At l 24) else HEAD at 24
     ∷ hotkeyOk (u16At l 64) else HEAD at 64
     ∷ zerosFrom66 l else HEAD at 66
     ∷ []
 
-abbrev pub headerRules : List ℕ → List Test
-headerRules l = headerSizeOk (u32At l 0) else MAGIC at 0 ∷ identifierOk l else MAGIC at 4 ∷ headTests l
+abbrev pub headerRules : Profile → List ℕ → List Test
+headerRules profile l = headerSizeOk (u32At l 0) else MAGIC at 0 ∷ identifierOk l else MAGIC at 4 ∷ headTests profile l
 
 -- 32 bits as a signed number
 unfoldable pub signed : ℕ → ℤ
@@ -70,8 +77,8 @@ headerFields l = record {
   hotkey = u16At l 64;
 }
 
-abbrev pub header : Reader Header
-header p s = tests (section 0 p) (leb 76 (length s) else CUT at 0 ∷ headerRules (take 76 s)) (got (headerFields (take 76 s)) 76)
+abbrev pub header : Profile → Reader Header
+header profile p s = tests (section 0 p) (leb 76 (length s) else CUT at 0 ∷ headerRules profile (take 76 s)) (got (headerFields (take 76 s)) 76)
 
 -- a ShowCommand of 3 or 7 is the window shown; every other shows 1
 abbrev pub windowShown : ℕ → ℕ

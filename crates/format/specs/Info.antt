@@ -5,6 +5,8 @@ use mathlib.Core.Bool.{Bool, true, false, not, _&&_, _||_}
 use lib.ListN.{length, take}
 use lib.Dec.{leb, eqb}
 use Rattle.octets.specs.Numbers.{u32At}
+use Rattle.format.specs.declared.Profile.{Profile}
+use Rattle.format.specs.declared.Profile.the-variants.{Strict, NinetyFive}
 use Rattle.format.specs.declared.Place.{Place}
 use Rattle.format.specs.declared.Info.{Info}
 use Rattle.format.specs.declared.Link.{Link}
@@ -54,20 +56,25 @@ infoPieces l =
     ∷ textPiece (longHead l) true l 32 (u32At l 32)
     ∷ []
 
--- the fixed head, INFO: its size, its flags, then zeros in the offset fields of absent parts
-abbrev pub infoHeadTests : List ℕ → List Test
-infoHeadTests l =
+-- the offset field of an absent part is 0; under 95 it is ignored
+abbrev pub leftoverOk : Profile → Bool → ℕ → Bool
+leftoverOk Strict present o = absentZero present o
+leftoverOk NinetyFive present o = true
+
+-- the fixed head, INFO: its size, its flags, then the offset fields of absent parts
+abbrev pub infoHeadTests : Profile → List ℕ → List Test
+infoHeadTests profile l =
     headOk l else INFO at 4
     ∷ leb (infoFlags l) 3 else INFO at 8
-    ∷ absentZero (hasLocal l) (u32At l 12) else INFO at 12
-    ∷ absentZero (hasLocal l) (u32At l 16) else INFO at 16
-    ∷ absentZero (hasNetwork l) (u32At l 20) else INFO at 20
-    ∷ (not (longHead l) || absentZero (hasLocal l) (u32At l 28)) else INFO at 28
+    ∷ leftoverOk profile (hasLocal l) (u32At l 12) else INFO at 12
+    ∷ leftoverOk profile (hasLocal l) (u32At l 16) else INFO at 16
+    ∷ leftoverOk profile (hasNetwork l) (u32At l 20) else INFO at 20
+    ∷ (not (longHead l) || leftoverOk profile (hasLocal l) (u32At l 28)) else INFO at 28
     ∷ []
 
 -- then the pieces' tests, PIECE
-abbrev pub infoRules : List ℕ → List Test
-infoRules l = infoHeadTests l ++ pieceTests (infoHead l) (infoPieces l)
+abbrev pub infoRules : Profile → List ℕ → List Test
+infoRules profile l = infoHeadTests profile l ++ pieceTests (infoHead l) (infoPieces l)
 
 abbrev pub noInfo : Info
 noInfo = record {
@@ -95,13 +102,13 @@ infoFields p l = record {
 }
 
 -- the size field is there (CUT), holds no less than a short head (INFO) and no more than is left (CUT); then the rules
-abbrev pub info : Reader Info
-info p s =
+abbrev pub info : Profile → Reader Info
+info profile p s =
     tests (section 2 p)
     (leb 4 (length s) else CUT at 0
     ∷ leb 0x1C (infoSize s) else INFO at 0
     ∷ leb (infoSize s) (length s) else CUT at 0
-    ∷ infoRules (take (infoSize s) s))
+    ∷ infoRules profile (take (infoSize s) s))
     (got (infoFields p (take (infoSize s) s)) (infoSize s))
 
 -- ---- what the record holds of it: its numbers and kinds, and its bodies' places in the order of the slots

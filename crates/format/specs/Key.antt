@@ -7,6 +7,7 @@ use lib.ListN.{length, take, drop}
 use lib.Dec.{leb}
 use Rattle.octets.specs.Numbers.{little}
 use Rattle.octets.specs.Characters.{characters, beforeZero}
+use Rattle.format.specs.declared.Profile.{Profile}
 use Rattle.format.specs.declared.Place.{Place}
 use Rattle.format.specs.declared.Record.{Record}
 use Rattle.format.specs.declared.Verdict.{Verdict}
@@ -69,21 +70,21 @@ keyBytes k =
 
 -- ---- the call. Refusals: as for reading, then 12
 
-unfoldable pub key : List ℕ → ℕ → Outcome (List ℕ)
+unfoldable pub key : Profile → List ℕ → ℕ → Outcome (List ℕ)
 unfolding shortcut keyOf keyBytes
-key s room =
-    andThen (shortcut s) (λ c n.
+key profile s room =
+    andThen (shortcut profile s) (λ c n.
     let w = keyBytes (keyOf s c) in
     tests noSection (leb (length w) room else ROOM at 0 ∷ []) (got w (length w)))
 
 -- the answer, and the output buffer afterwards; the room is the buffer's length
-unfoldable pub keyAnswer : List ℕ → List ℕ → Verdict
+unfoldable pub keyAnswer : Profile → List ℕ → List ℕ → Verdict
 unfolding key
-keyAnswer s out = verdictOf (key s (length out))
+keyAnswer profile s out = verdictOf (key profile s (length out))
 
-unfoldable pub keyOutput : List ℕ → List ℕ → List ℕ
+unfoldable pub keyOutput : Profile → List ℕ → List ℕ → List ℕ
 unfolding key outputOf
-keyOutput s out = outputOf (key s (length out)) out
+keyOutput profile s out = outputOf (key profile s (length out)) out
 
 -- ---- the words in which the promises are put
 
@@ -92,9 +93,9 @@ abbrev pub keyBy : List ℕ → Outcome Sections → Key
 keyBy s (got c n) = keyOf s c
 keyBy s (refused f p) = record { unicode = false; target = noPart; arguments = noPart; workdir = noPart; environment = noPart }
 
-unfoldable pub keyIn : List ℕ → Key
+unfoldable pub keyIn : Profile → List ℕ → Key
 unfolding shortcut
-keyIn s = keyBy s (shortcut s)
+keyIn profile s = keyBy s (shortcut profile s)
 
 -- bit 7 and all four parts, presence included, are equal
 pub record SameParts (k l : Key) : Type 0 where

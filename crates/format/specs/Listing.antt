@@ -4,6 +4,7 @@ use mathlib.Core.Path.{_≡_}
 use mathlib.Core.List.{List, [], _∷_, _++_}
 use mathlib.Core.Bool.{cond}
 use lib.Dec.{eqb}
+use Rattle.format.specs.declared.Profile.{Profile}
 use Rattle.format.specs.Tests.{Outcome, got, refused, place, noPlace}
 use Rattle.format.specs.declared.Place.{Place}
 use Rattle.format.specs.Shortcut.{Section, Sections, shortcut}
@@ -41,9 +42,9 @@ abbrev pub rowsBy : Outcome Sections → List Row
 rowsBy (got c n) = rowsOf c
 rowsBy (refused f p) = []
 
-unfoldable pub listing : List ℕ → List Row
+unfoldable pub listing : Profile → List ℕ → List Row
 unfolding shortcut
-listing s = rowsBy (shortcut s)
+listing profile s = rowsBy (shortcut profile s)
 
 -- from p to q each section starts where the one before it ended
 abbrev pub EndToEnd : ℕ → List Row → ℕ → Type 0
@@ -66,11 +67,11 @@ nth zero (x ∷ xs) = place (x .start) (x .len)
 nth (suc j) (x ∷ xs) = nth j xs
 
 -- where it stands, all of it, as listed; the empty place if there is no such row, as in every refused shortcut
-unfoldable pub sectionPlace : List ℕ → ℕ → ℕ → Place
+unfoldable pub sectionPlace : Profile → List ℕ → ℕ → ℕ → Place
 unfolding listing
-sectionPlace s name block = nth (cond (eqb name 8) block 0) (named name (listing s))
+sectionPlace profile s name block = nth (cond (eqb name 8) block 0) (named name (listing profile s))
 
 -- the caller's own bytes there
-unfoldable pub sectionBytes : List ℕ → ℕ → ℕ → List ℕ
+unfoldable pub sectionBytes : Profile → List ℕ → ℕ → ℕ → List ℕ
 unfolding sectionPlace
-sectionBytes s name block = bytesAt s (sectionPlace s name block)
+sectionBytes profile s name block = bytesAt s (sectionPlace profile s name block)

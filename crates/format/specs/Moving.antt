@@ -7,6 +7,7 @@ use lib.ListN.{length}
 use lib.Dec.{leb}
 use Rattle.octets.specs.Numbers.{Bytes}
 use Rattle.octets.specs.Parts.{put}
+use Rattle.format.specs.declared.Profile.{Profile}
 use Rattle.format.specs.declared.Header.{Header}
 use Rattle.format.specs.declared.Link.{Link}
 use Rattle.format.specs.declared.Record.{Record}
@@ -111,36 +112,36 @@ inBytes c = movedTo (flagsOf c - 0x80) false [] [] toBytes c
 
 -- ---- the calls. Refusals, after reading's: 16, 11, 12; the writer makes the result
 
-unfoldable pub moving : Bool → Contents → ℕ → Outcome (List ℕ)
+unfoldable pub moving : Profile → Bool → Contents → ℕ → Outcome (List ℕ)
 unfolding canonical writable
-moving maps c room =
+moving profile maps c room =
     let w = canonical c in
-    tests noSection (maps else NOMAP at 0 ∷ writable c else UNWRITABLE at 0 ∷ leb (length w) room else ROOM at 0 ∷ []) (got w (length w))
+    tests noSection (maps else NOMAP at 0 ∷ writable profile c else UNWRITABLE at 0 ∷ leb (length w) room else ROOM at 0 ∷ []) (got w (length w))
 
-unfoldable pub toUnicode : List ℕ → ℕ → Outcome (List ℕ)
+unfoldable pub toUnicode : Profile → List ℕ → ℕ → Outcome (List ℕ)
 unfolding shortcut contents inUnicode moving
-toUnicode s room = andThen (shortcut s) (λ c n. let before = contents s (recordOf c) in moving (mapsToUnicode before) (inUnicode before) room)
+toUnicode profile s room = andThen (shortcut profile s) (λ c n. let before = contents s (recordOf c) in moving profile (mapsToUnicode before) (inUnicode before) room)
 
-unfoldable pub toByteStrings : List ℕ → ℕ → Outcome (List ℕ)
+unfoldable pub toByteStrings : Profile → List ℕ → ℕ → Outcome (List ℕ)
 unfolding shortcut contents inBytes moving
-toByteStrings s room = andThen (shortcut s) (λ c n. let before = contents s (recordOf c) in moving (mapsToBytes before) (inBytes before) room)
+toByteStrings profile s room = andThen (shortcut profile s) (λ c n. let before = contents s (recordOf c) in moving profile (mapsToBytes before) (inBytes before) room)
 
 -- the answer, and the output buffer afterwards; the room is the buffer's length
-unfoldable pub toUnicodeAnswer : List ℕ → List ℕ → Verdict
+unfoldable pub toUnicodeAnswer : Profile → List ℕ → List ℕ → Verdict
 unfolding toUnicode
-toUnicodeAnswer s out = verdictOf (toUnicode s (length out))
+toUnicodeAnswer profile s out = verdictOf (toUnicode profile s (length out))
 
-unfoldable pub toUnicodeOutput : List ℕ → List ℕ → List ℕ
+unfoldable pub toUnicodeOutput : Profile → List ℕ → List ℕ → List ℕ
 unfolding toUnicode outputOf
-toUnicodeOutput s out = outputOf (toUnicode s (length out)) out
+toUnicodeOutput profile s out = outputOf (toUnicode profile s (length out)) out
 
-unfoldable pub toBytesAnswer : List ℕ → List ℕ → Verdict
+unfoldable pub toBytesAnswer : Profile → List ℕ → List ℕ → Verdict
 unfolding toByteStrings
-toBytesAnswer s out = verdictOf (toByteStrings s (length out))
+toBytesAnswer profile s out = verdictOf (toByteStrings profile s (length out))
 
-unfoldable pub toBytesOutput : List ℕ → List ℕ → List ℕ
+unfoldable pub toBytesOutput : Profile → List ℕ → List ℕ → List ℕ
 unfolding toByteStrings outputOf
-toBytesOutput s out = outputOf (toByteStrings s (length out)) out
+toBytesOutput profile s out = outputOf (toByteStrings profile s (length out)) out
 
 -- ---- the words in which the promises are put
 
@@ -164,23 +165,23 @@ pub record KeyMoved (set : Bool) (translate : List ℕ → List ℕ) (k l : Key)
   pub environment : l .environment ≡ k .environment
 
 -- the shortcut s with the record r was moved into the lent buffer out: n bytes, which made it x
-pub record Moved (move : Contents → Contents) (set : Bool) (translate : List ℕ → List ℕ) (s : List ℕ) (r : Record) (out : List ℕ) (n : ℕ) (x : List ℕ) : Type 0 where
+pub record Moved (profile : Profile) (move : Contents → Contents) (set : Bool) (translate : List ℕ → List ℕ) (s : List ℕ) (r : Record) (out : List ℕ) (n : ℕ) (x : List ℕ) : Type 0 where
   pub form : List ℕ
   pub bytes : Bytes form
   pub long : n ≡ length form
   pub output : x ≡ put out 0 form
   -- what was written is accepted, with what the request names moved and all else as it was
   pub held : Record
-  pub accepted : Accepts form held
+  pub accepted : Accepts profile form held
   pub is : contents form held ≡ move (contents s r)
   pub stays : Stays (contents s r) (contents form held)
   -- its target text is the same, into every room, and its key changes as it has to
-  pub target : (room : ℕ) → target form room ≡ target s room
-  pub key : KeyMoved set translate (keyIn s) (keyIn form)
+  pub target : (room : ℕ) → target profile form room ≡ target profile s room
+  pub key : KeyMoved set translate (keyIn profile s) (keyIn profile form)
 
 -- this of every shortcut s that is moved: v is the answer, x the buffer at the end
-abbrev pub MovesToUnicode : List ℕ → List ℕ → Verdict → List ℕ → Type 0
-MovesToUnicode s out v x = (r : Record) (n : ℕ) → Accepts s r → v ≡ Accepted n → Moved inUnicode true toUnits s r out n x
+abbrev pub MovesToUnicode : Profile → List ℕ → List ℕ → Verdict → List ℕ → Type 0
+MovesToUnicode profile s out v x = (r : Record) (n : ℕ) → Accepts profile s r → v ≡ Accepted n → Moved profile inUnicode true toUnits s r out n x
 
-abbrev pub MovesToBytes : List ℕ → List ℕ → Verdict → List ℕ → Type 0
-MovesToBytes s out v x = (r : Record) (n : ℕ) → Accepts s r → v ≡ Accepted n → Moved inBytes false toBytes s r out n x
+abbrev pub MovesToBytes : Profile → List ℕ → List ℕ → Verdict → List ℕ → Type 0
+MovesToBytes profile s out v x = (r : Record) (n : ℕ) → Accepts profile s r → v ≡ Accepted n → Moved profile inBytes false toBytes s r out n x

@@ -8,6 +8,7 @@ use lib.Dec.{leb, ltb, eqb}
 use Rattle.octets.specs.Numbers.{Bytes, u32At, little}
 use Rattle.octets.specs.Characters.{characters}
 use Rattle.octets.specs.Parts.{put}
+use Rattle.format.specs.declared.Profile.{Profile}
 use Rattle.format.specs.declared.Record.{Record}
 use Rattle.format.specs.declared.Verdict.{Verdict}
 use Rattle.format.specs.declared.Verdict.the-variants.{Accepted, Refused}
@@ -74,9 +75,9 @@ withPath b c = record {
 
 -- ---- the call: d is the body buffer. 10; 11 for another signature, a text, or contents unwritable before or after; 12
 
-unfoldable pub pathWriting : Record → List ℕ → ℕ → List ℕ → List ℕ → ℕ → Outcome (List ℕ)
+unfoldable pub pathWriting : Profile → Record → List ℕ → ℕ → List ℕ → List ℕ → ℕ → Outcome (List ℕ)
 unfolding placed contents canonical writable pathBlock withPath
-pathWriting r d signature text unicode room =
+pathWriting profile r d signature text unicode room =
     let before = contents d r in
     let after = withPath (pathBlock signature text unicode) before in
     let w = canonical after in
@@ -85,20 +86,20 @@ pathWriting r d signature text unicode room =
     ∷ isPath signature else UNWRITABLE at 0
     ∷ pathText false text else UNWRITABLE at 0
     ∷ pathText true unicode else UNWRITABLE at 0
-    ∷ writable before else UNWRITABLE at 0
-    ∷ writable after else UNWRITABLE at 0
+    ∷ writable profile before else UNWRITABLE at 0
+    ∷ writable profile after else UNWRITABLE at 0
     ∷ leb (length w) room else ROOM at 0
     ∷ [])
     (got w (length w))
 
 -- the answer, and the output buffer afterwards; the room is the buffer's length
-unfoldable pub pathAnswer : Record → List ℕ → ℕ → List ℕ → List ℕ → List ℕ → Verdict
+unfoldable pub pathAnswer : Profile → Record → List ℕ → ℕ → List ℕ → List ℕ → List ℕ → Verdict
 unfolding pathWriting
-pathAnswer r d signature text unicode out = verdictOf (pathWriting r d signature text unicode (length out))
+pathAnswer profile r d signature text unicode out = verdictOf (pathWriting profile r d signature text unicode (length out))
 
-unfoldable pub pathOutput : Record → List ℕ → ℕ → List ℕ → List ℕ → List ℕ → List ℕ
+unfoldable pub pathOutput : Profile → Record → List ℕ → ℕ → List ℕ → List ℕ → List ℕ → List ℕ
 unfolding pathWriting outputOf
-pathOutput r d signature text unicode out = outputOf (pathWriting r d signature text unicode (length out)) out
+pathOutput profile r d signature text unicode out = outputOf (pathWriting profile r d signature text unicode (length out)) out
 
 -- ---- the words in which the promises are put
 
@@ -122,24 +123,24 @@ abbrev pub unicodeText : List ℕ → List ℕ
 unicodeText b = untilZero true (take 520 (drop 268 b))
 
 -- s is an accepted shortcut that reads as the record r over the body buffer d with the path block put in
-pub record ReadsWith (s : List ℕ) (r : Record) (d : List ℕ) (signature : ℕ) (text unicode : List ℕ) : Type 0 where
+pub record ReadsWith (profile : Profile) (s : List ℕ) (r : Record) (d : List ℕ) (signature : ℕ) (text unicode : List ℕ) : Type 0 where
   pub bytes : Bytes s
   pub held : Record
-  pub accepted : Accepts s held
+  pub accepted : Accepts profile s held
   pub same : contents s held ≡ withPath (pathBlock signature text unicode) (contents d r)
 
 -- how a call may end: its answer, and the lent buffer afterwards
-pub data PathEnds (r : Record) (d : List ℕ) (signature : ℕ) (text unicode out : List ℕ) : Verdict → List ℕ → Type 0 where
+pub data PathEnds (profile : Profile) (r : Record) (d : List ℕ) (signature : ℕ) (text unicode out : List ℕ) : Verdict → List ℕ → Type 0 where
   -- a present body does not lie inside the body buffer
-  misplaced : placed (length d) r ≡ false → PathEnds r d signature text unicode out (Refused PLACE 0) out
+  misplaced : placed (length d) r ≡ false → PathEnds profile r d signature text unicode out (Refused PLACE 0) out
   -- no such block, or no accepted shortcut reads as the record before, or none as the record after
   unwritable : placed (length d) r ≡ true
-      → (isPath signature ≡ true → pathText false text ≡ true → pathText true unicode ≡ true → (s : List ℕ) → ReadsAs s r d → (t : List ℕ) → ReadsWith t r d signature text unicode → ⊥)
-      → PathEnds r d signature text unicode out (Refused UNWRITABLE 0) out
+      → (isPath signature ≡ true → pathText false text ≡ true → pathText true unicode ≡ true → (s : List ℕ) → ReadsAs profile s r d → (t : List ℕ) → ReadsWith profile t r d signature text unicode → ⊥)
+      → PathEnds profile r d signature text unicode out (Refused UNWRITABLE 0) out
   -- some do, but none as short as the room
-  no-room : (w : List ℕ) → placed (length d) r ≡ true → ReadsWith w r d signature text unicode → ((s : List ℕ) → ReadsWith s r d signature text unicode → length out < length s)
-      → PathEnds r d signature text unicode out (Refused ROOM 0) out
+  no-room : (w : List ℕ) → placed (length d) r ≡ true → ReadsWith profile w r d signature text unicode → ((s : List ℕ) → ReadsWith profile s r d signature text unicode → length out < length s)
+      → PathEnds profile r d signature text unicode out (Refused ROOM 0) out
   -- else what is written reads as the record with the block, nothing that reads so is shorter, and the rest of the buffer is as it was
-  written : (w : List ℕ) → placed (length d) r ≡ true → ReadsWith w r d signature text unicode → length w ≤ length out
-      → ((s : List ℕ) → ReadsWith s r d signature text unicode → length w ≤ length s)
-      → PathEnds r d signature text unicode out (Accepted (length w)) (put out 0 w)
+  written : (w : List ℕ) → placed (length d) r ≡ true → ReadsWith profile w r d signature text unicode → length w ≤ length out
+      → ((s : List ℕ) → ReadsWith profile s r d signature text unicode → length w ≤ length s)
+      → PathEnds profile r d signature text unicode out (Accepted (length w)) (put out 0 w)

@@ -5,6 +5,8 @@ use mathlib.Core.Bool.{Bool, true, false, _&&_}
 use lib.ListN.{replicate, set}
 use lib.Dec.{eqb}
 use Rattle.octets.specs.Numbers.{little, sameNumbers}
+use Rattle.format.specs.declared.Profile.{Profile}
+use Rattle.format.specs.declared.Profile.the-variants.{Strict}
 use Rattle.format.specs.declared.Record.{Record}
 use Rattle.format.specs.declared.Verdict.{Verdict}
 use Rattle.format.specs.Numbers.{answerNumber, answerValue}
@@ -77,17 +79,17 @@ rowNumbers (x ∷ xs) = x .name ∷ x .start ∷ x .len ∷ rowNumbers xs
 abbrev pub answers : Verdict → ℕ → ℕ → Bool
 answers v number value = eqb (answerNumber v) number && eqb (answerValue v) value
 
-unfoldable pub holds : Probe → Bool
+unfoldable pub holds : Profile → Probe → Bool
 unfolding reading listing writeAnswer writeOutput answerNumber answerValue
-holds (reads s number value) = answers (reading s .verdict) number value
-holds (lists s rows) = sameNumbers (rowNumbers (listing s)) (rowNumbers rows)
-holds (writes r d out number value after) =
-    answers (writeAnswer r d out) number value && sameNumbers (writeOutput r d out) after
+holds profile (reads s number value) = answers (reading profile s .verdict) number value
+holds profile (lists s rows) = sameNumbers (rowNumbers (listing profile s)) (rowNumbers rows)
+holds profile (writes r d out number value after) =
+    answers (writeAnswer profile r d out) number value && sameNumbers (writeOutput profile r d out) after
 
-unfoldable pub allHold : List Probe → Bool
+unfoldable pub allHold : Profile → List Probe → Bool
 unfolding holds
-allHold [] = true
-allHold (x ∷ xs) = holds x && allHold xs
+allHold profile [] = true
+allHold profile (x ∷ xs) = holds profile x && allHold profile xs
 
 abbrev pub rowAt : ℕ → ℕ → ℕ → Row
 rowAt k p n = record { name = k; start = p; len = n }
@@ -124,8 +126,8 @@ table =
     ∷ reads (withSection 2 (smallInfo 0x1C 0x1B)) 7 100
     ∷ reads (withSection 2 (smallInfo 0x20 0x1C)) 6 80
     -- P11, P12
-    ∷ writes (reading Z .held) Z (lent 79) 12 0 (lent 79)
-    ∷ writes (reading Z .held) Z (lent 80) 0 80 Z
+    ∷ writes (reading Strict Z .held) Z (lent 79) 12 0 (lent 79)
+    ∷ writes (reading Strict Z .held) Z (lent 80) 0 80 Z
     ∷ writes zeroPath (0x00 ∷ []) [] 11 0 []
     ∷ writes zeroPath (0x00 ∷ []) (lent 200) 11 0 (lent 200)
     ∷ []

@@ -5,6 +5,7 @@ use mathlib.Core.Bool.{Bool, true, false}
 use lib.ListN.{length, replicate}
 use lib.Dec.{leb, eqb}
 use lib.IntN.{pos}
+use Rattle.format.specs.declared.Profile.{Profile}
 use Rattle.format.specs.declared.Fault.the-variants.{Long as LONG, Trail as TRAIL}
 use Rattle.format.specs.declared.Verdict.{Verdict}
 use Rattle.format.specs.declared.Verdict.the-variants.{Accepted, Refused}
@@ -15,7 +16,7 @@ use Rattle.format.specs.declared.Link.{Link}
 use Rattle.format.specs.declared.Record.{Record}
 use Rattle.format.specs.declared.Reading.{Reading}
 use Rattle.format.specs.declared.Faulted.{Faulted}
-use Rattle.format.specs.Tests.{_else_at_, Site, section, noSection, tests, Outcome, got, refused, Reader, andThen, chain, _then_, optional, place, noPlace}
+use Rattle.format.specs.Tests.{_else_at_, section, noSection, tests, Outcome, got, refused, Reader, andThen, chain, _then_, optional, place, noPlace}
 use Rattle.format.specs.Presence.{itemsThere, infoThere, nameBit, relativeBit, workdirBit, argumentsBit, iconBit, stringThere, stringsUnicode}
 use Rattle.format.specs.Header.{header}
 use Rattle.format.specs.Items.{items}
@@ -53,10 +54,10 @@ Tail =
     × (Section Info × (Section Place × (Section Place × (Section Place × (Section Place × (Section Place × Section (List ℕ)))))))
 
 -- the sections after the header, by its LinkFlags: items, LinkInfo, name, relative path, working directory, arguments, icon, blocks
-abbrev pub tail : ℕ → Reader Tail
-tail flags =
+abbrev pub tail : Profile → ℕ → Reader Tail
+tail profile flags =
     sectionIf (itemsThere flags) noPlace items
-    then sectionIf (infoThere flags) noInfo info
+    then sectionIf (infoThere flags) noInfo (info profile)
     then stringSection flags nameBit
     then stringSection flags relativeBit
     then stringSection flags workdirBit
@@ -67,18 +68,18 @@ tail flags =
 abbrev pub Sections : Type 0
 Sections = Section Header × Tail
 
-unfoldable pub sections : Reader Sections
-sections = chain (found header) (λ h. tail (h .read .flags))
+unfoldable pub sections : Profile → Reader Sections
+sections profile = chain (found (header profile)) (λ h. tail profile (h .read .flags))
 
 abbrev pub blocksOf : Sections → Section (List ℕ)
 blocksOf c = c .1 .1 .1 .1 .1 .1 .1 .1
 
 -- over 65,536 bytes: LONG; bytes after the terminal block: TRAIL, at the first of them
-unfoldable pub shortcut : List ℕ → Outcome Sections
+unfoldable pub shortcut : Profile → List ℕ → Outcome Sections
 unfolding sections
-shortcut s =
+shortcut profile s =
     tests noSection (leb (length s) most else LONG at most ∷ [])
-    (andThen (sections 0 s) (λ c n. tests (section 9 (n - 4)) (eqb n (length s) else TRAIL at 4 ∷ []) (got c n)))
+    (andThen (sections profile 0 s) (λ c n. tests (section 9 (n - 4)) (eqb n (length s) else TRAIL at 4 ∷ []) (got c n)))
 
 -- ---- the record that reading gives
 
@@ -127,9 +128,9 @@ abbrev pub heldBy : Outcome Sections → Record
 heldBy (got c n) = recordOf c
 heldBy (refused f p) = noRecord
 
-unfoldable pub reading : List ℕ → Reading
+unfoldable pub reading : Profile → List ℕ → Reading
 unfolding shortcut
-reading s = record { verdict = verdictOf (shortcut s); held = heldBy (shortcut s) }
+reading profile s = record { verdict = verdictOf (shortcut profile s); held = heldBy (shortcut profile s) }
 
 -- ---- where the fault stands
 
@@ -138,6 +139,6 @@ faultedBy (got a n) = record { verdict = Accepted n; section = 0; start = 0 }
 faultedBy (refused f w) = record { verdict = Refused f (w .position); section = w .section; start = w .start }
 
 -- the verdict of reading with the section at fault, for a block the block's own start
-unfoldable pub faulted : List ℕ → Faulted
+unfoldable pub faulted : Profile → List ℕ → Faulted
 unfolding shortcut
-faulted s = faultedBy (shortcut s)
+faulted profile s = faultedBy (shortcut profile s)

@@ -5,6 +5,7 @@ use mathlib.Core.Bool.{Bool, cond}
 use lib.ListN.{length, take, drop}
 use lib.Dec.{leb, eqb}
 use Rattle.octets.specs.Numbers.{u32At}
+use Rattle.format.specs.declared.Profile.{Profile}
 use Rattle.format.specs.declared.Place.{Place}
 use Rattle.format.specs.declared.StoreRow.{StoreRow}
 use Rattle.format.specs.declared.Verdict.{Verdict}
@@ -76,21 +77,21 @@ unfolding storeRows
 rowsOf s c = blockRows s (firstPlace s 0xA0000009 (blocksOf c .start) (blocksOf c .read))
 
 -- Refusals: as for reading, then 12. The answer is the number of rows
-unfoldable pub storeList : List ℕ → ℕ → Outcome (List ℕ)
+unfoldable pub storeList : Profile → List ℕ → ℕ → Outcome (List ℕ)
 unfolding shortcut rowsOf
-storeList s room =
-    andThen (shortcut s) (λ c n.
+storeList profile s room =
+    andThen (shortcut profile s) (λ c n.
     let w = allNumbers (rowsOf s c) in
     tests noSection (leb (length w) room else ROOM at 0 ∷ []) (got w (length (rowsOf s c))))
 
 -- the answer, and the output buffer afterwards; the room is the buffer's length
-unfoldable pub storeListAnswer : List ℕ → List ℕ → Verdict
+unfoldable pub storeListAnswer : Profile → List ℕ → List ℕ → Verdict
 unfolding storeList
-storeListAnswer s out = verdictOf (storeList s (length out))
+storeListAnswer profile s out = verdictOf (storeList profile s (length out))
 
-unfoldable pub storeListOutput : List ℕ → List ℕ → List ℕ
+unfoldable pub storeListOutput : Profile → List ℕ → List ℕ → List ℕ
 unfolding storeList outputOf
-storeListOutput s out = outputOf (storeList s (length out)) out
+storeListOutput profile s out = outputOf (storeList profile s (length out)) out
 
 -- ---- a row by its number
 
@@ -105,15 +106,15 @@ nthRow k [] = storageRow noPlace
 nthRow zero (r ∷ rs) = r
 nthRow (suc k) (r ∷ rs) = nthRow k rs
 
-unfoldable pub storeRow : List ℕ → ℕ → StoreRow
+unfoldable pub storeRow : Profile → List ℕ → ℕ → StoreRow
 unfolding shortcut rowsOf
-storeRow s k = nthRow k (rowsBy s (shortcut s))
+storeRow profile s k = nthRow k (rowsBy s (shortcut profile s))
 
 -- the caller's own bytes there; no row but a value's that is named by string has a name
-unfoldable pub storeName : List ℕ → ℕ → List ℕ
+unfoldable pub storeName : Profile → List ℕ → ℕ → List ℕ
 unfolding storeRow
-storeName s k = bytesAt s (storeRow s k .name)
+storeName profile s k = bytesAt s (storeRow profile s k .name)
 
-unfoldable pub storeRaw : List ℕ → ℕ → List ℕ
+unfoldable pub storeRaw : Profile → List ℕ → ℕ → List ℕ
 unfolding storeRow
-storeRaw s k = bytesAt s (storeRow s k .raw)
+storeRaw profile s k = bytesAt s (storeRow profile s k .raw)

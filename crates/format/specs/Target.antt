@@ -4,6 +4,7 @@ use mathlib.Core.List.{List, [], _∷_, _++_}
 use mathlib.Core.Bool.{Bool, not, _&&_, _||_, cond}
 use lib.ListN.{length, getD}
 use lib.Dec.{leb, eqb}
+use Rattle.format.specs.declared.Profile.{Profile}
 use Rattle.format.specs.declared.Record.{Record}
 use Rattle.format.specs.declared.Verdict.{Verdict}
 use Rattle.format.specs.declared.Fault.the-variants.{Room as ROOM, NoTarget as NOTARGET}
@@ -41,18 +42,18 @@ targetText s r =
     joined (cond (localThere (r .link .flags)) (bytesAt s (placeIn r localSlot)) (bytesAt s (placeIn r netSlot))) (bytesAt s (placeIn r suffixSlot))
 
 -- after the tests of reading: 13, then 12
-unfoldable pub target : List ℕ → ℕ → Outcome (List ℕ)
+unfoldable pub target : Profile → List ℕ → ℕ → Outcome (List ℕ)
 unfolding shortcut
-target s room =
-    andThen (shortcut s) (λ c n.
+target profile s room =
+    andThen (shortcut profile s) (λ c n.
     let w = targetText s (recordOf c) in
     tests noSection (hasTarget (recordOf c) else NOTARGET at 0 ∷ leb (length w) room else ROOM at 0 ∷ []) (got w (length w)))
 
 -- the answer, and the output buffer afterwards; the room is the buffer's length
-unfoldable pub targetAnswer : List ℕ → List ℕ → Verdict
+unfoldable pub targetAnswer : Profile → List ℕ → List ℕ → Verdict
 unfolding target
-targetAnswer s out = verdictOf (target s (length out))
+targetAnswer profile s out = verdictOf (target profile s (length out))
 
-unfoldable pub targetOutput : List ℕ → List ℕ → List ℕ
+unfoldable pub targetOutput : Profile → List ℕ → List ℕ → List ℕ
 unfolding target outputOf
-targetOutput s out = outputOf (target s (length out)) out
+targetOutput profile s out = outputOf (target profile s (length out)) out

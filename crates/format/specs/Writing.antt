@@ -8,6 +8,7 @@ use lib.IntN.{ℤ, pos, negsuc}
 use Rattle.octets.specs.Numbers.{little}
 use Rattle.octets.specs.Characters.{bytesOf, characters}
 use Rattle.octets.specs.Parts.{put}
+use Rattle.format.specs.declared.Profile.{Profile}
 use Rattle.format.specs.declared.Header.{Header}
 use Rattle.format.specs.declared.Link.{Link}
 use Rattle.format.specs.declared.Record.{Record}
@@ -247,8 +248,8 @@ abbrev pub writableIf : {A : Type 0} → Bool → (A → Bool) → A → Bool
 writableIf true f = f
 writableIf false f = λ a. true
 
-abbrev pub writableHeader : Header → Bool
-writableHeader h = every (flagsOk (h .flags) ∷ attributesOk (h .attributes) ∷ hotkeyOk (h .hotkey) ∷ [])
+abbrev pub writableHeader : Profile → Header → Bool
+writableHeader profile h = every (flagsOk (h .flags) ∷ attributesOk profile (h .attributes) ∷ hotkeyOk (h .hotkey) ∷ [])
 
 abbrev pub writableItems : List ℕ → Bool
 writableItems x = ltb (length x + 2) 65536 && itemList (x ++ 0 ∷ 0 ∷ [])
@@ -293,11 +294,11 @@ writableLink flags l =
 abbrev pub writableBodies : Contents → List Bool
 writableBodies c = along [] writableRow 0 (bodyTable (c .header .flags) (c .link)) (c .bodies)
 
-unfoldable pub writable : Contents → Bool
+unfoldable pub writable : Profile → Contents → Bool
 unfolding canonical
-writable c =
+writable profile c =
     every
-    (writableHeader (c .header)
+    (writableHeader profile (c .header)
     ∷ writableLink (c .header .flags) (c .link)
     ∷ every (writableBodies c)
     ∷ leb (length (canonical c)) most
@@ -305,11 +306,11 @@ writable c =
 
 -- ---- the call: d is the body buffer. Writing tests 10, 11, 12; the position is 0
 
-unfoldable pub writing : Record → List ℕ → ℕ → Outcome (List ℕ)
+unfoldable pub writing : Profile → Record → List ℕ → ℕ → Outcome (List ℕ)
 unfolding placed contents canonical writable
-writing r d room =
+writing profile r d room =
     let w = canonical (contents d r) in
-    tests noSection (placed (length d) r else PLACE at 0 ∷ writable (contents d r) else UNWRITABLE at 0 ∷ leb (length w) room else ROOM at 0 ∷ [])
+    tests noSection (placed (length d) r else PLACE at 0 ∷ writable profile (contents d r) else UNWRITABLE at 0 ∷ leb (length w) room else ROOM at 0 ∷ [])
     (got w (length w))
 
 -- ---- what a call leaves in the output buffer it was lent
@@ -321,10 +322,10 @@ outputOf (got w n) out = put out 0 w
 outputOf (refused f p) out = out
 
 -- the answer, and the output buffer afterwards; the room is the buffer's length
-unfoldable pub writeAnswer : Record → List ℕ → List ℕ → Verdict
+unfoldable pub writeAnswer : Profile → Record → List ℕ → List ℕ → Verdict
 unfolding writing
-writeAnswer r d out = verdictOf (writing r d (length out))
+writeAnswer profile r d out = verdictOf (writing profile r d (length out))
 
-unfoldable pub writeOutput : Record → List ℕ → List ℕ → List ℕ
+unfoldable pub writeOutput : Profile → Record → List ℕ → List ℕ → List ℕ
 unfolding writing outputOf
-writeOutput r d out = outputOf (writing r d (length out)) out
+writeOutput profile r d out = outputOf (writing profile r d (length out)) out

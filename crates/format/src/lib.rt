@@ -129,6 +129,12 @@ pub struct StoreRow {
     pub raw: Place,
 }
 
+// The rules that a call goes by: as they stand, or with what shortcuts of Windows 95 are forgiven.
+pub enum Profile {
+    Strict,
+    NinetyFive,
+}
+
 // Why a call refuses: the names of the table of numbers.
 pub enum Fault {
     Long,

@@ -11,6 +11,7 @@ use lib.IntN.{ℤ}
 use borrow.Author.Tests.{eqb-true, eq-eqb, ne-eqb, lt-leb, le-leb, not-true, not-false}
 use Rattle.octets.specs.Numbers.{number, numberAt, u16At, u32At, u64At}
 use Rattle.octets.proofs.NumberLaws.{number-split, digits}
+use Rattle.format.specs.declared.Profile.{Profile}
 use Rattle.format.specs.declared.Header.{Header}
 use Rattle.format.specs.declared.Fault.the-variants.{Cut as CUT, Magic as MAGIC, Head as HEAD}
 use Rattle.format.specs.declared.Spot.{Spot}
@@ -75,17 +76,17 @@ zeros-are l {a} {b} h pa pb =
     let z : numberAt 10 l 66 ≡ 0 = eqb-true _ _ e in
     and-both (eqb a 0) (eqb b 0) (eq-eqb a 0 (omega arith)) (eq-eqb b 0 (omega arith)))
 
-pub head-wrong-is : (l : List ℕ) {f g h : ℕ} {a b c d : Bool} {j k m n : ℕ} → f ≡ u32At l 20 → a ≡ flagsOk f → g ≡ u32At l 24 → b ≡ attributesOk g → h ≡ u16At l 64 → c ≡ hotkeyOk h
-    → d ≡ zerosFrom66 l → j ≡ cond d 0 66 → k ≡ cond c j 64 → m ≡ cond b k 24 → n ≡ cond a m 20 → n ≡ wrong (headTests l)
-head-wrong-is l ef ea eg eb eh ec ed ej ek em en = rw (en, em, ek, ej, ea, eb, ec, ed, ef, eg, eh)
+pub head-wrong-is : (profile : Profile) (l : List ℕ) {f g h : ℕ} {a b c d : Bool} {j k m n : ℕ} → f ≡ u32At l 20 → a ≡ flagsOk f → g ≡ u32At l 24 → b ≡ attributesOk profile g → h ≡ u16At l 64 → c ≡ hotkeyOk h
+    → d ≡ zerosFrom66 l → j ≡ cond d 0 66 → k ≡ cond c j 64 → m ≡ cond b k 24 → n ≡ cond a m 20 → n ≡ wrong (headTests profile l)
+head-wrong-is profile l ef ea eg eb eh ec ed ej ek em en = rw (en, em, ek, ej, ea, eb, ec, ed, ef, eg, eh)
 
 -- ---- the ways out
 
-module _ (s : List ℕ) where
+module _ (profile : Profile) (s : List ℕ) where
   -- the number and the value of the answer
-  header-read : {r : HeaderTaken} → r ≡ headerAt s → HeaderAnswer s r
+  header-read : {r : HeaderTaken} → r ≡ headerAt profile s → HeaderAnswer profile s r
   unfolding headerAt headerNumber headerValue
-  header-read e = record { is = e; number = rw e (number (header 0 s)); value = rw e (value (header 0 s)) }
+  header-read e = record { is = e; number = rw e (number (header profile 0 s)); value = rw e (value (header profile 0 s)) }
     where
       number : (o : Outcome Header) → headerNumber (headerTaken o) ≡ outcomeNumber o
       number (got h n) = refl
@@ -95,7 +96,7 @@ module _ (s : List ℕ) where
       value (got h n) = omega arith
       value (refused f q) = refl
 
-  pub header-cut : length s < 76 → {w : Spot} → w ≡ spotAt (section 0 0) 0 → HeaderAnswer s (Refused CUT w)
+  pub header-cut : length s < 76 → {w : Spot} → w ≡ spotAt (section 0 0) 0 → HeaderAnswer profile s (Refused CUT w)
   unfolding headerAt
   header-cut h e = header-read (rw (lt-leb 76 (length s) h, e))
 
@@ -104,29 +105,29 @@ module _ (s : List ℕ) where
     sized : {x : Bool} → a ≡ x → headerSizeOk (u32At (take 76 s) 0) ≡ x
     sized t = ap headerSizeOk (sym en) ∙ sym ea ∙ t
 
-    pub header-size : not a ≡ true → {w : Spot} → w ≡ spotAt (section 0 0) 0 → HeaderAnswer s (Refused MAGIC w)
+    pub header-size : not a ≡ true → {w : Spot} → w ≡ spotAt (section 0 0) 0 → HeaderAnswer profile s (Refused MAGIC w)
     unfolding headerAt
     header-size t e = header-read (rw (le-leb 76 (length s) whole, sized (not-true a t), e))
 
     module _ (ta : not a ≡ false) {b : Bool} (eb : b ≡ identifierOk (take 76 s)) where
-      pub header-identifier : not b ≡ true → {w : Spot} → w ≡ spotAt (section 0 0) 4 → HeaderAnswer s (Refused MAGIC w)
+      pub header-identifier : not b ≡ true → {w : Spot} → w ≡ spotAt (section 0 0) 4 → HeaderAnswer profile s (Refused MAGIC w)
       unfolding headerAt
       header-identifier t e = header-read (rw (le-leb 76 (length s) whole, sized (not-false a ta), sym eb ∙ not-true b t, e))
 
-      module _ (tb : not b ≡ false) {k : ℕ} (ek : k ≡ wrong (headTests (take 76 s))) where
+      module _ (tb : not b ≡ false) {k : ℕ} (ek : k ≡ wrong (headTests profile (take 76 s))) where
         -- the rules of HEAD are one test
-        judged : headerAt s ≡ headerTaken (cond (eqb k 0) (got (headerFields (take 76 s)) 76) (refused HEAD (spotAt (section 0 0) k)))
+        judged : headerAt profile s ≡ headerTaken (cond (eqb k 0) (got (headerFields (take 76 s)) 76) (refused HEAD (spotAt (section 0 0) k)))
         unfolding headerAt
         judged =
             let r : Outcome Header = got (headerFields (take 76 s)) 76 in
-            let g = one-fault HEAD (section 0 0) (headTests (take 76 s)) r (refl, (omega arith, (refl, (omega arith, (refl, (omega arith, (refl, (omega arith, tt)))))))) in
+            let g = one-fault HEAD (section 0 0) (headTests profile (take 76 s)) r (refl, (omega arith, (refl, (omega arith, (refl, (omega arith, (refl, (omega arith, tt)))))))) in
             rw (le-leb 76 (length s) whole, sized (not-false a ta), sym eb ∙ not-false b tb)
             (ap headerTaken (g ∙ ap (λ (x : ℕ). cond (eqb x 0) r (refused HEAD (spotAt (section 0 0) x))) (sym ek)))
 
-        pub header-head : (k ≡ 0 → ⊥) → {w : Spot} → w ≡ spotAt (section 0 0) k → HeaderAnswer s (Refused HEAD w)
+        pub header-head : (k ≡ 0 → ⊥) → {w : Spot} → w ≡ spotAt (section 0 0) k → HeaderAnswer profile s (Refused HEAD w)
         header-head t e = header-read (sym (judged ∙ rw (ne-eqb k 0 t, e)))
 
-        pub header-got : {h : Header} → k ≡ 0 → h ≡ headerFields (take 76 s) → HeaderAnswer s (Got h (record { at = 76 }))
+        pub header-got : {h : Header} → k ≡ 0 → h ≡ headerFields (take 76 s) → HeaderAnswer profile s (Got h (record { at = 76 }))
         header-got t e = header-read (rw e (sym (judged ∙ rw t)))
 
 pub fields-are : (l : List ℕ) {a b c d e f h j : ℕ} {i : ℤ} → a ≡ u32At l 20 → b ≡ u32At l 24 → c ≡ u64At l 28 → d ≡ u64At l 36 → e ≡ u64At l 44 → f ≡ u32At l 52

@@ -1,14 +1,16 @@
 // The header, and the window shown (FORMAT: Header).
 use format::Fault;
 use format::Header;
+use format::Profile;
 use format::Spot;
 use format::spot_at;
 use format::unless;
 use octets::Cursor;
 ghost use mathlib.Core.Path.{_≡_};
-ghost use Prim.Native.Nat.{_≤_};
+ghost use Prim.Native.Nat.{_≤_, _/_, _^_};
 ghost use lib.ListN.{length};
-ghost use Rattle.format.specs.Header.{headerSizeOk, identifierOk, flagsOk, attributesOk, zerosFrom66, headTests, headerFields, windowShown};
+ghost use lib.Dec.{eqb};
+ghost use Rattle.format.specs.Header.{headerSizeOk, identifierOk, flagsOk, clearFrom, attributesOk, zerosFrom66, headTests, headerFields, windowShown};
 ghost use Rattle.format.specs.Hotkey.{lowByteOk, highByteOk, hotkeyOk};
 ghost use Rattle.format.specs.Steps.Wrong.{wrong};
 ghost use Rattle.header.specs.Steps.Taken.{HeaderAnswer};
@@ -42,10 +44,20 @@ pub fn flags_ok(f: u32) -> bool
     f / 0x0800_0000 == 0
 }
 
-pub fn attributes_ok(a: u32) -> bool
-    ensures { λ r. ⌜ r ≡ attributesOk a ⌝ }
+// The attribute bits that no profile or only 95 keeps.
+fn high_clear(a: u32, profile: Profile) -> bool
+    ensures { λ r. ⌜ r ≡ eqb (a / 2 ^ clearFrom profile) 0 ⌝ }
 {
-    !(a / 8 % 2 == 1) & !(a / 64 % 2 == 1) & (a / 32768 == 0)
+    match profile {
+        Profile::Strict => a / 0x8000 == 0,
+        Profile::NinetyFive => a / 0x1_0000 == 0,
+    }
+}
+
+pub fn attributes_ok(a: u32, profile: Profile) -> bool
+    ensures { λ r. ⌜ r ≡ attributesOk profile a ⌝ }
+{
+    !(a / 8 % 2 == 1) & !(a / 64 % 2 == 1) & high_clear(a, profile)
 }
 
 // The groups of LowByte (FORMAT: Hot key), row for row.
@@ -88,12 +100,12 @@ fn zeros_from_66(l: &[u8]) -> bool
 }
 
 // The first field that breaks a rule of HEAD, or 0.
-fn head_wrong(l: &[u8]) -> usize
+fn head_wrong(l: &[u8], profile: Profile) -> usize
     requires { ⌜ 76 ≤ length (now l) ⌝ }
-    ensures { λ r. ⌜ r ≡ wrong (headTests (now (l .entry))) ⌝ }
+    ensures { λ r. ⌜ r ≡ wrong (headTests profile (now (l .entry))) ⌝ }
 {
     let flags = flags_ok(octets::u32_at(l, 20));
-    let attributes = attributes_ok(octets::u32_at(l, 24));
+    let attributes = attributes_ok(octets::u32_at(l, 24), profile);
     let hotkey = hotkey_ok(octets::u16_at(l, 64));
     let zeros = zeros_from_66(l);
     unless(
@@ -120,8 +132,8 @@ fn header_fields(l: &[u8]) -> Header
     }
 }
 
-pub fn header(s: &[u8]) -> HeaderTaken
-    ensures { λ r. ⌜ HeaderAnswer (now (s .entry)) r ⌝ }
+pub fn header(s: &[u8], profile: Profile) -> HeaderTaken
+    ensures { λ r. ⌜ HeaderAnswer profile (now (s .entry)) r ⌝ }
 {
     if s.len() < 76 {
         return HeaderTaken::Refused(Fault::Cut, spot_at(0, 0, 0));
@@ -133,7 +145,7 @@ pub fn header(s: &[u8]) -> HeaderTaken
     if !identifier_ok(l) {
         return HeaderTaken::Refused(Fault::Magic, spot_at(0, 0, 4));
     }
-    let wrong = head_wrong(l);
+    let wrong = head_wrong(l, profile);
     if wrong != 0 {
         return HeaderTaken::Refused(Fault::Head, spot_at(0, 0, wrong));
     }

@@ -9,6 +9,8 @@ use lib.Dec.{leb, eqb}
 use borrow.Author.Tests.{le-leb, lt-leb, leb-true, eqb-true, eq-eqb, ne-eqb, not-true, not-false}
 use Rattle.octets.specs.Numbers.{u32At}
 use Rattle.octets.specs.declared.Cursor.{Cursor}
+use Rattle.format.specs.declared.Profile.{Profile}
+use Rattle.format.specs.declared.Profile.the-variants.{Strict, NinetyFive}
 use Rattle.format.specs.declared.Fault.{Fault}
 use Rattle.format.specs.declared.Fault.the-variants.{Cut as CUT, Info as INFO, Piece as PIECE}
 use Rattle.format.specs.declared.Info.{Info}
@@ -20,7 +22,7 @@ use Rattle.format.specs.Steps.Wrong.{wrong, first}
 use Rattle.format.specs.Pieces.{Piece, textEnds, textPiece, absentZero, testsOf, apartTests}
 use Rattle.format.specs.Volume.{volumePiece, volumeRules, volumeFields}
 use Rattle.format.specs.Network.{networkPiece, networkRules, networkFields}
-use Rattle.format.specs.Info.{infoSize, infoHead, longHead, headOk, infoFlags, hasLocal, hasNetwork, infoPieces, infoHeadTests, infoRules, infoFields, hasLocalUnicode, info}
+use Rattle.format.specs.Info.{infoSize, infoHead, longHead, headOk, infoFlags, hasLocal, hasNetwork, infoPieces, leftoverOk, infoHeadTests, infoRules, infoFields, hasLocalUnicode, info}
 use Rattle.format.specs.Presence.{localThere, networkThere, localUnicodeThere}
 use Rattle.format.proofs.Bools.{or-true, and-true}
 use Rattle.format.proofs.Chains.{Pass, tests-append, all-pass, pass-all}
@@ -32,7 +34,7 @@ use Rattle.info.specs.declared.Text.{Text}
 use Rattle.info.specs.declared.VolumeFound.{VolumeFound}
 use Rattle.info.specs.declared.NetworkFound.{NetworkFound}
 use Rattle.info.specs.declared.Pieces.{Pieces}
-use Rattle.info.specs.Steps.Found.{fieldIf, pieceOk, textFound, volumeFound, networkFound, piecesFound}
+use Rattle.info.specs.Steps.Found.{fieldIf, ignoresLeftovers, pieceOk, textFound, volumeFound, networkFound, piecesFound}
 use Rattle.info.specs.Steps.Taken.{infoTaken, infoAt, infoNumber, infoValue, InfoAnswer}
 use Rattle.info.proofs.TestLaws.{first-unless, fields-told, fields-one, fields-most, text-fields, AllFields, pieces-fields, judge, pieces-judged}
 use Rattle.info.proofs.TextLaws.{any-field, text-judged, text-field, zero-field}
@@ -56,52 +58,63 @@ fits-inside head z h =
     let g = leb-true head z b in
     (omega arith, λ t. omega arith))
 
-module _ (l : List ℕ) {head : ℕ} (eh : head ≡ u32At l 4) where
-  pub head-unfit : not (headFits head (length l)) ≡ true → 4 ≡ wrong (infoHeadTests l)
+-- the field of a part that is there, or of any where leftovers are ignored, is not looked at
+forgiven : (profile : Profile) (b : Bool) (o : ℕ) → absentZero (b || ignoresLeftovers profile) o ≡ leftoverOk profile b o
+unfolding ignoresLeftovers
+forgiven Strict true o = refl
+forgiven Strict false o = refl
+forgiven NinetyFive true o = refl
+forgiven NinetyFive false o = refl
+
+forgiven-field : (profile : Profile) (b w : Bool) (l : List ℕ) (i : ℕ) → absentZero (b || ignoresLeftovers profile) (fieldIf w l i) ≡ (not w || leftoverOk profile b (u32At l i))
+forgiven-field profile b w l i = zero-field (b || ignoresLeftovers profile) w l i ∙ ap (λ (x : Bool). not w || x) (forgiven profile b (u32At l i))
+
+module _ (profile : Profile) (l : List ℕ) {head : ℕ} (eh : head ≡ u32At l 4) where
+  pub head-unfit : not (headFits head (length l)) ≡ true → 4 ≡ wrong (infoHeadTests profile l)
   head-unfit t = rw (← eh, not-true (headFits head (length l)) t)
 
   module _ {flags : ℕ} (th : not (headFits head (length l)) ≡ false) (ef : flags ≡ u32At l 8) where
     pub head-room : leb 0x24 head ≡ true → 0x24 ≤ length l
     head-room = fits-inside head (length l) (not-false (headFits head (length l)) th) .1
 
-    pub flags-unfit : 3 < flags → 8 ≡ wrong (infoHeadTests l)
+    pub flags-unfit : 3 < flags → 8 ≡ wrong (infoHeadTests profile l)
     flags-unfit h = rw (← eh, not-false (headFits head (length l)) th, ← ef, lt-leb flags 3 h)
 
-    module _ {there x : Bool} {o : ℕ} (hf : flags ≤ 3) (et : there ≡ localThere flags) (eo : o ≡ u32At l 12) (ex : x ≡ absentZero there o) where
-      volume-is : absentZero (localThere flags) (u32At l 12) ≡ x
-      volume-is = rw (ex, eo, et)
+    module _ {ignored local x : Bool} {o : ℕ} (hf : flags ≤ 3) (ei : ignored ≡ ignoresLeftovers profile) (et : local ≡ localThere flags) (eo : o ≡ u32At l 12) (ex : x ≡ absentZero (local || ignored) o) where
+      volume-is : leftoverOk profile (localThere flags) (u32At l 12) ≡ x
+      volume-is = sym (ex ∙ rw (eo, et, ei) (forgiven profile _ _))
 
-      pub volume-kept : not x ≡ true → 12 ≡ wrong (infoHeadTests l)
+      pub volume-kept : not x ≡ true → 12 ≡ wrong (infoHeadTests profile l)
       volume-kept t = rw (← eh, not-false (headFits head (length l)) th, ← ef, le-leb flags 3 hf, volume-is, not-true x t)
 
-      module _ {y : Bool} {q : ℕ} (tx : not x ≡ false) (eq : q ≡ u32At l 16) (ey : y ≡ absentZero there q) where
-        local-is : absentZero (localThere flags) (u32At l 16) ≡ y
-        local-is = rw (ey, eq, et)
+      module _ {y : Bool} {q : ℕ} (tx : not x ≡ false) (eq : q ≡ u32At l 16) (ey : y ≡ absentZero (local || ignored) q) where
+        local-is : leftoverOk profile (localThere flags) (u32At l 16) ≡ y
+        local-is = sym (ey ∙ rw (eq, et, ei) (forgiven profile _ _))
 
-        pub local-kept : not y ≡ true → 16 ≡ wrong (infoHeadTests l)
+        pub local-kept : not y ≡ true → 16 ≡ wrong (infoHeadTests profile l)
         local-kept t = rw (← eh, not-false (headFits head (length l)) th, ← ef, le-leb flags 3 hf, volume-is, not-false x tx, local-is, not-true y t)
 
-        module _ {linked z : Bool} {r : ℕ} (ty : not y ≡ false) (en : linked ≡ networkThere flags) (er : r ≡ u32At l 20) (ez : z ≡ absentZero linked r) where
-          network-is : absentZero (networkThere flags) (u32At l 20) ≡ z
-          network-is = rw (ez, er, en)
+        module _ {linked z : Bool} {r : ℕ} (ty : not y ≡ false) (en : linked ≡ networkThere flags) (er : r ≡ u32At l 20) (ez : z ≡ absentZero (linked || ignored) r) where
+          network-is : leftoverOk profile (networkThere flags) (u32At l 20) ≡ z
+          network-is = sym (ez ∙ rw (er, en, ei) (forgiven profile _ _))
 
-          pub network-kept : not z ≡ true → 20 ≡ wrong (infoHeadTests l)
+          pub network-kept : not z ≡ true → 20 ≡ wrong (infoHeadTests profile l)
           network-kept t =
               rw (← eh, not-false (headFits head (length l)) th, ← ef, le-leb flags 3 hf, volume-is, not-false x tx, local-is, not-false y ty, network-is, not-true z t)
 
-          pub local-unicode-kept : {w : Bool} {m n : ℕ} → not z ≡ false → m ≡ fieldIf (leb 0x24 head) l 28 → w ≡ absentZero there m → n ≡ cond w 0 28 → n ≡ wrong (infoHeadTests l)
+          pub local-unicode-kept : {w : Bool} {m n : ℕ} → not z ≡ false → m ≡ fieldIf (leb 0x24 head) l 28 → w ≡ absentZero (local || ignored) m → n ≡ cond w 0 28 → n ≡ wrong (infoHeadTests profile l)
           local-unicode-kept {w} t em ew e =
-              let i : (not (leb 0x24 head) || absentZero (localThere flags) (u32At l 28)) ≡ w = sym (ew ∙ rw (em, et) (zero-field (localThere flags) (leb 0x24 head) l 28)) in
+              let i : (not (leb 0x24 head) || leftoverOk profile (localThere flags) (u32At l 28)) ≡ w = sym (ew ∙ rw (em, et, ei) (forgiven-field profile (localThere flags) (leb 0x24 head) l 28)) in
               rw (← eh, not-false (headFits head (length l)) th, ← ef, le-leb flags 3 hf, volume-is, not-false x tx, local-is, not-false y ty, network-is, not-false z t, i) e
 
-head-faults : (l : List ℕ) → Faults INFO (infoHeadTests l)
-head-faults l = (refl, (omega arith, (refl, (omega arith, (refl, (omega arith, (refl, (omega arith, (refl, (omega arith, (refl, (omega arith, tt))))))))))))
+head-faults : (profile : Profile) (l : List ℕ) → Faults INFO (infoHeadTests profile l)
+head-faults profile l = (refl, (omega arith, (refl, (omega arith, (refl, (omega arith, (refl, (omega arith, (refl, (omega arith, (refl, (omega arith, tt))))))))))))
 
-pub head-most : (l : List ℕ) {k : ℕ} → k ≡ wrong (infoHeadTests l) → k ≤ 28
-head-most l e =
+pub head-most : (profile : Profile) (l : List ℕ) {k : ℕ} → k ≡ wrong (infoHeadTests profile l) → k ≤ 28
+head-most profile l e =
     rw e
-    (go (headOk l) (leb (infoFlags l) 3) (absentZero (hasLocal l) (u32At l 12)) (absentZero (hasLocal l) (u32At l 16)) (absentZero (hasNetwork l) (u32At l 20))
-    (not (longHead l) || absentZero (hasLocal l) (u32At l 28)))
+    (go (headOk l) (leb (infoFlags l) 3) (leftoverOk profile (hasLocal l) (u32At l 12)) (leftoverOk profile (hasLocal l) (u32At l 16)) (leftoverOk profile (hasNetwork l) (u32At l 20))
+    (not (longHead l) || leftoverOk profile (hasLocal l) (u32At l 28)))
   where
     go : (a b c d e f : Bool) → cond a (cond b (cond c (cond d (cond e (cond f 0 28) 20) 16) 12) 8) 4 ≤ 28
     go true true true true true true = omega arith
@@ -112,9 +125,12 @@ head-most l e =
     go true false c d e f = omega arith
     go false b c d e f = omega arith
 
-module _ (l : List ℕ) (e : wrong (infoHeadTests l) ≡ 0) where
+pub head-passed : (profile : Profile) (l : List ℕ) → wrong (infoHeadTests profile l) ≡ 0 → headOk l ≡ true
+head-passed profile l e = info-head-holds profile l (none-wrong INFO (infoHeadTests profile l) (head-faults profile l) e) .head
+
+module _ (l : List ℕ) (e : headOk l ≡ true) where
   fits : (0 < infoHead l) × (longHead l ≡ true → 0x24 ≤ length l)
-  fits = fits-inside (infoHead l) (length l) (info-head-holds l (none-wrong INFO (infoHeadTests l) (head-faults l) e) .head)
+  fits = fits-inside (infoHead l) (length l) e
 
   pub passed-room : {head : ℕ} → head ≡ u32At l 4 → leb 0x24 head ≡ true → 0x24 ≤ length l
   passed-room eh t = fits .1 (rw (← eh) t)
@@ -176,7 +192,7 @@ six p l eh ef el et en ea e₁ eb ec e₂ ed e₃ ee e₄ eg =
 abbrev made : ℕ → Info → Pieces
 made i j = record { wrong = i; info = j }
 
-module _ (p : ℕ) (l : List ℕ) {a : VolumeFound} {b : Text} {c : NetworkFound} {d e f : Text} {far m₁ m₂ m₃ m₄ m₅ m₆ : ℕ} (z : wrong (infoHeadTests l) ≡ 0)
+module _ (p : ℕ) (l : List ℕ) {a : VolumeFound} {b : Text} {c : NetworkFound} {d e f : Text} {far m₁ m₂ m₃ m₄ m₅ m₆ : ℕ} (z : headOk l ≡ true)
     (S : Six p l a b c d e f)
     (ef : far ≡ wrong (apartTests [] ((12, a .span) ∷ (16, b .span) ∷ (20, c .span) ∷ (24, d .span) ∷ (28, e .span) ∷ (32, f .span) ∷ [])))
     (e₁ : m₁ ≡ cond (f .ok) far 32) (e₂ : m₂ ≡ cond (e .ok) m₁ 28) (e₃ : m₃ ≡ cond (d .ok) m₂ 24)
@@ -236,7 +252,7 @@ module _ (p : ℕ) (l : List ℕ) {a : VolumeFound} {b : Text} {c : NetworkFound
   pieces-are eg eh =
       ap₂ made pieces-wrong (rw (S .volume, S .local, S .network, S .suffix, S .localUnicode, S .suffixUnicode, eg, eh))
 
-module _ (p : ℕ) (l : List ℕ) (z : wrong (infoHeadTests l) ≡ 0) {r : Pieces} (e : r ≡ piecesFound p l) where
+module _ (p : ℕ) (l : List ℕ) (z : headOk l ≡ true) {r : Pieces} (e : r ≡ piecesFound p l) where
   found-wrong : r .wrong ≡ wrong (infoPieceTests l)
   unfolding piecesFound
   found-wrong = ap (λ (x : Pieces). x .wrong) e
@@ -275,25 +291,25 @@ module _ (p : ℕ) (l : List ℕ) (z : wrong (infoHeadTests l) ≡ 0) {r : Piece
 -- ---- the section
 
 -- the rules as two tests: the head, then the pieces
-rules-grouped : {A : Type 0} (w : Site) (l : List ℕ) (r : Outcome A) {k : ℕ} → k ≡ wrong (infoHeadTests l)
-    → tests w (infoRules l) r ≡ cond (eqb k 0) (tests w (infoPieceTests l) r) (refused INFO (spotAt w k))
-rules-grouped w l r e =
-    tests-append w (infoHeadTests l) (infoPieceTests l) r
-    ∙ one-fault INFO w (infoHeadTests l) (tests w (infoPieceTests l) r) (head-faults l)
+rules-grouped : (profile : Profile) {A : Type 0} (w : Site) (l : List ℕ) (r : Outcome A) {k : ℕ} → k ≡ wrong (infoHeadTests profile l)
+    → tests w (infoRules profile l) r ≡ cond (eqb k 0) (tests w (infoPieceTests l) r) (refused INFO (spotAt w k))
+rules-grouped profile w l r e =
+    tests-append w (infoHeadTests profile l) (infoPieceTests l) r
+    ∙ one-fault INFO w (infoHeadTests profile l) (tests w (infoPieceTests l) r) (head-faults profile l)
     ∙ rw e
 
 three-pass : {A : Type 0} (w : Site) (a b c : Bool) (f g h : Fault) (ts : List Test) (r : Outcome A) → a ≡ true → b ≡ true → c ≡ true
     → tests w (a else f at 0 ∷ b else g at 0 ∷ c else h at 0 ∷ ts) r ≡ tests w ts r
 three-pass w a b c f g h ts r i j k = rw (i, j, k)
 
-module _ (s : List ℕ) (p : ℕ) where
+module _ (profile : Profile) (s : List ℕ) (p : ℕ) where
   abbrev here : Site
   here = section 2 p
 
   -- the number and the value of the answer
-  info-read : {r : InfoTaken} → r ≡ infoAt s p → InfoAnswer s p r
+  info-read : {r : InfoTaken} → r ≡ infoAt profile s p → InfoAnswer profile s p r
   unfolding infoAt infoNumber infoValue
-  info-read e = record { is = e; number = rw e (number (info p (drop p s))); value = rw e (value (info p (drop p s))) }
+  info-read e = record { is = e; number = rw e (number (info profile p (drop p s))); value = rw e (value (info profile p (drop p s))) }
     where
       number : (o : Outcome Info) → infoNumber (infoTaken p o) ≡ outcomeNumber o
       number (got i n) = refl
@@ -303,7 +319,7 @@ module _ (s : List ℕ) (p : ℕ) where
       value (got i n) = refl
       value (refused f q) = refl
 
-  pub info-cut : {w : Spot} → length s < p + 4 → w ≡ spotAt here 0 → InfoAnswer s p (Refused CUT w)
+  pub info-cut : {w : Spot} → length s < p + 4 → w ≡ spotAt here 0 → InfoAnswer profile s p (Refused CUT w)
   unfolding infoAt
   info-cut h e = info-read (rw (length-drop p s, lt-leb 4 (length s - p) (omega arith), e))
 
@@ -314,22 +330,22 @@ module _ (s : List ℕ) (p : ℕ) where
     starts : leb 4 (length (drop p s)) ≡ true
     starts = le-leb 4 (length (drop p s)) (rw length-drop (omega arith))
 
-    pub info-small : {w : Spot} → n < 0x1C → w ≡ spotAt here 0 → InfoAnswer s p (Refused INFO w)
+    pub info-small : {w : Spot} → n < 0x1C → w ≡ spotAt here 0 → InfoAnswer profile s p (Refused INFO w)
     unfolding infoAt
     info-small h ew = info-read (rw (starts, size-is, lt-leb 0x1C n h, ew))
 
     module _ (h : 0x1C ≤ n) where
-      pub info-past : {w : Spot} → length s < p + n → w ≡ spotAt here 0 → InfoAnswer s p (Refused CUT w)
+      pub info-past : {w : Spot} → length s < p + n → w ≡ spotAt here 0 → InfoAnswer profile s p (Refused CUT w)
       unfolding infoAt
       info-past g ew =
           let i : leb n (length (drop p s)) ≡ false = lt-leb n (length (drop p s)) (rw length-drop (omega arith)) in
           info-read (rw (starts, size-is, le-leb 0x1C n h, i, ew))
 
-      module _ {d : Cursor} {k : ℕ} (g : p + n ≤ length s) (q : d .at ≡ p + n) (ek : k ≡ wrong (infoHeadTests (take (d .at - p) (drop p s)))) where
+      module _ {d : Cursor} {k : ℕ} (g : p + n ≤ length s) (q : d .at ≡ p + n) (ek : k ≡ wrong (infoHeadTests profile (take (d .at - p) (drop p s)))) where
         abbrev part : List ℕ
         part = take (d .at - p) (drop p s)
 
-        info-is : infoAt s p ≡ infoTaken p (cond (eqb k 0) (tests here (infoPieceTests part) (got (infoFields p part) n)) (refused INFO (spotAt here k)))
+        info-is : infoAt profile s p ≡ infoTaken p (cond (eqb k 0) (tests here (infoPieceTests part) (got (infoFields p part) n)) (refused INFO (spotAt here k)))
         unfolding infoAt
         info-is =
             let t : List ℕ = drop p s in
@@ -339,25 +355,25 @@ module _ (s : List ℕ) (p : ℕ) where
             let b : 0x1C ≤ m = rw size-is h in
             let c : m ≤ length t = rw (size-is, length-drop) (omega arith) in
             ap (infoTaken p)
-            (three-pass here (leb 4 (length t)) (leb 0x1C m) (leb m (length t)) CUT INFO CUT (infoRules (take m t)) (got (infoFields p (take m t)) m) starts (le-leb 0x1C m b) (le-leb m (length t) c)
-            ∙ ap₂ (λ (l : List ℕ) (i : ℕ). tests here (infoRules l) (got (infoFields p l) i)) j size-is
-            ∙ rules-grouped here part (got (infoFields p part) n) ek)
+            (three-pass here (leb 4 (length t)) (leb 0x1C m) (leb m (length t)) CUT INFO CUT (infoRules profile (take m t)) (got (infoFields p (take m t)) m) starts (le-leb 0x1C m b) (le-leb m (length t) c)
+            ∙ ap₂ (λ (l : List ℕ) (i : ℕ). tests here (infoRules profile l) (got (infoFields p l) i)) j size-is
+            ∙ rules-grouped profile here part (got (infoFields p part) n) ek)
 
-        pub info-head : {w : Spot} → (k ≡ 0 → ⊥) → w ≡ spotAt here k → InfoAnswer s p (Refused INFO w)
+        pub info-head : {w : Spot} → (k ≡ 0 → ⊥) → w ≡ spotAt here k → InfoAnswer profile s p (Refused INFO w)
         info-head t ew = info-read (sym (info-is ∙ rw (ne-eqb k 0 t, ew)))
 
         module _ {r : Pieces} (t : k ≡ 0) (er : r ≡ piecesFound p part) where
-          passed : wrong (infoHeadTests part) ≡ 0
-          passed = sym ek ∙ t
+          passed : headOk part ≡ true
+          passed = head-passed profile part (sym ek ∙ t)
 
-          pieces-is : infoAt s p ≡ infoTaken p (cond (eqb (r .wrong) 0) (got (infoFields p part) n) (refused PIECE (spotAt here (r .wrong))))
+          pieces-is : infoAt profile s p ≡ infoTaken p (cond (eqb (r .wrong) 0) (got (infoFields p part) n) (refused PIECE (spotAt here (r .wrong))))
           pieces-is = info-is ∙ rw t (ap (infoTaken p) (pieces-one p part passed er here (got (infoFields p part) n)))
 
           pub piece-most : r .wrong ≤ length s + 32
           piece-most = let m = pieces-most p part passed er in omega (arith, length-take (d .at - p) (drop p s), length-drop p s)
 
-          pub info-piece : {w : Spot} → (r .wrong ≡ 0 → ⊥) → w ≡ spotAt here (r .wrong) → InfoAnswer s p (Refused PIECE w)
+          pub info-piece : {w : Spot} → (r .wrong ≡ 0 → ⊥) → w ≡ spotAt here (r .wrong) → InfoAnswer profile s p (Refused PIECE w)
           info-piece o ew = info-read (sym (pieces-is ∙ rw (ne-eqb (r .wrong) 0 o, ew)))
 
-          pub info-got : r .wrong ≡ 0 → InfoAnswer s p (Got (r .info) d)
+          pub info-got : r .wrong ≡ 0 → InfoAnswer profile s p (Got (r .info) d)
           info-got o = info-read (rw (pieces-say p part passed er o) (sym (pieces-is ∙ rw (o, ← q))))

@@ -3,6 +3,7 @@ use format::Fault;
 use format::Info;
 use format::Network;
 use format::Place;
+use format::Profile;
 use format::Spot;
 use format::Volume;
 use format::first;
@@ -23,9 +24,9 @@ ghost use Rattle.format.specs.Tests.{noPlace};
 ghost use Rattle.format.specs.Pieces.{absentZero, uncut, apart, apartTests};
 ghost use Rattle.format.specs.Volume.{labelLeast, noVolume};
 ghost use Rattle.format.specs.Network.{networkHead, networkHeadTests, noNetwork};
-ghost use Rattle.format.specs.Info.{infoHeadTests};
+ghost use Rattle.format.specs.Info.{headOk, infoHeadTests};
 ghost use Rattle.format.specs.Steps.Wrong.{wrong};
-ghost use Rattle.info.specs.Steps.Found.{EndSmall, fieldIf, makeText, textFound, EndAnswer, VolumeAnswer, makeVolume, volumeFound};
+ghost use Rattle.info.specs.Steps.Found.{EndSmall, fieldIf, ignoresLeftovers, makeText, textFound, EndAnswer, VolumeAnswer, makeVolume, volumeFound};
 ghost use Rattle.info.specs.Steps.Found.{networkIf, networkNumber, networkValue, PieceAnswers, NetworkAnswer, makeNetwork, networkFound, piecesFound};
 ghost use Rattle.info.specs.Steps.Taken.{InfoAnswer};
 
@@ -97,6 +98,16 @@ fn absent_zero(present: bool, o: usize) -> bool
     ensures { λ r. ⌜ r ≡ absentZero present o ⌝ }
 {
     present | (o == 0)
+}
+
+// Whether the offset fields of absent parts are not looked at.
+fn ignores_leftovers(profile: Profile) -> bool
+    ensures { λ r. ⌜ r ≡ ignoresLeftovers profile ⌝ }
+{
+    match profile {
+        Profile::Strict => false,
+        Profile::NinetyFive => true,
+    }
 }
 
 // A field that ends here is not cut by the size, where it is there.
@@ -427,9 +438,9 @@ fn network(present: bool, l: &[u8], start: usize, head: usize) -> NetworkFound
 // ---- LinkInfo
 
 // The first field of its fixed head that breaks a rule, or 0; these tests come before those of its pieces.
-fn info_head_wrong(l: &[u8]) -> usize
+fn info_head_wrong(l: &[u8], profile: Profile) -> usize
     requires { ⌜ 0x1C ≤ length (now l) ⌝ }
-    ensures { λ r. ⌜ r ≡ wrong (infoHeadTests (now (l .entry))) ⌝ }
+    ensures { λ r. ⌜ r ≡ wrong (infoHeadTests profile (now (l .entry))) ⌝ }
 {
     let head = octets::u32_at(l, 4) as usize;
     let long = 0x24 <= head;
@@ -440,22 +451,24 @@ fn info_head_wrong(l: &[u8]) -> usize
     if 3 < flags {
         return 8;
     }
-    let there = format::local_there(flags);
-    if !absent_zero(there, octets::u32_at(l, 12) as usize) {
+    let ignored = ignores_leftovers(profile);
+    let local = format::local_there(flags) | ignored;
+    if !absent_zero(local, octets::u32_at(l, 12) as usize) {
         return 12;
     }
-    if !absent_zero(there, octets::u32_at(l, 16) as usize) {
+    if !absent_zero(local, octets::u32_at(l, 16) as usize) {
         return 16;
     }
-    if !absent_zero(format::network_there(flags), octets::u32_at(l, 20) as usize) {
+    let network = format::network_there(flags) | ignored;
+    if !absent_zero(network, octets::u32_at(l, 20) as usize) {
         return 20;
     }
-    unless(absent_zero(there, field(long, l, 28)), 28, 0)
+    unless(absent_zero(local, field(long, l, 28)), 28, 0)
 }
 
 // What the offsets of LinkInfo l lead to; l starts at start in the file.
 fn info_pieces(l: &[u8], start: usize) -> Pieces
-    requires { ⌜ (0x1C ≤ length (now l)) × (start + length (now l) ≤ 65536) × (wrong (infoHeadTests (now l)) ≡ 0) ⌝ }
+    requires { ⌜ (0x1C ≤ length (now l)) × (start + length (now l) ≤ 65536) × (headOk (now l) ≡ true) ⌝ }
     ensures { λ r. ⌜ r ≡ piecesFound start (now (l .entry)) ⌝ }
 {
     let head = octets::u32_at(l, 4) as usize;
@@ -494,9 +507,9 @@ fn info_pieces(l: &[u8], start: usize) -> Pieces
 }
 
 // LinkInfo at the cursor; its readers are given its part of the file, from its start to its declared end.
-pub fn info(s: &[u8], c: Cursor) -> InfoTaken
+pub fn info(s: &[u8], c: Cursor, profile: Profile) -> InfoTaken
     requires { ⌜ length (now s) ≤ 65536 ⌝ }
-    ensures { λ r. ⌜ InfoAnswer (now (s .entry)) (c .at) r ⌝ }
+    ensures { λ r. ⌜ InfoAnswer profile (now (s .entry)) (c .at) r ⌝ }
 {
     let at = c.at;
     let Took::Number(size, _) = c.take_u32(s) else {
@@ -510,7 +523,7 @@ pub fn info(s: &[u8], c: Cursor) -> InfoTaken
     };
     let end = next.at;
     let l = &s[at..end];
-    let wrong = info_head_wrong(l);
+    let wrong = info_head_wrong(l, profile);
     if wrong != 0 {
         return InfoTaken::Refused(Fault::Info, spot_at(2, at, wrong));
     }

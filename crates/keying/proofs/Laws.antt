@@ -20,6 +20,7 @@ use Rattle.octets.proofs.CharacterLaws.{before-le}
 use Rattle.octets.proofs.ZeroLaws.{zero-after, zero-nowhere}
 use Rattle.octets.proofs.PartLaws.{put-byte}
 use Rattle.octets.proofs.WroteLaws.{kept, join, reword, wrote-number}
+use Rattle.format.specs.declared.Profile.{Profile}
 use Rattle.format.specs.declared.Place.{Place}
 use Rattle.format.specs.declared.Record.{Record}
 use Rattle.format.specs.declared.Reading.{Reading}
@@ -213,18 +214,18 @@ first-slot s {row} a start lengths n q h w =
     ap (λ (l : List ℕ). getD l 0 0) (k lengths n w)
 
 -- the row leads to the first block of its first slot
-pub record Leads (s : List ℕ) (field : ℕ) : Type 0 where
+pub record Leads (profile : Profile) (s : List ℕ) (field : ℕ) : Type 0 where
   pub block : BlockAt s field
-  pub is : environment s (blockFrom s field) ≡ keyIn s .environment
+  pub is : environment s (blockFrom s field) ≡ keyIn profile s .environment
 
-module _ (s : List ℕ) (r : Record) (e : Accepts s r) where
+module _ (profile : Profile) (s : List ℕ) (r : Record) (e : Accepts profile s r) where
   accepted-small : length s ≤ most
   unfolding Accepts
-  accepted-small = accepted-limit s r (length s) e
+  accepted-small = accepted-limit profile s r (length s) e
 
-  pub row-block : {row : List ℕ} → FirstsOf s r row → Leads s (getD row 0 0)
+  pub row-block : {row : List ℕ} → FirstsOf s r row → Leads profile s (getD row 0 0)
   row-block {row} h =
-      let m = made s r e in
+      let m = made profile s r e in
       let start = m .start in
       let field = first-slot s (placeIn r blocksSlot .at) start (m .lengths) (m .count) (m .at) h (m .walk) in
       let F = first-block s 0xA0000001 start (m .lengths) (m .count) (m .walk) in
@@ -241,7 +242,7 @@ module _ (s : List ℕ) (r : Record) (e : Accepts s r) where
 
   pub accepted-texts : TextsInside s r
   unfolding Accepts
-  accepted-texts = texts-inside s r (length s) e
+  accepted-texts = texts-inside profile s r (length s) e
 
   module _ {k : KeyParts} (unicode : k .unicode ≡ stringsUnicode (r .header .flags)) {h : Bool} {t : Texts} (has : h ≡ hasTarget r) (texts : t ≡ textsOf s r) (target : k .target ≡ keyPart h t)
       {u v : Bool} {a w : Texts} (hu : u ≡ stringThere argumentsBit (r .header .flags)) (ea : a ≡ only (placeIn r (stringSlot argumentsBit))) (arguments : k .arguments ≡ keyPart u a)
@@ -250,33 +251,33 @@ module _ (s : List ℕ) (r : Record) (e : Accepts s r) where
     string-shown : (b : Bool) (p : Place) → partShown s (keyPart b (only p)) ≡ partIf b (bytesAt s p)
     string-shown b p = part-shown s b (only p) ∙ ap (partIf b) (only-bytes s p)
 
-    parts-shown : keyShown s k ≡ keyIn s
+    parts-shown : keyShown s k ≡ keyIn profile s
     unfolding keyShown
     parts-shown =
-        let x = record-tells s r e in
+        let x = record-tells profile s r e in
         let f = r .header .flags in
         let a₁ = unicode ∙ sym (x .unicode) in
-        let a₂ : partShown s (k .target) ≡ keyIn s .target
+        let a₂ : partShown s (k .target) ≡ keyIn profile s .target
         = rw (target, has, texts) (part-shown s (hasTarget r) (textsOf s r) ∙ ap (partIf (hasTarget r)) (sym (texts-are s r)) ∙ sym (x .target)) in
-        let a₃ : partShown s (k .arguments) ≡ keyIn s .arguments = rw (arguments, hu, ea) (string-shown (stringThere argumentsBit f) (placeIn r (stringSlot argumentsBit)) ∙ sym (x .arguments)) in
-        let a₄ : partShown s (k .workdir) ≡ keyIn s .workdir = rw (workdir, hv, ew) (string-shown (stringThere workdirBit f) (placeIn r (stringSlot workdirBit)) ∙ sym (x .workdir)) in
-        let a₅ : partShown s (k .environment) ≡ keyIn s .environment = environment .is ∙ (row-block noted) .is in
+        let a₃ : partShown s (k .arguments) ≡ keyIn profile s .arguments = rw (arguments, hu, ea) (string-shown (stringThere argumentsBit f) (placeIn r (stringSlot argumentsBit)) ∙ sym (x .arguments)) in
+        let a₄ : partShown s (k .workdir) ≡ keyIn profile s .workdir = rw (workdir, hv, ew) (string-shown (stringThere workdirBit f) (placeIn r (stringSlot workdirBit)) ∙ sym (x .workdir)) in
+        let a₅ : partShown s (k .environment) ≡ keyIn profile s .environment = environment .is ∙ (row-block noted) .is in
         rw (a₁, a₂, a₃, a₄, a₅)
 
     parts-stand : KeyStands s k
     unfolding Accepts
     parts-stand =
         let small = accepted-small in
-        let inside = accepted-bodies s r (length s) e in
+        let inside = accepted-bodies profile s r (length s) e in
         let f = r .header .flags in
         record {
-          target = rw (target, has, texts) (part-stands s (hasTarget r) (textsOf s r) small (texts-stand s r (length s) e));
+          target = rw (target, has, texts) (part-stands s (hasTarget r) (textsOf s r) small (texts-stand profile s r (length s) e));
           arguments = rw (arguments, hu, ea) (part-stands s (stringThere argumentsBit f) (only (placeIn r (stringSlot argumentsBit))) small (inside (stringSlot argumentsBit), omega arith, omega arith));
           workdir = rw (workdir, hv, ew) (part-stands s (stringThere workdirBit f) (only (placeIn r (stringSlot workdirBit))) small (inside (stringSlot workdirBit), omega arith, omega arith));
           environment = environment .stands;
         }
 
-    pub parts-are : (keyShown s k ≡ keyIn s) × KeyStands s k
+    pub parts-are : (keyShown s k ≡ keyIn profile s) × KeyStands s k
     parts-are = (parts-shown, parts-stand)
 
 -- ---- the bytes of the key
@@ -306,39 +307,39 @@ module _ (s : List ℕ) (k : KeyParts) where
 -- ---- the ways out
 
 -- what the call says of its answer v and its buffer x
-abbrev KeyCall : List ℕ → List ℕ → Verdict → List ℕ → Type 0
-KeyCall s out v x = (v ≡ keyAnswer s out) × ((x ≡ keyOutput s out) × Numbered v (key s (length out)))
+abbrev KeyCall : Profile → List ℕ → List ℕ → Verdict → List ℕ → Type 0
+KeyCall profile s out v x = (v ≡ keyAnswer profile s out) × ((x ≡ keyOutput profile s out) × Numbered v (key profile s (length out)))
 
-key-call : (s out : List ℕ) {v : Verdict} {x : List ℕ} → v ≡ keyAnswer s out → x ≡ keyOutput s out → KeyCall s out v x
+key-call : (profile : Profile) (s out : List ℕ) {v : Verdict} {x : List ℕ} → v ≡ keyAnswer profile s out → x ≡ keyOutput profile s out → KeyCall profile s out v x
 unfolding keyAnswer
-key-call s out a o = (a, (o, numbered (key s (length out)) a))
+key-call profile s out a o = (a, (o, numbered (key profile s (length out)) a))
 
-module _ (s out : List ℕ) {g : Reading} (e : g ≡ reading s) where
+module _ (profile : Profile) (s out : List ℕ) {g : Reading} (e : g ≡ reading profile s) where
   -- leaving with the refusal
-  pub key-left : {f : Fault} {p : ℕ} → g .verdict ≡ Refused f p → KeyCall s out (g .verdict) out
+  pub key-left : {f : Fault} {p : ℕ} → g .verdict ≡ Refused f p → KeyCall profile s out (g .verdict) out
   unfolding keyAnswer keyOutput key outputOf
-  key-left q = let i = refused-read s (ap (λ (x : Reading). x .verdict) (sym e) ∙ q) in key-call s out (q ∙ rw (i .is, i .told)) (rw (i .is))
+  key-left q = let i = refused-read profile s (ap (λ (x : Reading). x .verdict) (sym e) ∙ q) in key-call profile s out (q ∙ rw (i .is, i .told)) (rw (i .is))
 
   module _ {n : ℕ} (q : g .verdict ≡ Accepted n) where
-    pub accepts : Accepts s (g .held)
-    accepts = accepted-whole s (g .held) n (accepted-held s e q)
+    pub accepts : Accepts profile s (g .held)
+    accepts = accepted-whole profile s (g .held) n (accepted-held profile s e q)
 
     -- the key of what was read
-    key-is : key s (length out) ≡ cond (leb (length (keyBytes (keyIn s))) (length out)) (got (keyBytes (keyIn s)) (length (keyBytes (keyIn s)))) (refused ROOM nowhere)
+    key-is : key profile s (length out) ≡ cond (leb (length (keyBytes (keyIn profile s))) (length out)) (got (keyBytes (keyIn profile s)) (length (keyBytes (keyIn profile s)))) (refused ROOM nowhere)
     unfolding key keyIn Accepts
-    key-is = let x = accepted-read s (g .held) (length s) accepts in rw (x .is)
+    key-is = let x = accepted-read profile s (g .held) (length s) accepts in rw (x .is)
 
-    module _ {k : KeyParts} {m : ℕ} (shown : keyShown s k ≡ keyIn s) (stands : KeyStands s k) (is : m ≡ keyLength k) where
-      long : length (keyBytes (keyIn s)) ≡ m
+    module _ {k : KeyParts} {m : ℕ} (shown : keyShown s k ≡ keyIn profile s) (stands : KeyStands s k) (is : m ≡ keyLength k) where
+      long : length (keyBytes (keyIn profile s)) ≡ m
       long = ap (λ (x : Key). length (keyBytes x)) (sym shown) ∙ key-long s k stands ∙ sym is
 
-      pub key-room : length out < m → KeyCall s out (Refused ROOM 0) out
+      pub key-room : length out < m → KeyCall profile s out (Refused ROOM 0) out
       unfolding keyAnswer keyOutput outputOf
-      key-room o = let z : key s (length out) ≡ refused ROOM nowhere = key-is ∙ rw (long, lt-leb m (length out) o) in key-call s out (rw z) (rw z)
+      key-room o = let z : key profile s (length out) ≡ refused ROOM nowhere = key-is ∙ rw (long, lt-leb m (length out) o) in key-call profile s out (rw z) (rw z)
 
-      pub key-written : {x : List ℕ} {r : ℕ} → m ≤ length out → Wrote out 0 (keyBytes (keyShown s k)) (keyLength k) x r → KeyCall s out (Accepted r) x
+      pub key-written : {x : List ℕ} {r : ℕ} → m ≤ length out → Wrote out 0 (keyBytes (keyShown s k)) (keyLength k) x r → KeyCall profile s out (Accepted r) x
       unfolding keyAnswer keyOutput outputOf
       key-written o w =
-          let z : key s (length out) ≡ got (keyBytes (keyIn s)) m = key-is ∙ rw (long, le-leb m (length out) o) in
+          let z : key profile s (length out) ≡ got (keyBytes (keyIn profile s)) m = key-is ∙ rw (long, le-leb m (length out) o) in
           let a : _ ≡ m = w .next ∙ omega arith in
-          key-call s out (rw (z, a)) (rw z (w .content ∙ rw shown))
+          key-call profile s out (rw (z, a)) (rw z (w .content ∙ rw shown))

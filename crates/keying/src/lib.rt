@@ -1,6 +1,7 @@
 // The cache key of a shortcut, into a lent buffer.
 use format::Fault;
 use format::Place;
+use format::Profile;
 use format::Record;
 use format::Verdict;
 use octets::Zero;
@@ -82,9 +83,9 @@ fn environment(s: &[u8], field: u32) -> KeyPart
     part_if(true, only(block_text(s, b)))
 }
 
-fn parts_of(s: &[u8], r: Record, firsts: [u32; 11]) -> KeyParts
-    requires { ⌜ Accepts (now s) r × FirstsOf (now s) r firsts ⌝ }
-    ensures shown { λ k. ⌜ keyShown (now (s .entry)) k ≡ keyIn (now (s .entry)) ⌝ }
+fn parts_of(s: &[u8], r: Record, firsts: [u32; 11], profile: Profile) -> KeyParts
+    requires { ⌜ Accepts profile (now s) r × FirstsOf (now s) r firsts ⌝ }
+    ensures shown { λ k. ⌜ keyShown (now (s .entry)) k ≡ keyIn profile (now (s .entry)) ⌝ }
     ensures stands { λ k. ⌜ KeyStands (now (s .entry)) k ⌝ }
 {
     let f = r.header.flags;
@@ -155,12 +156,12 @@ fn put_key(s: &[u8], k: KeyParts, out: &mut [u8]) -> usize
 
 // ---- the call
 
-pub fn key(s: &[u8], out: &mut [u8]) -> Verdict
-    ensures answer { λ r. ⌜ r ≡ keyAnswer (now (s .entry)) (now (out .entry)) ⌝ }
-    ensures output { λ _. ⌜ now (out .exit) ≡ keyOutput (now (s .entry)) (now (out .entry)) ⌝ }
-    ensures numbers { λ r. ⌜ Numbered r (key (now (s .entry)) (length (now (out .entry)))) ⌝ }
+pub fn key(s: &[u8], out: &mut [u8], profile: Profile) -> Verdict
+    ensures answer { λ r. ⌜ r ≡ keyAnswer profile (now (s .entry)) (now (out .entry)) ⌝ }
+    ensures output { λ _. ⌜ now (out .exit) ≡ keyOutput profile (now (s .entry)) (now (out .entry)) ⌝ }
+    ensures numbers { λ r. ⌜ Numbered r (key profile (now (s .entry)) (length (now (out .entry)))) ⌝ }
 {
-    let o = reader::outline_of(s);
+    let o = reader::outline_of(s, profile);
     let next = o.next;
     let held = o.held;
     let firsts = o.firsts;
@@ -169,7 +170,7 @@ pub fn key(s: &[u8], out: &mut [u8]) -> Verdict
     let Verdict::Accepted(_) = v else {
         return v;
     };
-    let k = parts_of(s, g.held, firsts);
+    let k = parts_of(s, g.held, firsts, profile);
     if out.len() < key_length(k) {
         return Verdict::Refused(Fault::Room, 0);
     }

@@ -8,6 +8,7 @@ use lib.ListN.{length, drop, getD, length-append, length-drop}
 use lib.Dec.{leb, ltb}
 use borrow.Author.Tests.{leb-true}
 use Rattle.octets.specs.Numbers.{Bytes}
+use Rattle.format.specs.declared.Profile.{Profile}
 use Rattle.format.specs.declared.Verdict.{Verdict}
 use Rattle.format.specs.declared.Verdict.the-variants.{Accepted, Refused}
 use Rattle.format.specs.Numbers.{numberOf}
@@ -95,16 +96,16 @@ many (suc k) before p s ls n l e =
     omega (arith, length-drop (blockSize s) s, many k (slotAt s ∷ before) (p + blockSize s) (drop (blockSize s) s) ls m (omega (arith, length-drop (blockSize s) s)) i))
     ls n e
 
-few-rows : (s : List ℕ) → length (listing s) ≤ 8201
+few-rows : (profile : Profile) (s : List ℕ) → length (listing profile s) ≤ 8201
 unfolding listing
-few-rows s = go (shortcut s) refl
+few-rows profile s = go (shortcut profile s) refl
   where
-    go : (o : Outcome Sections) → shortcut s ≡ o → length (rowsBy o) ≤ 8201
+    go : (o : Outcome Sections) → shortcut profile s ≡ o → length (rowsBy o) ≤ 8201
     go (refused f p) i = omega arith
     go (got c n) i =
-        let w = shortcut-whole s c n i in
+        let w = shortcut-whole profile s c n i in
         let b = blocksOf c in
-        let m = many (length (drop (b .start) s)) [] (b .start) (drop (b .start) s) (b .read) (b .len) (omega arith) (read-walk s c n (w .read)) in
+        let m = many (length (drop (b .start) s)) [] (b .start) (drop (b .start) s) (b .read) (b .len) (omega arith) (read-walk profile s c n (w .read)) in
         simp length-append
         (omega (
           arith,
@@ -124,26 +125,26 @@ few-rows s = go (shortcut s) refl
 
 -- ---- texts
 
-pub length-listing : (s : List ℕ) → length (listingText s) < 8 * 65536
+pub length-listing : (profile : Profile) (s : List ℕ) → length (listingText profile s) < 8 * 65536
 unfolding listingText
-length-listing s = omega (arith, length-append (verdictLine (reading s .verdict)) (rowLines (listing s)), length-verdict (reading s .verdict), length-rows (listing s), few-rows s)
+length-listing profile s = omega (arith, length-append (verdictLine (reading profile s .verdict)) (rowLines (listing profile s)), length-verdict (reading profile s .verdict), length-rows (listing profile s), few-rows profile s)
 
 length-hex : (l : List ℕ) → length (hexOf l) ≡ 2 * length l
 unfolding hexOf
 length-hex [] = refl
 length-hex (a ∷ l) = omega (arith, length-hex l)
 
-got-key : (s : List ℕ) (c : Sections) (n : ℕ) → shortcut s ≡ got c n → keyIn s ≡ keyOf s c
+got-key : (profile : Profile) (s : List ℕ) (c : Sections) (n : ℕ) → shortcut profile s ≡ got c n → keyIn profile s ≡ keyOf s c
 unfolding keyIn
-got-key s c n i = rw i
+got-key profile s c n i = rw i
 
-pub length-key-line : (s : List ℕ) → Bytes s → length (keyText s) < 3 * 65536
+pub length-key-line : (profile : Profile) (s : List ℕ) → Bytes s → length (keyText profile s) < 3 * 65536
 unfolding keyText
-length-key-line s bs = go (shortcut s) refl
+length-key-line profile s bs = go (shortcut profile s) refl
   where
-    go : (o : Outcome Sections) → shortcut s ≡ o → length (keyLine s o) < 3 * 65536
+    go : (o : Outcome Sections) → shortcut profile s ≡ o → length (keyLine s o) < 3 * 65536
     go (refused f p) i = omega (arith, length-verdict (Refused f (p .position)))
     go (got c n) i =
         let w = keyBytes (keyOf s c) in
-        let k : length w ≤ length s = rw (got-key s c n i) at (key-short s (recordOf c) bs (got-accepts s c n i)) in
-        omega (arith, (shortcut-whole s c n i) .limit, length-append (hexOf w) lineFeed, length-hex w)
+        let k : length w ≤ length s = rw (got-key profile s c n i) at (key-short profile s (recordOf c) bs (got-accepts profile s c n i)) in
+        omega (arith, (shortcut-whole profile s c n i) .limit, length-append (hexOf w) lineFeed, length-hex w)

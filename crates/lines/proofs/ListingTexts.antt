@@ -7,6 +7,7 @@ use native.Mathlib.Omega.{arith}
 use lib.ListN.{length}
 use lib.Dec.{eqb}
 use borrow.Author.Tests.{eqb-true}
+use Rattle.format.specs.declared.Profile.{Profile}
 use Rattle.format.specs.declared.Fault.{Fault}
 use Rattle.format.specs.declared.Fault.the-variants.{Trail as TRAIL}
 use Rattle.format.specs.declared.Reading.{Reading}
@@ -44,40 +45,40 @@ header-line : rowLine (record { name = 0; start = 0; len = 76 }) ≡ lineOf (nam
 unfolding rowLine
 header-line = refl
 
-pub outlined-lines : (s : List ℕ) (o : Outline) (R : AllRows s o) → rowLines (listing s) ≡ sectionLines (o .held .header .flags) (o .ends) ++ rowLines (blockRows (o .ends .icon) (R .lengths))
+pub outlined-lines : (profile : Profile) (s : List ℕ) (o : Outline) (R : AllRows profile s o) → rowLines (listing profile s) ≡ sectionLines (o .held .header .flags) (o .ends) ++ rowLines (blockRows (o .ends .icon) (R .lengths))
 unfolding sectionLines
-outlined-lines s o R = rw (R .rows) (simp (rows-first, rows-append, row-line, header-line, append-assoc))
+outlined-lines profile s o R = rw (R .rows) (simp (rows-first, rows-append, row-line, header-line, append-assoc))
 
 -- ---- an accepted shortcut
 
 stopped-not : {f : Fault} {p n : ℕ} → _≡_ {A = Verdict} (Refused f p) (Accepted n) → ⊥
 stopped-not e = let z : _≡_ {A = ℕ} 0 1 = cc in omega arith
 
-module _ (s : List ℕ) {o : Outline} {g : Reading} (e : OutlineAnswer s o) (q : FinishAnswer (length s) (o .next) (o .held) g) where
-  pub accepted-rows : {n : ℕ} → g .verdict ≡ Accepted n → AllRows s o
+module _ (profile : Profile) (s : List ℕ) {o : Outline} {g : Reading} (e : OutlineAnswer profile s o) (q : FinishAnswer (length s) (o .next) (o .held) g) where
+  pub accepted-rows : {n : ℕ} → g .verdict ≡ Accepted n → AllRows profile s o
   unfolding finished refusedAt
   accepted-rows v = ended (o .next) refl (q .is)
     where
-      ended : (t : Next) → o .next ≡ t → g ≡ finished (length s) t (o .held) → AllRows s o
+      ended : (t : Next) → o .next ≡ t → g ≡ finished (length s) t (o .held) → AllRows profile s o
       ended (On c) k x = whole (eqb (c .at) (length s)) refl x
         where
-          whole : (b : Bool) → eqb (c .at) (length s) ≡ b → g ≡ cond b (record { verdict = Accepted (c .at); held = o .held }) (refusedAt TRAIL (c .at)) → AllRows s o
-          whole true i y = all-rows s o c (e .is) k (eqb-true (c .at) (length s) i)
+          whole : (b : Bool) → eqb (c .at) (length s) ≡ b → g ≡ cond b (record { verdict = Accepted (c .at); held = o .held }) (refusedAt TRAIL (c .at)) → AllRows profile s o
+          whole true i y = all-rows profile s o c (e .is) k (eqb-true (c .at) (length s) i)
           whole false i y = absurd (stopped-not (ap (λ (z : Reading). z .verdict) (sym y) ∙ v))
       ended (Off f p) k x = absurd (stopped-not (ap (λ (z : Reading). z .verdict) (sym x) ∙ v))
 
-  pub accepted-listing : (R : AllRows s o) → (verdictLine (g .verdict) ++ sectionLines (o .held .header .flags) (o .ends)) ++ rowLines (blockRows (o .ends .icon) (R .lengths)) ≡ listingText s
+  pub accepted-listing : (R : AllRows profile s o) → (verdictLine (g .verdict) ++ sectionLines (o .held .header .flags) (o .ends)) ++ rowLines (blockRows (o .ends .icon) (R .lengths)) ≡ listingText profile s
   unfolding listingText
   accepted-listing R =
       let a = sectionLines (o .held .header .flags) (o .ends) in
       let b = rowLines (blockRows (o .ends .icon) (R .lengths)) in
-      append-assoc (verdictLine (g .verdict)) a b ∙ rw (outline-read s e q, outlined-lines s o R)
+      append-assoc (verdictLine (g .verdict)) a b ∙ rw (outline-read profile s e q, outlined-lines profile s o R)
 
   -- ---- a refused one
 
-  pub refused-listing : {f : Fault} {p : ℕ} → g .verdict ≡ Refused f p → verdictLine (g .verdict) ≡ listingText s
+  pub refused-listing : {f : Fault} {p : ℕ} → g .verdict ≡ Refused f p → verdictLine (g .verdict) ≡ listingText profile s
   unfolding listingText listing rowLines
   refused-listing v =
-      let r = outline-read s e q in
-      let i = refused-read s (ap (λ (z : Reading). z .verdict) (sym r) ∙ v) in
-      rw (r, i .is) (sym (append-nil (verdictLine (reading s .verdict))))
+      let r = outline-read profile s e q in
+      let i = refused-read profile s (ap (λ (z : Reading). z .verdict) (sym r) ∙ v) in
+      rw (r, i .is) (sym (append-nil (verdictLine (reading profile s .verdict))))

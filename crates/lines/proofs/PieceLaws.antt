@@ -15,6 +15,7 @@ use Rattle.octets.proofs.PartLaws.{length-put}
 use Rattle.lines.specs.Text.{piece}
 use Rattle.lines.specs.Steps.Pieces.{textOf, pieces}
 use Rattle.lines.proofs.Lengths.{length-listing, length-key-line}
+use Rattle.format.specs.declared.Profile.{Profile}
 
 length-piece : (t : List ℕ) (p room : ℕ) → length (piece t p room) ≡ min room (length t - p)
 unfolding piece
@@ -40,11 +41,11 @@ from-there (suc k) room t p h = go (ltb (length (take room (drop p t))) room) re
     go false e r = rw (r, ← (drop-drop room p t)) (take-append-drop room (drop p t))
 
 -- no text is longer than eight pieces
-pub length-text : (key : Bool) (s : List ℕ) → Bytes s → length (textOf key s) < 8 * 65536
+pub length-text : (profile : Profile) (key : Bool) (s : List ℕ) → Bytes s → length (textOf profile key s) < 8 * 65536
 unfolding textOf
-length-text true s bs = omega (arith, length-key-line s bs)
-length-text false s bs = length-listing s
+length-text profile true s bs = omega (arith, length-key-line profile s bs)
+length-text profile false s bs = length-listing profile s
 
 -- what a program writes, put end to end
-pub all-written : (key : Bool) (s : List ℕ) → Bytes s → pieces 8 65536 (textOf key s) 0 ≡ textOf key s
-all-written key s bs = from-there 8 65536 (textOf key s) 0 (omega (arith, length-text key s bs))
+pub all-written : (profile : Profile) (key : Bool) (s : List ℕ) → Bytes s → pieces 8 65536 (textOf profile key s) 0 ≡ textOf profile key s
+all-written profile key s bs = from-there 8 65536 (textOf profile key s) 0 (omega (arith, length-text profile key s bs))

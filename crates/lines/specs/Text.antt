@@ -4,6 +4,7 @@ use mathlib.Core.List.{List, [], _∷_, _++_}
 use mathlib.Core.Bool.{cond}
 use lib.ListN.{take, drop, getD}
 use lib.Dec.{ltb}
+use Rattle.format.specs.declared.Profile.{Profile}
 use Rattle.format.specs.declared.Verdict.{Verdict}
 use Rattle.format.specs.declared.Verdict.the-variants.{Accepted, Refused}
 use Rattle.format.specs.Numbers.{numberOf}
@@ -84,16 +85,16 @@ verdictLine (Refused f p) = refusedWord ++ (space ++ (decimal (numberOf f) ++ (s
 -- ---- texts
 
 -- the verdict, then a line per section; a refused shortcut has none
-unfoldable pub listingText : List ℕ → List ℕ
-listingText s = verdictLine (reading s .verdict) ++ rowLines (listing s)
+unfoldable pub listingText : Profile → List ℕ → List ℕ
+listingText profile s = verdictLine (reading profile s .verdict) ++ rowLines (listing profile s)
 
 -- the key in hex, or the line of the refusal
 abbrev pub keyLine : List ℕ → Outcome Sections → List ℕ
 keyLine s (got c n) = hexOf (keyBytes (keyOf s c)) ++ lineFeed
 keyLine s (refused f p) = verdictLine (Refused f (p .position))
 
-unfoldable pub keyText : List ℕ → List ℕ
-keyText s = keyLine s (shortcut s)
+unfoldable pub keyText : Profile → List ℕ → List ℕ
+keyText profile s = keyLine s (shortcut profile s)
 
 -- as much of a text from the place p on as there is room for
 unfoldable pub piece : List ℕ → ℕ → ℕ → List ℕ

@@ -8,6 +8,7 @@ use crate::showing::show;
 use crate::showing::show_decimal;
 use crate::showing::show_hex;
 use format::Fault;
+use format::Profile;
 use format::Verdict;
 ghost use mathlib.Core.Path.{_≡_};
 ghost use Prim.Native.Nat.{_≤_};
@@ -53,11 +54,11 @@ pub fn put_verdict(v: Verdict, from: usize, out: &mut [u8]) -> usize
 }
 
 // The listing.
-pub fn put_listing(s: &[u8], from: usize, out: &mut [u8]) -> usize
-    ensures answer { λ n. ⌜ n ≡ length (piece (listingText (now (s .entry))) from (length (now (out .entry)))) ⌝ }
-    ensures output { λ _. ⌜ now (out .exit) ≡ put (now (out .entry)) 0 (piece (listingText (now (s .entry))) from (length (now (out .entry)))) ⌝ }
+pub fn put_listing(s: &[u8], from: usize, out: &mut [u8], profile: Profile) -> usize
+    ensures answer { λ n. ⌜ n ≡ length (piece (listingText profile (now (s .entry))) from (length (now (out .entry)))) ⌝ }
+    ensures output { λ _. ⌜ now (out .exit) ≡ put (now (out .entry)) 0 (piece (listingText profile (now (s .entry))) from (length (now (out .entry)))) ⌝ }
 {
-    let o = reader::outline_of(s);
+    let o = reader::outline_of(s, profile);
     let next = o.next;
     let held = o.held;
     let flags = o.held.header.flags;
@@ -74,13 +75,13 @@ pub fn put_listing(s: &[u8], from: usize, out: &mut [u8]) -> usize
 }
 
 // The key's line.
-pub fn put_key_line(s: &[u8], from: usize, out: &mut [u8]) -> usize
-    ensures answer { λ n. ⌜ n ≡ length (piece (keyText (now (s .entry))) from (length (now (out .entry)))) ⌝ }
-    ensures output { λ _. ⌜ now (out .exit) ≡ put (now (out .entry)) 0 (piece (keyText (now (s .entry))) from (length (now (out .entry)))) ⌝ }
+pub fn put_key_line(s: &[u8], from: usize, out: &mut [u8], profile: Profile) -> usize
+    ensures answer { λ n. ⌜ n ≡ length (piece (keyText profile (now (s .entry))) from (length (now (out .entry)))) ⌝ }
+    ensures output { λ _. ⌜ now (out .exit) ≡ put (now (out .entry)) 0 (piece (keyText profile (now (s .entry))) from (length (now (out .entry)))) ⌝ }
 {
     // A key is never longer than its shortcut.
     let mut bytes = [0u8; 65536];
-    let v = keying::key(s, &mut bytes);
+    let v = keying::key(s, &mut bytes, profile);
     let w = Window { skip: from, at: 0 };
     let Verdict::Accepted(n) = v else {
         let w = show_verdict(out, w, v);
@@ -93,22 +94,22 @@ pub fn put_key_line(s: &[u8], from: usize, out: &mut [u8]) -> usize
 
 // ---- written on standard output
 
-fn put_text(key: bool, s: &[u8], from: usize, out: &mut [u8]) -> usize
-    ensures answer { λ n. ⌜ n ≡ length (piece (textOf key (now (s .entry))) from (length (now (out .entry)))) ⌝ }
-    ensures output { λ _. ⌜ now (out .exit) ≡ put (now (out .entry)) 0 (piece (textOf key (now (s .entry))) from (length (now (out .entry)))) ⌝ }
+fn put_text(key: bool, s: &[u8], from: usize, out: &mut [u8], profile: Profile) -> usize
+    ensures answer { λ n. ⌜ n ≡ length (piece (textOf profile key (now (s .entry))) from (length (now (out .entry)))) ⌝ }
+    ensures output { λ _. ⌜ now (out .exit) ≡ put (now (out .entry)) 0 (piece (textOf profile key (now (s .entry))) from (length (now (out .entry)))) ⌝ }
 {
     if key {
-        return put_key_line(s, from, out);
+        return put_key_line(s, from, out, profile);
     }
-    put_listing(s, from, out)
+    put_listing(s, from, out, profile)
 }
 
 // In pieces of 64 KiB: the first that does not fill the buffer is the last.
-fn write_text(key: bool, s: &[u8]) {
+fn write_text(key: bool, s: &[u8], profile: Profile) {
     let mut out = [0u8; 65536];
     let mut from = 0;
     loop {
-        let n = put_text(key, s, from, &mut out);
+        let n = put_text(key, s, from, &mut out, profile);
         io::write_all(1, octets::part(&out, 0, n));
         if n < 65536 {
             return;
@@ -117,12 +118,42 @@ fn write_text(key: bool, s: &[u8]) {
     }
 }
 
-pub fn listing(s: &[u8]) {
-    write_text(false, s);
+pub fn listing(s: &[u8], profile: Profile) {
+    write_text(false, s, profile);
 }
 
-pub fn key_line(s: &[u8]) {
-    write_text(true, s);
+pub fn key_line(s: &[u8], profile: Profile) {
+    write_text(true, s, profile);
+}
+
+// ---- the program's arguments
+
+fn says_95() -> bool {
+    let mut word = [0u8; 3];
+    let n = os::arg(1, &mut word);
+    (n == 2) & (word[0] == b'9') & (word[1] == b'5')
+}
+
+// Strict, unless the program's first argument is 95.
+pub fn profile_asked() -> Profile {
+    if says_95() {
+        return Profile::NinetyFive;
+    }
+    Profile::Strict
+}
+
+// Whether there are other arguments than 95 alone: then it says so, and writes the refusal that C answers.
+pub fn wrong_words() -> bool {
+    let count = os::arg_count();
+    if count < 2 {
+        return false;
+    }
+    if (count == 2) & says_95() {
+        return false;
+    }
+    io::write_all(2, b"the only argument is 95, for shortcuts of Windows 95\n");
+    io::write_all(1, b"refused 203 0\n");
+    true
 }
 
 // A line is never longer than the buffer.

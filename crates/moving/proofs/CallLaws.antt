@@ -10,6 +10,7 @@ use borrow.Author.Tests.{le-leb, lt-leb, eqb-true, not-true, not-false}
 use Rattle.octets.specs.Numbers.{Bytes}
 use Rattle.octets.specs.Parts.{put}
 use Rattle.octets.specs.Steps.Puts.{Wrote}
+use Rattle.format.specs.declared.Profile.{Profile}
 use Rattle.format.specs.declared.Record.{Record}
 use Rattle.format.specs.declared.Shape.{Shape}
 use Rattle.format.specs.declared.Fault.{Fault}
@@ -48,38 +49,38 @@ use Rattle.moving.proofs.FlatLaws.{moved-length, moved-put, info-size, 
 
 -- ---- a refused shortcut stays refused
 
-left-unicode : (s out : List ℕ) {f : Fault} {p : ℕ} → RefusedWith s f p → (Refused f p ≡ verdictOf (toUnicode s (length out))) × (out ≡ outputOf (toUnicode s (length out)) out)
+left-unicode : (profile : Profile) (s out : List ℕ) {f : Fault} {p : ℕ} → RefusedWith profile s f p → (Refused f p ≡ verdictOf (toUnicode profile s (length out))) × (out ≡ outputOf (toUnicode profile s (length out)) out)
 unfolding toUnicode outputOf
-left-unicode s out i = (rw (i .is, i .told), rw (i .is))
+left-unicode profile s out i = (rw (i .is, i .told), rw (i .is))
 
-left-bytes : (s out : List ℕ) {f : Fault} {p : ℕ} → RefusedWith s f p → (Refused f p ≡ verdictOf (toByteStrings s (length out))) × (out ≡ outputOf (toByteStrings s (length out)) out)
+left-bytes : (profile : Profile) (s out : List ℕ) {f : Fault} {p : ℕ} → RefusedWith profile s f p → (Refused f p ≡ verdictOf (toByteStrings profile s (length out))) × (out ≡ outputOf (toByteStrings profile s (length out)) out)
 unfolding toByteStrings outputOf
-left-bytes s out i = (rw (i .is, i .told), rw (i .is))
+left-bytes profile s out i = (rw (i .is, i .told), rw (i .is))
 
 -- ---- what a shortcut that was read gives
 
-module _ {d : List ℕ} {r : Record} (x : ReadFrom d r) where
+module _ (profile : Profile) {d : List ℕ} {r : Record} (x : ReadFrom profile d r) where
   pub contents-are : contents d r ≡ bodiesOf d r
   unfolding contents Accepts
-  contents-are = ap (bodiesOf d) (accepted-present d r (length d) (x .accepted))
+  contents-are = ap (bodiesOf d) (accepted-present profile d r (length d) (x .accepted))
 
   pub is-inside : Inside d (r .places)
   unfolding Accepts
-  is-inside = record { slot = λ k. accepted-bodies d r (length d) (x .accepted) k }
+  is-inside = record { slot = λ k. accepted-bodies profile d r (length d) (x .accepted) k }
 
-  is-valid : Valid (contents d r)
+  is-valid : Valid profile (contents d r)
   unfolding Accepts
-  is-valid = (shortest d (contents d r) (length d) (x .bytes) (accepted-decode d r (length d) (x .accepted))) .valid
+  is-valid = (shortest profile d (contents d r) (length d) (x .bytes) (accepted-decode profile d r (length d) (x .accepted))) .valid
 
   few-flags : r .header .flags ≤ 0x7FFFFFF
   unfolding Valid contents present
   few-flags =
-      let z = eqb-true (r .header .flags / 134217728) 0 (header-writable (r .header) (is-valid .1 .0 .can) .flags) in
+      let z = eqb-true (r .header .flags / 134217728) 0 (header-writable profile (r .header) (is-valid .1 .0 .can) .flags) in
       omega arith
 
   is-few : Few (r .places)
   unfolding Accepts
-  is-few = record { slot = λ k. omega (arith, accepted-bodies d r (length d) (x .accepted) k, accepted-limit d r (length d) (x .accepted)) }
+  is-few = record { slot = λ k. omega (arith, accepted-bodies profile d r (length d) (x .accepted) k, accepted-limit profile d r (length d) (x .accepted)) }
 
   flags-are : flagsOf (contents d r) ≡ r .header .flags
   unfolding contents present
@@ -102,12 +103,12 @@ module _ {d : List ℕ} {r : Record} (x : ReadFrom d r) where
         go true n = set-unicode (r .header .flags) (bit-clear (r .header .flags) (maps-unicode (contents d r) n .clear))
         go false n = clear-unicode (r .header .flags) (bit-set (r .header .flags) (maps-bytes (contents d r) n .set))
 
-    moved-valid : Valid (moved u (contents d r))
+    moved-valid : Valid profile (moved u (contents d r))
     moved-valid = go u m
       where
-        go : (b : Bool) → maps b (contents d r) ≡ true → Valid (moved b (contents d r))
-        go true n = unicode-valid (contents d r) is-valid n
-        go false n = bytes-valid (contents d r) is-valid n
+        go : (b : Bool) → maps b (contents d r) ≡ true → Valid profile (moved b (contents d r))
+        go true n = unicode-valid profile (contents d r) is-valid n
+        go false n = bytes-valid profile (contents d r) is-valid n
 
     is-known : Known u d (r .places)
     is-known = record { slot = λ k l h e. rw (← bytes-at d (r .places) k) (go u m e k l h) }
@@ -135,22 +136,22 @@ module _ {d : List ℕ} {r : Record} (x : ReadFrom d r) where
 
     module _ {q : Record} (e : q ≡ movedRecord u r) {end : ℕ} (counted : end ≡ clippedLength q) where
       pub moved-long : (out : List ℕ) → most < end
-          → (Refused UNWRITABLE 0 ≡ verdictOf (moving true result (length out))) × (out ≡ outputOf (moving true result (length out)) out)
+          → (Refused UNWRITABLE 0 ≡ verdictOf (moving profile true result (length out))) × (out ≡ outputOf (moving profile true result (length out)) out)
       unfolding moving outputOf
       moved-long out h =
           let l : most < length (canonical result) = omega (arith, over-length q, length-is, ap writtenLength e) in
-          let w : writable result ≡ false = valid-writable result moved-valid ∙ lt-leb (length (canonical result)) most l in
+          let w : writable profile result ≡ false = valid-writable profile result moved-valid ∙ lt-leb (length (canonical result)) most l in
           (rw w, rw w)
 
       module _ (few : end ≤ most) where
         end-is : end ≡ length (canonical result)
         end-is = counted ∙ exact-length q (omega arith) ∙ ap writtenLength e ∙ sym length-is
 
-        is-writable : writable result ≡ true
-        is-writable = valid-writable result moved-valid ∙ le-leb (length (canonical result)) most (omega (arith, end-is))
+        is-writable : writable profile result ≡ true
+        is-writable = valid-writable profile result moved-valid ∙ le-leb (length (canonical result)) most (omega (arith, end-is))
 
         pub moved-short : (out : List ℕ) → length out < end
-            → (Refused ROOM 0 ≡ verdictOf (moving true result (length out))) × (out ≡ outputOf (moving true result (length out)) out)
+            → (Refused ROOM 0 ≡ verdictOf (moving profile true result (length out))) × (out ≡ outputOf (moving profile true result (length out)) out)
         unfolding moving outputOf
         moved-short out h =
             let k : leb (length (canonical result)) (length out) ≡ false = lt-leb (length (canonical result)) (length out) (omega (arith, end-is)) in
@@ -164,7 +165,7 @@ module _ {d : List ℕ} {r : Record} (x : ReadFrom d r) where
 
         pub moved-written : (out : List ℕ) → end ≤ length out → {s : Shape} {sizes x : List ℕ} {n : ℕ} → s ≡ shapeOf (q .header .flags) (q .link) → sizes ≡ sizesOf q
             → Wrote out 0 (movedFlat u d r q s sizes) (writtenLength q) x n
-            → (Accepted n ≡ verdictOf (moving true result (length out))) × (x ≡ outputOf (moving true result (length out)) out)
+            → (Accepted n ≡ verdictOf (moving profile true result (length out))) × (x ≡ outputOf (moving profile true result (length out)) out)
         unfolding moving outputOf
         moved-written out h {s} {sizes} {x} {n} f g w =
             let k : leb (length (canonical result)) (length out) ≡ true = le-leb (length (canonical result)) (length out) (omega (arith, end-is)) in
@@ -196,55 +197,55 @@ module _ (d : List ℕ) (r : Record) (u : Bool) {q : Record} {s : Shape} {sizes 
 
 -- ---- the call
 
-module _ (u : Bool) (s out : List ℕ) {g : Reading} (e : g ≡ reading s) where
-  pub move-left : {f : Fault} {p : ℕ} → g .verdict ≡ Refused f p → (g .verdict ≡ verdictOf (call u s (length out))) × (out ≡ outputOf (call u s (length out)) out)
+module _ (profile : Profile) (u : Bool) (s out : List ℕ) {g : Reading} (e : g ≡ reading profile s) where
+  pub move-left : {f : Fault} {p : ℕ} → g .verdict ≡ Refused f p → (g .verdict ≡ verdictOf (call profile u s (length out))) × (out ≡ outputOf (call profile u s (length out)) out)
   move-left {f} {p} q = go u
     where
-      i : RefusedWith s f p
-      i = refused-read s (ap (λ (x : Reading). x .verdict) (sym e) ∙ q)
+      i : RefusedWith profile s f p
+      i = refused-read profile s (ap (λ (x : Reading). x .verdict) (sym e) ∙ q)
 
-      go : (b : Bool) → (g .verdict ≡ verdictOf (call b s (length out))) × (out ≡ outputOf (call b s (length out)) out)
-      go true = (q ∙ left-unicode s out i .0, left-unicode s out i .1)
-      go false = (q ∙ left-bytes s out i .0, left-bytes s out i .1)
+      go : (b : Bool) → (g .verdict ≡ verdictOf (call profile b s (length out))) × (out ≡ outputOf (call profile b s (length out)) out)
+      go true = (q ∙ left-unicode profile s out i .0, left-unicode profile s out i .1)
+      go false = (q ∙ left-bytes profile s out i .0, left-bytes profile s out i .1)
 
   module _ {n : ℕ} (q : g .verdict ≡ Accepted n) (bs : Bytes s) where
-    pub is-read : ReadFrom s (g .held)
+    pub is-read : ReadFrom profile s (g .held)
     unfolding Accepts
-    is-read = record { bytes = bs; accepted = accepted-whole s (g .held) n (accepted-held s e q) }
+    is-read = record { bytes = bs; accepted = accepted-whole profile s (g .held) n (accepted-held profile s e q) }
 
-    call-is : call u s (length out) ≡ moving (maps u (contents s (g .held))) (moved u (contents s (g .held))) (length out)
+    call-is : call profile u s (length out) ≡ moving profile (maps u (contents s (g .held))) (moved u (contents s (g .held))) (length out)
     call-is = go u
       where
-        go : (b : Bool) → call b s (length out) ≡ moving (maps b (contents s (g .held))) (moved b (contents s (g .held))) (length out)
-        go true = to-unicode-is s (g .held) (is-read .accepted) (length out)
-        go false = to-bytes-is s (g .held) (is-read .accepted) (length out)
+        go : (b : Bool) → call profile b s (length out) ≡ moving profile (maps b (contents s (g .held))) (moved b (contents s (g .held))) (length out)
+        go true = to-unicode-is profile s (g .held) (is-read .accepted) (length out)
+        go false = to-bytes-is profile s (g .held) (is-read .accepted) (length out)
 
     maps-are : {b : Bool} → b ≡ maps u (bodiesOf s (g .held)) → b ≡ maps u (contents s (g .held))
-    maps-are f = f ∙ ap (maps u) (sym (contents-are is-read))
+    maps-are f = f ∙ ap (maps u) (sym (contents-are profile is-read))
 
-    pub move-none : {b : Bool} → b ≡ maps u (bodiesOf s (g .held)) → not b ≡ true → (Refused NOMAP 0 ≡ verdictOf (call u s (length out))) × (out ≡ outputOf (call u s (length out)) out)
+    pub move-none : {b : Bool} → b ≡ maps u (bodiesOf s (g .held)) → not b ≡ true → (Refused NOMAP 0 ≡ verdictOf (call profile u s (length out))) × (out ≡ outputOf (call profile u s (length out)) out)
     unfolding moving outputOf
     move-none {b} f t =
-        let z : call u s (length out) ≡ refused NOMAP nowhere = call-is ∙ rw (sym (maps-are f) ∙ not-true b t) in
+        let z : call profile u s (length out) ≡ refused NOMAP nowhere = call-is ∙ rw (sym (maps-are f) ∙ not-true b t) in
         (rw z, rw z)
 
     pub move-maps : {b : Bool} → b ≡ maps u (bodiesOf s (g .held)) → not b ≡ false → maps u (contents s (g .held)) ≡ true
     move-maps {b} f t = sym (maps-are f) ∙ not-false b t
 
     pub move-made : maps u (contents s (g .held)) ≡ true → {v : Verdict} {x : List ℕ}
-        → v ≡ verdictOf (moving true (moved u (contents s (g .held))) (length out)) → x ≡ outputOf (moving true (moved u (contents s (g .held))) (length out)) out
-        → (v ≡ verdictOf (call u s (length out))) × (x ≡ outputOf (call u s (length out)) out)
+        → v ≡ verdictOf (moving profile true (moved u (contents s (g .held))) (length out)) → x ≡ outputOf (moving profile true (moved u (contents s (g .held))) (length out)) out
+        → (v ≡ verdictOf (call profile u s (length out))) × (x ≡ outputOf (call profile u s (length out)) out)
     move-made m p o =
-        let z : call u s (length out) ≡ moving true (moved u (contents s (g .held))) (length out) = call-is ∙ ap (λ (b : Bool). moving b (moved u (contents s (g .held))) (length out)) m in
+        let z : call profile u s (length out) ≡ moving profile true (moved u (contents s (g .held))) (length out) = call-is ∙ ap (λ (b : Bool). moving profile b (moved u (contents s (g .held))) (length out)) m in
         (p ∙ ap verdictOf (sym z), o ∙ ap (λ (y : Outcome (List ℕ)). outputOf y out) (sym z))
 
 -- what each of the two calls says of its answer v and its buffer x
-pub unicode-call : (s out : List ℕ) → Bytes s → {v : Verdict} {x : List ℕ} → v ≡ verdictOf (toUnicode s (length out)) → x ≡ outputOf (toUnicode s (length out)) out
-    → (v ≡ toUnicodeAnswer s out) × ((x ≡ toUnicodeOutput s out) × (Numbered v (toUnicode s (length out)) × MovesToUnicode s out v x))
+pub unicode-call : (profile : Profile) (s out : List ℕ) → Bytes s → {v : Verdict} {x : List ℕ} → v ≡ verdictOf (toUnicode profile s (length out)) → x ≡ outputOf (toUnicode profile s (length out)) out
+    → (v ≡ toUnicodeAnswer profile s out) × ((x ≡ toUnicodeOutput profile s out) × (Numbered v (toUnicode profile s (length out)) × MovesToUnicode profile s out v x))
 unfolding toUnicodeAnswer toUnicodeOutput
-unicode-call s out bs a o = (a, (o, (numbered (toUnicode s (length out)) a, rw (a, o) (moves-to-unicode s bs out))))
+unicode-call profile s out bs a o = (a, (o, (numbered (toUnicode profile s (length out)) a, rw (a, o) (moves-to-unicode profile s bs out))))
 
-pub bytes-call : (s out : List ℕ) → Bytes s → {v : Verdict} {x : List ℕ} → v ≡ verdictOf (toByteStrings s (length out)) → x ≡ outputOf (toByteStrings s (length out)) out
-    → (v ≡ toBytesAnswer s out) × ((x ≡ toBytesOutput s out) × (Numbered v (toByteStrings s (length out)) × MovesToBytes s out v x))
+pub bytes-call : (profile : Profile) (s out : List ℕ) → Bytes s → {v : Verdict} {x : List ℕ} → v ≡ verdictOf (toByteStrings profile s (length out)) → x ≡ outputOf (toByteStrings profile s (length out)) out
+    → (v ≡ toBytesAnswer profile s out) × ((x ≡ toBytesOutput profile s out) × (Numbered v (toByteStrings profile s (length out)) × MovesToBytes profile s out v x))
 unfolding toBytesAnswer toBytesOutput
-bytes-call s out bs a o = (a, (o, (numbered (toByteStrings s (length out)) a, rw (a, o) (moves-to-bytes s bs out))))
+bytes-call profile s out bs a o = (a, (o, (numbered (toByteStrings profile s (length out)) a, rw (a, o) (moves-to-bytes profile s bs out))))

@@ -6,6 +6,7 @@ use crate::pieces::put_info;
 use crate::pieces::put_strings;
 use format::Fault;
 use format::Place;
+use format::Profile;
 use format::Record;
 use format::Shape;
 use format::Verdict;
@@ -130,11 +131,11 @@ fn put_moved(
 }
 
 // The length alone decides whether it can be written, since all that was read could be.
-fn write_moved(unicode: bool, r: Record, d: &[u8], out: &mut [u8]) -> Verdict
-    requires read { ⌜ ReadFrom (now d) r ⌝ }
+fn write_moved(unicode: bool, r: Record, d: &[u8], out: &mut [u8], profile: Profile) -> Verdict
+    requires read { ⌜ ReadFrom profile (now d) r ⌝ }
     requires maps { ⌜ maps unicode (contents (now d) r) ≡ true ⌝ }
-    ensures answer { λ v. ⌜ v ≡ verdictOf (moving true (moved unicode (contents (now (d .entry)) r)) (length (now (out .entry)))) ⌝ }
-    ensures output { λ _. ⌜ now (out .exit) ≡ outputOf (moving true (moved unicode (contents (now (d .entry)) r)) (length (now (out .entry)))) (now (out .entry)) ⌝ }
+    ensures answer { λ v. ⌜ v ≡ verdictOf (moving profile true (moved unicode (contents (now (d .entry)) r)) (length (now (out .entry)))) ⌝ }
+    ensures output { λ _. ⌜ now (out .exit) ≡ outputOf (moving profile true (moved unicode (contents (now (d .entry)) r)) (length (now (out .entry)))) (now (out .entry)) ⌝ }
 {
     let q = records::moved(unicode, r);
     let s = format::shape_of(q.header.flags, q.link);
@@ -151,11 +152,11 @@ fn write_moved(unicode: bool, r: Record, d: &[u8], out: &mut [u8]) -> Verdict
 
 // ---- the calls
 
-fn move_to(unicode: bool, s: &[u8], out: &mut [u8]) -> Verdict
-    ensures answer { λ v. ⌜ v ≡ verdictOf (call unicode (now (s .entry)) (length (now (out .entry)))) ⌝ }
-    ensures output { λ _. ⌜ now (out .exit) ≡ outputOf (call unicode (now (s .entry)) (length (now (out .entry)))) (now (out .entry)) ⌝ }
+fn move_to(unicode: bool, s: &[u8], out: &mut [u8], profile: Profile) -> Verdict
+    ensures answer { λ v. ⌜ v ≡ verdictOf (call profile unicode (now (s .entry)) (length (now (out .entry)))) ⌝ }
+    ensures output { λ _. ⌜ now (out .exit) ≡ outputOf (call profile unicode (now (s .entry)) (length (now (out .entry)))) (now (out .entry)) ⌝ }
 {
-    let g = reader::read(s);
+    let g = reader::read(s, profile);
     let v = g.verdict;
     let Verdict::Accepted(_) = v else {
         return v;
@@ -164,23 +165,23 @@ fn move_to(unicode: bool, s: &[u8], out: &mut [u8]) -> Verdict
     if !maps(s, r, unicode) {
         return Verdict::Refused(Fault::NoMap, 0);
     }
-    write_moved(unicode, r, s, out)
+    write_moved(unicode, r, s, out, profile)
 }
 
-pub fn to_unicode(s: &[u8], out: &mut [u8]) -> Verdict
-    ensures answer { λ v. ⌜ v ≡ toUnicodeAnswer (now (s .entry)) (now (out .entry)) ⌝ }
-    ensures output { λ _. ⌜ now (out .exit) ≡ toUnicodeOutput (now (s .entry)) (now (out .entry)) ⌝ }
-    ensures numbers { λ v. ⌜ Numbered v (toUnicode (now (s .entry)) (length (now (out .entry)))) ⌝ }
-    ensures moves { λ v. ⌜ MovesToUnicode (now (s .entry)) (now (out .entry)) v (now (out .exit)) ⌝ }
+pub fn to_unicode(s: &[u8], out: &mut [u8], profile: Profile) -> Verdict
+    ensures answer { λ v. ⌜ v ≡ toUnicodeAnswer profile (now (s .entry)) (now (out .entry)) ⌝ }
+    ensures output { λ _. ⌜ now (out .exit) ≡ toUnicodeOutput profile (now (s .entry)) (now (out .entry)) ⌝ }
+    ensures numbers { λ v. ⌜ Numbered v (toUnicode profile (now (s .entry)) (length (now (out .entry)))) ⌝ }
+    ensures moves { λ v. ⌜ MovesToUnicode profile (now (s .entry)) (now (out .entry)) v (now (out .exit)) ⌝ }
 {
-    move_to(true, s, out)
+    move_to(true, s, out, profile)
 }
 
-pub fn to_bytes(s: &[u8], out: &mut [u8]) -> Verdict
-    ensures answer { λ v. ⌜ v ≡ toBytesAnswer (now (s .entry)) (now (out .entry)) ⌝ }
-    ensures output { λ _. ⌜ now (out .exit) ≡ toBytesOutput (now (s .entry)) (now (out .entry)) ⌝ }
-    ensures numbers { λ v. ⌜ Numbered v (toByteStrings (now (s .entry)) (length (now (out .entry)))) ⌝ }
-    ensures moves { λ v. ⌜ MovesToBytes (now (s .entry)) (now (out .entry)) v (now (out .exit)) ⌝ }
+pub fn to_bytes(s: &[u8], out: &mut [u8], profile: Profile) -> Verdict
+    ensures answer { λ v. ⌜ v ≡ toBytesAnswer profile (now (s .entry)) (now (out .entry)) ⌝ }
+    ensures output { λ _. ⌜ now (out .exit) ≡ toBytesOutput profile (now (s .entry)) (now (out .entry)) ⌝ }
+    ensures numbers { λ v. ⌜ Numbered v (toByteStrings profile (now (s .entry)) (length (now (out .entry)))) ⌝ }
+    ensures moves { λ v. ⌜ MovesToBytes profile (now (s .entry)) (now (out .entry)) v (now (out .exit)) ⌝ }
 {
-    move_to(false, s, out)
+    move_to(false, s, out, profile)
 }

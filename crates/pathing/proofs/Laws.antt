@@ -11,6 +11,7 @@ use Rattle.octets.specs.Numbers.{Bytes, little}
 use Rattle.octets.specs.Parts.{put}
 use Rattle.octets.specs.Steps.Puts.{part}
 use Rattle.octets.proofs.NumberLaws.{length-little}
+use Rattle.format.specs.declared.Profile.{Profile}
 use Rattle.format.specs.declared.Record.{Record}
 use Rattle.format.specs.declared.Fault.{Fault}
 use Rattle.format.specs.declared.Fault.the-variants.{Place as PLACE, Unwritable as UNWRITABLE, Room as ROOM}
@@ -54,7 +55,7 @@ module _ (r : Record) (d : List ℕ) where
 
 -- ---- the call
 
-module _ (r : Record) (d : List ℕ) (signature : ℕ) (text unicode out : List ℕ) where
+module _ (profile : Profile) (r : Record) (d : List ℕ) (signature : ℕ) (text unicode out : List ℕ) where
   abbrev old : Contents
   old = contents d r
 
@@ -66,28 +67,28 @@ module _ (r : Record) (d : List ℕ) (signature : ℕ) (text unicode out : List 
 
   -- an answer and the buffer afterwards, as the definition has them
   abbrev Told : Verdict → List ℕ → Type 0
-  Told v x = (v ≡ pathAnswer r d signature text unicode out) × (x ≡ pathOutput r d signature text unicode out)
+  Told v x = (v ≡ pathAnswer profile r d signature text unicode out) × (x ≡ pathOutput profile r d signature text unicode out)
 
   -- an outcome of the definitions is an end of the demand, since the types give that the numbers fit and that bytes are bytes
   pub ended : FitsRecord r × (Bytes d × (Bytes text × Bytes unicode)) → {v : Verdict} {x : List ℕ} → Told v x
-      → (v ≡ pathAnswer r d signature text unicode out)
-      × ((x ≡ pathOutput r d signature text unicode out)
-      × (Numbered v (pathWriting r d signature text unicode (length out)) × PathEnds r d signature text unicode out v x))
+      → (v ≡ pathAnswer profile r d signature text unicode out)
+      × ((x ≡ pathOutput profile r d signature text unicode out)
+      × (Numbered v (pathWriting profile r d signature text unicode (length out)) × PathEnds profile r d signature text unicode out v x))
   unfolding pathAnswer
   ended (fits, (bytes, (narrow, wide))) (p, q) =
-      (p, (q, (numbered (pathWriting r d signature text unicode (length out)) p, rw (p, q) (path-ends r d signature text unicode fits bytes narrow wide out))))
+      (p, (q, (numbered (pathWriting profile r d signature text unicode (length out)) p, rw (p, q) (path-ends profile r d signature text unicode fits bytes narrow wide out))))
 
   path-outside : placed (length d) r ≡ false → Told (Refused PLACE 0) out
   unfolding pathWriting pathAnswer pathOutput outputOf
   path-outside t =
-      let z : pathWriting r d signature text unicode (length out) ≡ refused PLACE nowhere = rw t in
+      let z : pathWriting profile r d signature text unicode (length out) ≡ refused PLACE nowhere = rw t in
       (rw z, rw z)
 
   module _ (inside : placed (length d) r ≡ true) where
     path-unfit : pathFits signature text unicode ≡ false → Told (Refused UNWRITABLE 0) out
     unfolding pathWriting pathAnswer pathOutput outputOf pathFits
     path-unfit t =
-        let z : pathWriting r d signature text unicode (length out) ≡ refused UNWRITABLE nowhere
+        let z : pathWriting profile r d signature text unicode (length out) ≡ refused UNWRITABLE nowhere
         = rw inside (one-fails (isPath signature) (pathText false text) (pathText true unicode) _ _ t) in
         (rw z, rw z)
 
@@ -104,32 +105,32 @@ module _ (r : Record) (d : List ℕ) (signature : ℕ) (text unicode out : List 
       unfolding pathFits
       widened = (and-true (isPath signature && pathText false text) (pathText true unicode) fit) .1
 
-      path-unwritable : writable old ≡ false → Told (Refused UNWRITABLE 0) out
+      path-unwritable : writable profile old ≡ false → Told (Refused UNWRITABLE 0) out
       unfolding pathWriting pathAnswer pathOutput outputOf
       path-unwritable t =
-          let z : pathWriting r d signature text unicode (length out) ≡ refused UNWRITABLE nowhere
+          let z : pathWriting profile r d signature text unicode (length out) ≡ refused UNWRITABLE nowhere
           = rw (inside, signed, narrowed, widened, t) in
           (rw z, rw z)
 
       -- the texts and the record have passed: x are the record's blocks, and the block's place in them is `at`
-      module _ (can : writable old ≡ true) (bytes : Bytes text × Bytes unicode) {x : List ℕ} (shown : x ≡ body r d) {at : ℕ} (found : Found signature x at) where
+      module _ (can : writable profile old ≡ true) (bytes : Bytes text × Bytes unicode) {x : List ℕ} (shown : x ≡ body r d) {at : ℕ} (found : Found signature x at) where
         path : Path signature text unicode
         path = record { sign = signed; bytes = bytes; narrow = narrowed; wide = widened }
 
-        front-is : length (front r d) + (length x + 4) ≡ length (canonical old)
-        front-is = omega (arith, ap length shown, ap length (before-blocks r d), length-append (front r d) (blocksBytes (body r d)), length-append (body r d) (little 4 0), length-little 4 0)
+        front-is : length (front profile r d) + (length x + 4) ≡ length (canonical old)
+        front-is = omega (arith, ap length shown, ap length (before-blocks profile r d), length-append (front profile r d) (blocksBytes (body r d)), length-append (body r d) (little 4 0), length-little 4 0)
 
         in-body : at ≤ length (body r d)
         in-body = omega (arith, found .inside, ap length shown)
 
         changed : endToEnd (withBlock block (blocksIn (body r d))) ≡ put (body r d) at block
         changed =
-            let whole = body-writable r d can in
+            let whole = body-writable profile r d can in
             let place : at ≡ blockPlace signature (body r d) = rw shown at (found .place) whole in
             put-in (body r d) block whole (new-signature path) signed (new-length path) ∙ rw (← place)
 
-        written : canonical new ≡ front r d ++ blocksBytes (put (body r d) at block)
-        written = after-blocks r d block ∙ ap (λ (y : List ℕ). front r d ++ blocksBytes y) changed
+        written : canonical new ≡ front profile r d ++ blocksBytes (put (body r d) at block)
+        written = after-blocks profile r d block ∙ ap (λ (y : List ℕ). front profile r d ++ blocksBytes y) changed
 
         body-after : length (put (body r d) at block) ≡ length x + (at + 788 - length x)
         body-after = omega (arith, rw (new-length path) at (length-over (body r d) block at in-body), ap length shown)
@@ -141,31 +142,31 @@ module _ (r : Record) (d : List ℕ) (signature : ℕ) (text unicode out : List 
               front-is,
               body-after,
               ap length written,
-              length-append (front r d) (blocksBytes (put (body r d) at block)),
+              length-append (front profile r d) (blocksBytes (put (body r d) at block)),
               length-append (put (body r d) at block) (little 4 0),
               length-little 4 0,
             )
 
-        decides : writable new ≡ leb (length (canonical new)) most
-        decides = length-decides r d path can
+        decides : writable profile new ≡ leb (length (canonical new)) most
+        decides = length-decides profile r d path can
 
         path-long : most < length (canonical old) + (at + 788 - length x) → Told (Refused UNWRITABLE 0) out
         unfolding pathWriting pathAnswer pathOutput outputOf
         path-long h =
-            let no : writable new ≡ false = decides ∙ lt-leb (length (canonical new)) most (omega (arith, total-is)) in
-            let z : pathWriting r d signature text unicode (length out) ≡ refused UNWRITABLE nowhere
+            let no : writable profile new ≡ false = decides ∙ lt-leb (length (canonical new)) most (omega (arith, total-is)) in
+            let z : pathWriting profile r d signature text unicode (length out) ≡ refused UNWRITABLE nowhere
             = rw (inside, signed, narrowed, widened, can, no) in
             (rw z, rw z)
 
         module _ (short : length (canonical old) + (at + 788 - length x) ≤ most) where
-          could : writable new ≡ true
+          could : writable profile new ≡ true
           could = decides ∙ le-leb (length (canonical new)) most (omega (arith, total-is))
 
           path-room : length out < length (canonical old) + (at + 788 - length x) → Told (Refused ROOM 0) out
           unfolding pathWriting pathAnswer pathOutput outputOf
           path-room h =
               let no : leb (length (canonical new)) (length out) ≡ false = lt-leb (length (canonical new)) (length out) (omega (arith, total-is)) in
-              let z : pathWriting r d signature text unicode (length out) ≡ refused ROOM nowhere
+              let z : pathWriting profile r d signature text unicode (length out) ≡ refused ROOM nowhere
               = rw (inside, signed, narrowed, widened, can, could, no) in
               (rw z, rw z)
 
@@ -174,12 +175,12 @@ module _ (r : Record) (d : List ℕ) (signature : ℕ) (text unicode out : List 
           unfolding pathWriting pathAnswer pathOutput outputOf
           path-put h {n} {more} sum m e f g =
               let yes : leb (length (canonical new)) (length out) ≡ true = le-leb (length (canonical new)) (length out) (omega (arith, total-is)) in
-              let z : pathWriting r d signature text unicode (length out) ≡ got (canonical new) (length (canonical new))
+              let z : pathWriting profile r d signature text unicode (length out) ≡ got (canonical new) (length (canonical new))
               = rw (inside, signed, narrowed, widened, can, could, yes) in
               let k : n ≡ length (canonical new) = omega (arith, sum, m, total-is) in
-              let p : n - more - 4 - length x + at ≡ length (front r d) + at = omega (arith, sum, front-is) in
-              let q : n - 4 ≡ length (front r d) + length (put (body r d) at block) = omega (arith, sum, m, front-is, body-after) in
-              (rw z (ap Accepted k), rw z (g ∙ rw (e, f, p, q, before-blocks r d, written) (over-part out (front r d) (body r d) (little 4 0) block at in-body)))
+              let p : n - more - 4 - length x + at ≡ length (front profile r d) + at = omega (arith, sum, front-is) in
+              let q : n - 4 ≡ length (front profile r d) + length (put (body r d) at block) = omega (arith, sum, m, front-is, body-after) in
+              (rw z (ap Accepted k), rw z (g ∙ rw (e, f, p, q, before-blocks profile r d, written) (over-part out (front profile r d) (body r d) (little 4 0) block at in-body)))
 
   -- ---- the ways out
 
@@ -200,9 +201,9 @@ module _ (r : Record) (d : List ℕ) (signature : ℕ) (text unicode out : List 
         go true a b = f (sym a) b
         go false a b = g (sym a) (omega arith)
 
-    pub path-refused : {v : Verdict} {y : List ℕ} → Leaves r d more out v y → {f : Fault} {p : ℕ} → v ≡ Refused f p → Told v y
+    pub path-refused : {v : Verdict} {y : List ℕ} → Leaves profile r d more out v y → {f : Fault} {p : ℕ} → v ≡ Refused f p → Told v y
     path-refused l q =
-        leaving-ends r d more out (λ v y. (f : Fault) (p : ℕ) → v ≡ Refused f p → Told v y)
+        leaving-ends profile r d more out (λ v y. (f : Fault) (p : ℕ) → v ≡ Refused f p → Told v y)
         (λ i f p z. path-outside i)
         (λ i n f p z. by-fit _ (λ t a. path-unwritable i t n) (λ t a. path-unfit i t))
         (λ i c h f p z. by-fit _ (λ t a. path-long i t c bytes (body-shown r d i e) found (rw a at h)) (λ t a. path-unfit i t))
@@ -210,11 +211,11 @@ module _ (r : Record) (d : List ℕ) (signature : ℕ) (text unicode out : List 
         (λ i c s h f p z. absurd (let o : _≡_ {A = ℕ} 0 1 = cc in omega arith))
         l _ _ q
 
-    pub path-left : {v : Verdict} {y : List ℕ} → Leaves r d more out v y → {n : ℕ} → v ≡ Accepted n
+    pub path-left : {v : Verdict} {y : List ℕ} → Leaves profile r d more out v y → {n : ℕ} → v ≡ Accepted n
         → Stand n more x at
         × ((b z : List ℕ) → b ≡ block → z ≡ put (put y (n - more - 4 - length x + at) b) (n - 4) (little 4 0) → Told (Accepted n) z)
     path-left l q =
-        leaving-ends r d more out
+        leaving-ends profile r d more out
         (λ v y. (n : ℕ) → v ≡ Accepted n → Stand n more x at × ((b z : List ℕ) → b ≡ block → z ≡ put (put y (n - more - 4 - length x + at) b) (n - 4) (little 4 0) → Told (Accepted n) z))
         (λ i n z. absurd (let o : _≡_ {A = ℕ} 0 1 = cc in omega arith))
         (λ i c n z. absurd (let o : _≡_ {A = ℕ} 0 1 = cc in omega arith))

@@ -1,4 +1,5 @@
 // A path block put into a record, and the shortcut that the record is then written as (FORMAT: Path block call).
+use format::Profile;
 use format::Record;
 use format::Verdict;
 ghost use mathlib.Core.Path.{_≡_};
@@ -119,11 +120,12 @@ pub fn path_block(
     text: &[u8],
     unicode: &[u8],
     out: &mut [u8],
+    profile: Profile,
 ) -> Verdict
-    ensures answer { λ v. ⌜ v ≡ pathAnswer r (now (d .entry)) signature (now (text .entry)) (now (unicode .entry)) (now (out .entry)) ⌝ }
-    ensures output { λ _. ⌜ now (out .exit) ≡ pathOutput r (now (d .entry)) signature (now (text .entry)) (now (unicode .entry)) (now (out .entry)) ⌝ }
-    ensures numbers { λ v. ⌜ Numbered v (pathWriting r (now (d .entry)) signature (now (text .entry)) (now (unicode .entry)) (length (now (out .entry)))) ⌝ }
-    ensures least { λ v. ⌜ PathEnds r (now (d .entry)) signature (now (text .entry)) (now (unicode .entry)) (now (out .entry)) v (now (out .exit)) ⌝ }
+    ensures answer { λ v. ⌜ v ≡ pathAnswer profile r (now (d .entry)) signature (now (text .entry)) (now (unicode .entry)) (now (out .entry)) ⌝ }
+    ensures output { λ _. ⌜ now (out .exit) ≡ pathOutput profile r (now (d .entry)) signature (now (text .entry)) (now (unicode .entry)) (now (out .entry)) ⌝ }
+    ensures numbers { λ v. ⌜ Numbered v (pathWriting profile r (now (d .entry)) signature (now (text .entry)) (now (unicode .entry)) (length (now (out .entry)))) ⌝ }
+    ensures least { λ v. ⌜ PathEnds profile r (now (d .entry)) signature (now (text .entry)) (now (unicode .entry)) (now (out .entry)) v (now (out .exit)) ⌝ }
 {
     let row = r.places;
     let body = row[format::BLOCKS];
@@ -131,7 +133,7 @@ pub fn path_block(
     let at = place_of(x, signature);
     let fits = path_fits(signature, text, unicode);
     let more = gained(fits, x.len(), at);
-    let v = writer::write_leaving(r, d, more, out);
+    let v = writer::write_leaving(r, d, more, out, profile);
     let Verdict::Accepted(n) = v else {
         return v;
     };

@@ -5,6 +5,7 @@ use mathlib.Core.Bool.{Bool, true, false, cond}
 use Prim.Native.Nat.{ℕ, _+_}
 use lib.ListN.{drop}
 use Rattle.octets.specs.declared.Cursor.{Cursor}
+use Rattle.format.specs.declared.Profile.{Profile}
 use Rattle.format.specs.declared.Fault.{Fault}
 use Rattle.format.specs.declared.Spot.{Spot}
 use Rattle.format.specs.declared.Place.{Place}
@@ -106,12 +107,12 @@ info-on true c (got i n) = (refl, refl)
 info-on true c (refused f q) = (refl, refl)
 info-on false c o = (refl, refl)
 
-pub info-from : (s : List ℕ) (b : Bool) (t : Next)
-    → From s (sectionIf b noInfo info) t (infoStep s b t .next) (λ c. c ≡ sectionOf b (atOf t) (atOf (infoStep s b t .next)) (infoStep s b t .held))
+pub info-from : (profile : Profile) (s : List ℕ) (b : Bool) (t : Next)
+    → From s (sectionIf b noInfo (info profile)) t (infoStep profile s b t .next) (λ c. c ≡ sectionOf b (atOf t) (atOf (infoStep profile s b t .next)) (infoStep profile s b t .held))
 unfolding infoStep infoOn infoAt
-info-from s b t =
-    section-from s info b noInfo (infoStep s b t .held) t (infoStep s b t .next)
-    (λ c e. rw e (info-on b c (info (c .at) (drop (c .at) s)))) (λ f q e. rw e)
+info-from profile s b t =
+    section-from s (info profile) b noInfo (infoStep profile s b t .held) t (infoStep profile s b t .next)
+    (λ c e. rw e (info-on b c (info profile (c .at) (drop (c .at) s)))) (λ f q e. rw e)
 
 -- ---- blocks
 

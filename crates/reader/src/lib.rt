@@ -5,6 +5,7 @@ use format::Header;
 use format::Info;
 use format::Link;
 use format::Place;
+use format::Profile;
 use format::Reading;
 use format::Record;
 use format::Spot;
@@ -145,9 +146,9 @@ fn info_off(f: Fault, at: Spot) -> InfoStep
     }
 }
 
-fn info_on(s: &[u8], present: bool, c: Cursor) -> InfoStep
+fn info_on(s: &[u8], present: bool, c: Cursor, profile: Profile) -> InfoStep
     requires { ⌜ length (now s) ≤ 65536 ⌝ }
-    ensures { λ r. ⌜ r ≡ infoOn (now (s .entry)) present c ⌝ }
+    ensures { λ r. ⌜ r ≡ infoOn profile (now (s .entry)) present c ⌝ }
 {
     if !present {
         return InfoStep {
@@ -155,7 +156,7 @@ fn info_on(s: &[u8], present: bool, c: Cursor) -> InfoStep
             held: format::NO_INFO,
         };
     }
-    match info::info(s, c) {
+    match info::info(s, c, profile) {
         InfoTaken::Got(i, d) => InfoStep {
             next: Next::On(d),
             held: i,
@@ -164,12 +165,12 @@ fn info_on(s: &[u8], present: bool, c: Cursor) -> InfoStep
     }
 }
 
-fn info_step(s: &[u8], present: bool, next: Next) -> InfoStep
+fn info_step(s: &[u8], present: bool, next: Next, profile: Profile) -> InfoStep
     requires { ⌜ length (now s) ≤ 65536 ⌝ }
-    ensures { λ r. ⌜ r ≡ infoStep (now (s .entry)) present next ⌝ }
+    ensures { λ r. ⌜ r ≡ infoStep profile (now (s .entry)) present next ⌝ }
 {
     match next {
-        Next::On(c) => info_on(s, present, c),
+        Next::On(c) => info_on(s, present, c, profile),
         Next::Off(f, p) => info_off(f, p),
     }
 }
@@ -312,9 +313,9 @@ fn record_of(
 }
 
 // The sections after the header, by its flags.
-fn outline_from(s: &[u8], h: Header, c: Cursor) -> Outline
+fn outline_from(s: &[u8], h: Header, c: Cursor, profile: Profile) -> Outline
     requires { ⌜ length (now s) ≤ 65536 ⌝ }
-    ensures { λ r. ⌜ r ≡ outlineFrom (now (s .entry)) h c ⌝ }
+    ensures { λ r. ⌜ r ≡ outlineFrom profile (now (s .entry)) h c ⌝ }
 {
     let f = h.flags;
     let u = format::strings_unicode(f);
@@ -325,7 +326,7 @@ fn outline_from(s: &[u8], h: Header, c: Cursor) -> Outline
     let InfoStep {
         next: info,
         held: b2,
-    } = info_step(s, format::info_there(f), items);
+    } = info_step(s, format::info_there(f), items, profile);
     let Step {
         next: name,
         held: b3,
@@ -380,14 +381,14 @@ fn outline_off(f: Fault, at: Spot) -> Outline
 }
 
 // What stands where: every section that was reached, the record, and how it went on.
-pub fn outline_of(s: &[u8]) -> Outline
-    ensures { λ r. ⌜ OutlineAnswer (now (s .entry)) r ⌝ }
+pub fn outline_of(s: &[u8], profile: Profile) -> Outline
+    ensures { λ r. ⌜ OutlineAnswer profile (now (s .entry)) r ⌝ }
 {
     if 65536 < s.len() {
         return outline_off(Fault::Long, spot_at(0, 0, 65536));
     }
-    match header::header(s) {
-        HeaderTaken::Got(h, c) => outline_from(s, h, c),
+    match header::header(s, profile) {
+        HeaderTaken::Got(h, c) => outline_from(s, h, c, profile),
         HeaderTaken::Refused(f, p) => outline_off(f, p),
     }
 }
@@ -421,22 +422,22 @@ pub fn finish(n: usize, next: Next, held: Record) -> Reading
 }
 
 // The verdict on a shortcut, beside its record.
-pub fn read(s: &[u8]) -> Reading
-    ensures answer { λ r. ⌜ r ≡ reading (now (s .entry)) ⌝ }
-    ensures numbers { λ r. ⌜ Numbered (r .verdict) (shortcut (now (s .entry))) ⌝ }
+pub fn read(s: &[u8], profile: Profile) -> Reading
+    ensures answer { λ r. ⌜ r ≡ reading profile (now (s .entry)) ⌝ }
+    ensures numbers { λ r. ⌜ Numbered (r .verdict) (shortcut profile (now (s .entry))) ⌝ }
 {
-    let o = outline_of(s);
+    let o = outline_of(s, profile);
     let next = o.next;
     let held = o.held;
     finish(s.len(), next, held)
 }
 
 // The verdict alone.
-pub fn check(s: &[u8]) -> Verdict
-    ensures answer { λ r. ⌜ r ≡ reading (now (s .entry)) .verdict ⌝ }
-    ensures numbers { λ r. ⌜ Numbered r (shortcut (now (s .entry))) ⌝ }
+pub fn check(s: &[u8], profile: Profile) -> Verdict
+    ensures answer { λ r. ⌜ r ≡ reading profile (now (s .entry)) .verdict ⌝ }
+    ensures numbers { λ r. ⌜ Numbered r (shortcut profile (now (s .entry))) ⌝ }
 {
-    let g = read(s);
+    let g = read(s, profile);
     g.verdict
 }
 
@@ -454,10 +455,10 @@ fn trailing(c: Cursor) -> Faulted
 }
 
 // The verdict with the section at fault and where that starts.
-pub fn fault(s: &[u8]) -> Faulted
-    ensures { λ r. ⌜ r ≡ faulted (now (s .entry)) ⌝ }
+pub fn fault(s: &[u8], profile: Profile) -> Faulted
+    ensures { λ r. ⌜ r ≡ faulted profile (now (s .entry)) ⌝ }
 {
-    let o = outline_of(s);
+    let o = outline_of(s, profile);
     let next = o.next;
     match next {
         Next::On(c) => {

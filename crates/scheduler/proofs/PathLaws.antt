@@ -7,6 +7,7 @@ use native.Mathlib.Omega.{arith}
 use lib.ListN.{length}
 use lib.Dec.{leb}
 use borrow.Author.Tests.{eq-eqb, ne-eqb, not-true, not-false}
+use Rattle.format.specs.declared.Profile.{Profile}
 use Rattle.format.specs.declared.Record.{Record}
 use Rattle.format.specs.declared.Fault.the-variants.{Place as PLACE, Unwritable as UNWRITABLE, Room as ROOM}
 use Rattle.format.specs.declared.Verdict.{Verdict}
@@ -26,12 +27,12 @@ use Rattle.scheduler.specs.Paths.{pathCode, pathWritten, PathEndsOf}
 use Rattle.scheduler.proofs.PositionLaws.{writable-few}
 
 -- what is written is a shortcut
-pub path-small : (r : Record) (d : List ℕ) (signature : ℕ) (text unicode out : List ℕ) → answerValue (pathAnswer r d signature text unicode out) ≤ 131073
+pub path-small : (profile : Profile) (r : Record) (d : List ℕ) (signature : ℕ) (text unicode out : List ℕ) → answerValue (pathAnswer profile r d signature text unicode out) ≤ 131073
 unfolding answerValue pathAnswer pathWriting
-path-small r d signature text unicode out =
+path-small profile r d signature text unicode out =
     let c = withPath (pathBlock signature text unicode) (contents d r) in
     let w = canonical c in
-    go w (placed (length d) r) (isPath signature) (pathText false text) (pathText true unicode) (writable (contents d r)) (writable c) (leb (length w) (length out)) (λ e. writable-few c e)
+    go w (placed (length d) r) (isPath signature) (pathText false text) (pathText true unicode) (writable profile (contents d r)) (writable profile c) (leb (length w) (length out)) (λ e. writable-few profile c e)
   where
     no : Outcome (List ℕ)
     no = refused UNWRITABLE nowhere
@@ -47,9 +48,9 @@ path-small r d signature text unicode out =
     go w true false t u e f g h = omega arith
     go w false s t u e f g h = omega arith
 
-module _ (f d : List ℕ) (signature : ℕ) (text unicode out : List ℕ) where
+module _ (profile : Profile) (f d : List ℕ) (signature : ℕ) (text unicode out : List ℕ) where
   abbrev Answers : ℕ → List ℕ → Type 0
-  Answers r x = (r ≡ pathCode f d signature text unicode out) × ((x ≡ pathWritten f d signature text unicode out) × PathEndsOf f d signature text unicode out r x)
+  Answers r x = (r ≡ pathCode profile f d signature text unicode out) × ((x ≡ pathWritten profile f d signature text unicode out) × PathEndsOf profile f d signature text unicode out r x)
 
   pub path-miscounted : (length f ≡ fieldCount → ⊥) → Answers FIELDS out
   unfolding pathCode pathWritten
@@ -68,9 +69,9 @@ module _ (f d : List ℕ) (signature : ℕ) (text unicode out : List ℕ) where
       record-there = sym e ∙ not-false b t
 
       pub path-answered : {q : Record} → q ≡ recordFrom f → {v : Verdict} {x : List ℕ} {r : ℕ}
-          → (v ≡ pathAnswer q d signature text unicode out)
-          × ((x ≡ pathOutput q d signature text unicode out)
-          × (Numbered v (pathWriting q d signature text unicode (length out)) × PathEnds q d signature text unicode out v x))
+          → (v ≡ pathAnswer profile q d signature text unicode out)
+          × ((x ≡ pathOutput profile q d signature text unicode out)
+          × (Numbered v (pathWriting profile q d signature text unicode (length out)) × PathEnds profile q d signature text unicode out v x))
           → r ≡ codeOf v → Answers r x
       unfolding pathCode pathWritten
       path-answered i {v} {x} (j, (k, (number, z))) l =
@@ -79,6 +80,6 @@ module _ (f d : List ℕ) (signature : ℕ) (text unicode out : List ℕ) where
             (
               rw (n, record-there) (k ∙ rw i),
               λ m o.
-                  record { verdict = v; code = l; ends = subst (λ (t : Record). PathEnds t d signature text unicode out v x) i z },
+                  record { verdict = v; code = l; ends = subst (λ (t : Record). PathEnds profile t d signature text unicode out v x) i z },
             ),
           )

@@ -6,6 +6,7 @@ use Prim.Native.Nat.{ℕ, zero, suc, _+_, _-_, _*_, _≤_}
 use native.Mathlib.Omega.{arith}
 use lib.ListN.{length, take, drop}
 use lib.Dec.{leb, ltb, eqb}
+use Rattle.format.specs.declared.Profile.{Profile}
 use Rattle.format.specs.declared.Fault.{Fault}
 use Rattle.format.specs.declared.Fault.the-variants.{Long as LONG, Cut as CUT, Info as INFO, Trail as TRAIL}
 use Rattle.format.specs.declared.Faulted.{Faulted}
@@ -97,10 +98,10 @@ few-walk before p (suc k) (a ∷ l) = few-walk before p k l
 
 -- ---- the whole
 
-few-header : FewBy header
-few-header = record {
+few-header : (profile : Profile) → FewBy (header profile)
+few-header profile = record {
   few = λ p s.
-      few-tests (section 0 p) (leb 76 (length s) else CUT at 0 ∷ headerRules (take 76 s)) (got (headerFields (take 76 s)) 76) (omega arith) tt;
+      few-tests (section 0 p) (leb 76 (length s) else CUT at 0 ∷ headerRules profile (take 76 s)) (got (headerFields (take 76 s)) 76) (omega arith) tt;
 }
 
 few-items : FewBy items
@@ -110,11 +111,11 @@ few-items = record {
       (got (place (p + 2) (itemsLength s - 4)) (itemsLength s)) (omega arith) tt;
 }
 
-few-info : FewBy info
-few-info = record {
+few-info : (profile : Profile) → FewBy (info profile)
+few-info profile = record {
   few = λ p s.
       few-tests (section 2 p)
-      (leb 4 (length s) else CUT at 0 ∷ leb 0x1C (infoSize s) else INFO at 0 ∷ leb (infoSize s) (length s) else CUT at 0 ∷ infoRules (take (infoSize s) s))
+      (leb 4 (length s) else CUT at 0 ∷ leb 0x1C (infoSize s) else INFO at 0 ∷ leb (infoSize s) (length s) else CUT at 0 ∷ infoRules profile (take (infoSize s) s))
       (got (infoFields p (take (infoSize s) s)) (infoSize s)) (omega arith) tt;
 }
 
@@ -131,25 +132,25 @@ few-then {P = P} {Q = Q} f g = few-chain P (λ a. Q) f (λ a. g)
 few-strings : (flags k : ℕ) → k + 1 ≤ 9 → FewBy (stringSection flags k)
 few-strings flags k h = few-section (stringThere k flags) noPlace (string (k + 1) (stringsUnicode flags)) (few-string (k + 1) (stringsUnicode flags) h)
 
-few-tail : (flags : ℕ) → FewBy (tail flags)
-few-tail flags =
+few-tail : (profile : Profile) (flags : ℕ) → FewBy (tail profile flags)
+few-tail profile flags =
     few-then (few-section (itemsThere flags) noPlace items few-items)
-    (few-then (few-section (infoThere flags) noInfo info few-info)
+    (few-then (few-section (infoThere flags) noInfo (info profile) (few-info profile))
     (few-then (few-strings flags nameBit (omega arith))
     (few-then (few-strings flags relativeBit (omega arith))
     (few-then (few-strings flags workdirBit (omega arith))
     (few-then (few-strings flags argumentsBit (omega arith))
     (few-then (few-strings flags iconBit (omega arith)) (few-found blocks (record { few = λ p s. few-walk [] p 0 s }))))))))
 
-few-sections : FewBy sections
+few-sections : (profile : Profile) → FewBy (sections profile)
 unfolding sections
-few-sections = few-chain (found header) (λ h. tail (h .read .flags)) (few-found header few-header) (λ h. few-tail (h .read .flags))
+few-sections profile = few-chain (found (header profile)) (λ h. tail profile (h .read .flags)) (few-found (header profile) (few-header profile)) (λ h. few-tail profile (h .read .flags))
 
 -- where a refusal stands: one of the ten sections
-few-shortcut : (s : List ℕ) → Few (shortcut s)
+few-shortcut : (profile : Profile) (s : List ℕ) → Few (shortcut profile s)
 unfolding shortcut
-few-shortcut s =
-    few-tests noSection (leb (length s) most else LONG at most ∷ []) (andThen (sections 0 s) (λ c n. tests (section 9 (n - 4)) (eqb n (length s) else TRAIL at 4 ∷ []) (got c n))) (omega arith) (go (sections 0 s) (few-sections .few 0 s))
+few-shortcut profile s =
+    few-tests noSection (leb (length s) most else LONG at most ∷ []) (andThen (sections profile 0 s) (λ c n. tests (section 9 (n - 4)) (eqb n (length s) else TRAIL at 4 ∷ []) (got c n))) (omega arith) (go (sections profile 0 s) (few-sections profile .few 0 s))
   where
     go : (r : Outcome Sections) → Few r → Few (andThen r (λ c n. tests (section 9 (n - 4)) (eqb n (length s) else TRAIL at 4 ∷ []) (got c n)))
     go (got c n) k = few-tests (section 9 (n - 4)) (eqb n (length s) else TRAIL at 4 ∷ []) (got c n) (omega arith) tt
@@ -161,28 +162,28 @@ pub record SmallFault (g : Faulted) : Type 0 where
   pub section : g .section ≤ 9
   pub start : g .start ≤ 65536
 
-pub fault-small : (s : List ℕ) → SmallFault (faulted s)
+pub fault-small : (profile : Profile) (s : List ℕ) → SmallFault (faulted profile s)
 unfolding faulted answerValue
-fault-small s = go (shortcut s) refl (few-shortcut s)
+fault-small profile s = go (shortcut profile s) refl (few-shortcut profile s)
   where
-    go : (o : Outcome Sections) → shortcut s ≡ o → Few o → SmallFault (faultedBy o)
-    go (got c n) i k = record { position = omega (arith, (shortcut-whole s c n i) .limit, (shortcut-whole s c n i) .all); section = omega arith; start = omega arith }
-    go (refused f w) i k = record { position = positions-small s f w i; section = k; start = omega (arith, positions-small s f w i, starts-before s f w i) }
+    go : (o : Outcome Sections) → shortcut profile s ≡ o → Few o → SmallFault (faultedBy o)
+    go (got c n) i k = record { position = omega (arith, (shortcut-whole profile s c n i) .limit, (shortcut-whole profile s c n i) .all); section = omega arith; start = omega arith }
+    go (refused f w) i k = record { position = positions-small profile s f w i; section = k; start = omega (arith, positions-small profile s f w i, starts-before profile s f w i) }
 
 -- ---- for the code
 
-module _ (s : List ℕ) {g : Faulted} (e : g ≡ faulted s) where
+module _ (profile : Profile) (s : List ℕ) {g : Faulted} (e : g ≡ faulted profile s) where
   pub fault-fits : SmallFault g
-  fault-fits = rw e (fault-small s)
+  fault-fits = rw e (fault-small profile s)
 
   pub position-fits : {f : Fault} {p : ℕ} → g .verdict ≡ Refused f p → p ≤ 65536
   unfolding answerValue
   position-fits q = rw q at (fault-fits .position)
 
-  pub fault-none : {n : ℕ} → g .verdict ≡ Accepted n → 0 ≡ faultCode (faulted s)
+  pub fault-none : {n : ℕ} → g .verdict ≡ Accepted n → 0 ≡ faultCode (faulted profile s)
   unfolding faultCode
   fault-none q = rw (← e, q)
 
-  pub fault-told : {f : Fault} {p k : ℕ} → g .verdict ≡ Refused f p → k ≡ numberOf f → k + 256 * (p + 65537 * (g .start + 65537 * g .section)) ≡ faultCode (faulted s)
+  pub fault-told : {f : Fault} {p k : ℕ} → g .verdict ≡ Refused f p → k ≡ numberOf f → k + 256 * (p + 65537 * (g .start + 65537 * g .section)) ≡ faultCode (faulted profile s)
   unfolding faultCode
   fault-told q h = rw (← e, q, h)

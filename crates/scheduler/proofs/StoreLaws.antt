@@ -7,6 +7,7 @@ use native.Mathlib.Omega.{arith}
 use lib.ListN.{length}
 use lib.Dec.{leb, eqb}
 use borrow.Author.Tests.{leb-true, eq-eqb, ne-eqb}
+use Rattle.format.specs.declared.Profile.{Profile}
 use Rattle.format.specs.declared.Fault.the-variants.{Place as PLACE, Unwritable as UNWRITABLE, Room as ROOM}
 use Rattle.format.specs.declared.Verdict.{Verdict}
 use Rattle.format.specs.Numbers.{answerValue, Numbered}
@@ -23,18 +24,18 @@ use Rattle.scheduler.specs.Code.{codeOf}
 use Rattle.scheduler.specs.Records.{FIELDS}
 use Rattle.scheduler.specs.Stores.{storeWriteCode, storeWrittenRows, StoreEndsOf}
 
-pub store-list-small : (s out : List ℕ) → answerValue (storeListAnswer s out) ≤ 131073
+pub store-list-small : (profile : Profile) (s out : List ℕ) → answerValue (storeListAnswer profile s out) ≤ 131073
 unfolding answerValue storeListAnswer storeList
-store-list-small s out = go (shortcut s) refl
+store-list-small profile s out = go (shortcut profile s) refl
   where
     either : (w : List ℕ) (n : ℕ) → n ≤ 65536 → (b : Bool) → answerValue (verdictOf (cond b (got w n) (refused ROOM nowhere))) ≤ 131073
     either w n h true = omega arith
     either w n h false = omega arith
 
-    go : (o : Outcome Sections) → shortcut s ≡ o
+    go : (o : Outcome Sections) → shortcut profile s ≡ o
         → answerValue (verdictOf (andThen o (λ c n. tests noSection (leb (length (allNumbers (rowsOf s c))) (length out) else ROOM at 0 ∷ []) (got (allNumbers (rowsOf s c)) (length (rowsOf s c)))))) ≤ 131073
-    go (got c n) i = either (allNumbers (rowsOf s c)) (length (rowsOf s c)) (omega (arith, rows-few s c, (shortcut-whole s c n i) .limit)) (leb (length (allNumbers (rowsOf s c))) (length out))
-    go (refused f q) i = omega (arith, positions-small s f q i)
+    go (got c n) i = either (allNumbers (rowsOf s c)) (length (rowsOf s c)) (omega (arith, rows-few s c, (shortcut-whole profile s c n i) .limit)) (leb (length (allNumbers (rowsOf s c))) (length out))
+    go (refused f q) i = omega (arith, positions-small profile s f q i)
 
 -- what can be written is no longer than the longest store
 writable-few : (es : List Entry) → writableStore es ≡ true → length (storeBytes es) ≤ mostStore

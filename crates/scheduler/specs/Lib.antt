@@ -1,4 +1,5 @@
 pub mod Code
+pub mod Profiles
 pub mod Records
 pub mod Stores
 pub mod Paths

@@ -5,28 +5,29 @@ use mathlib.Core.List.{List}
 use mathlib.Core.Bool.{true, cond}
 use lib.ListN.{length}
 use lib.Dec.{eqb}
+use Rattle.format.specs.declared.Profile.{Profile}
 use Rattle.format.specs.declared.Verdict.{Verdict}
 use Rattle.format.specs.PathWriting.{pathAnswer, pathOutput, PathEnds}
 use Rattle.fields.specs.Fields.{fieldCount, areRecord, recordFrom}
 use Rattle.scheduler.specs.Code.{codeOf}
 use Rattle.scheduler.specs.Records.{FIELDS, VALUES}
 
-unfoldable pub pathCode : List ℕ → List ℕ → ℕ → List ℕ → List ℕ → List ℕ → ℕ
+unfoldable pub pathCode : Profile → List ℕ → List ℕ → ℕ → List ℕ → List ℕ → List ℕ → ℕ
 unfolding codeOf areRecord recordFrom pathAnswer
-pathCode f d signature text unicode out =
-    cond (eqb (length f) fieldCount) (cond (areRecord f) (codeOf (pathAnswer (recordFrom f) d signature text unicode out)) VALUES) FIELDS
+pathCode profile f d signature text unicode out =
+    cond (eqb (length f) fieldCount) (cond (areRecord f) (codeOf (pathAnswer profile (recordFrom f) d signature text unicode out)) VALUES) FIELDS
 
-unfoldable pub pathWritten : List ℕ → List ℕ → ℕ → List ℕ → List ℕ → List ℕ → List ℕ
+unfoldable pub pathWritten : Profile → List ℕ → List ℕ → ℕ → List ℕ → List ℕ → List ℕ → List ℕ
 unfolding areRecord recordFrom pathOutput
-pathWritten f d signature text unicode out =
-    cond (eqb (length f) fieldCount) (cond (areRecord f) (pathOutput (recordFrom f) d signature text unicode out) out) out
+pathWritten profile f d signature text unicode out =
+    cond (eqb (length f) fieldCount) (cond (areRecord f) (pathOutput profile (recordFrom f) d signature text unicode out) out) out
 
 -- how the call may end, by its verdict: the answer c is its code, and x is the lent buffer afterwards
-pub record PathCodeEnds (f d : List ℕ) (signature : ℕ) (text unicode out : List ℕ) (c : ℕ) (x : List ℕ) : Type 0 where
+pub record PathCodeEnds (profile : Profile) (f d : List ℕ) (signature : ℕ) (text unicode out : List ℕ) (c : ℕ) (x : List ℕ) : Type 0 where
   pub verdict : Verdict
   pub code : c ≡ codeOf verdict
-  pub ends : PathEnds (recordFrom f) d signature text unicode out verdict x
+  pub ends : PathEnds profile (recordFrom f) d signature text unicode out verdict x
 
 -- this of 49 fields that are a record
-abbrev pub PathEndsOf : List ℕ → List ℕ → ℕ → List ℕ → List ℕ → List ℕ → ℕ → List ℕ → Type 0
-PathEndsOf f d signature text unicode out c x = length f ≡ fieldCount → areRecord f ≡ true → PathCodeEnds f d signature text unicode out c x
+abbrev pub PathEndsOf : Profile → List ℕ → List ℕ → ℕ → List ℕ → List ℕ → List ℕ → ℕ → List ℕ → Type 0
+PathEndsOf profile f d signature text unicode out c x = length f ≡ fieldCount → areRecord f ≡ true → PathCodeEnds profile f d signature text unicode out c x

@@ -5,6 +5,7 @@ use mathlib.Core.List.{List}
 use mathlib.Core.Bool.{true, cond}
 use lib.ListN.{length}
 use lib.Dec.{eqb}
+use Rattle.format.specs.declared.Profile.{Profile}
 use Rattle.format.specs.declared.Verdict.{Verdict}
 use Rattle.format.specs.declared.Verdict.the-variants.{Accepted, Refused}
 use Rattle.format.specs.declared.Reading.{Reading}
@@ -27,28 +28,28 @@ abbrev pub filledBy : Verdict → Record → List ℕ → List ℕ
 filledBy (Accepted n) q f = fieldsOf q
 filledBy (Refused e p) q f = f
 
-unfoldable pub readCode : List ℕ → List ℕ → ℕ
+unfoldable pub readCode : Profile → List ℕ → List ℕ → ℕ
 unfolding codeOf reading
-readCode s f = cond (eqb (length f) fieldCount) (codeOf (reading s .verdict)) FIELDS
+readCode profile s f = cond (eqb (length f) fieldCount) (codeOf (reading profile s .verdict)) FIELDS
 
-unfoldable pub readFields : List ℕ → List ℕ → List ℕ
+unfoldable pub readFields : Profile → List ℕ → List ℕ → List ℕ
 unfolding reading fieldsOf
-readFields s f = cond (eqb (length f) fieldCount) (filledBy (reading s .verdict) (reading s .held) f) f
+readFields profile s f = cond (eqb (length f) fieldCount) (filledBy (reading profile s .verdict) (reading profile s .held) f) f
 
-unfoldable pub writeCode : List ℕ → List ℕ → List ℕ → ℕ
+unfoldable pub writeCode : Profile → List ℕ → List ℕ → List ℕ → ℕ
 unfolding codeOf areRecord recordFrom writeAnswer
-writeCode f d out = cond (eqb (length f) fieldCount) (cond (areRecord f) (codeOf (writeAnswer (recordFrom f) d out)) VALUES) FIELDS
+writeCode profile f d out = cond (eqb (length f) fieldCount) (cond (areRecord f) (codeOf (writeAnswer profile (recordFrom f) d out)) VALUES) FIELDS
 
-unfoldable pub writtenFields : List ℕ → List ℕ → List ℕ → List ℕ
+unfoldable pub writtenFields : Profile → List ℕ → List ℕ → List ℕ → List ℕ
 unfolding areRecord recordFrom writeOutput
-writtenFields f d out = cond (eqb (length f) fieldCount) (cond (areRecord f) (writeOutput (recordFrom f) d out) out) out
+writtenFields profile f d out = cond (eqb (length f) fieldCount) (cond (areRecord f) (writeOutput profile (recordFrom f) d out) out) out
 
 -- how writing from the fields of a record may end, by the writer's verdict: the answer c is its code, and x is the lent buffer afterwards
-pub record WriteEnds (f d out : List ℕ) (c : ℕ) (x : List ℕ) : Type 0 where
+pub record WriteEnds (profile : Profile) (f d out : List ℕ) (c : ℕ) (x : List ℕ) : Type 0 where
   pub verdict : Verdict
   pub code : c ≡ codeOf verdict
-  pub ends : Ends (recordFrom f) d out verdict x
+  pub ends : Ends profile (recordFrom f) d out verdict x
 
 -- this of 49 fields that are a record
-abbrev pub EndsOf : List ℕ → List ℕ → List ℕ → ℕ → List ℕ → Type 0
-EndsOf f d out c x = length f ≡ fieldCount → areRecord f ≡ true → WriteEnds f d out c x
+abbrev pub EndsOf : Profile → List ℕ → List ℕ → List ℕ → ℕ → List ℕ → Type 0
+EndsOf profile f d out c x = length f ≡ fieldCount → areRecord f ≡ true → WriteEnds profile f d out c x

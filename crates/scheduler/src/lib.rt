@@ -1,4 +1,5 @@
 // What the scheduler calls (FORMAT: The C answers): a number for each answer, its number and its value in one.
+use format::Profile;
 use format::Verdict;
 ghost use mathlib.Core.Path.{_≡_};
 ghost use Prim.Native.Nat.{_≤_};
@@ -10,6 +11,7 @@ ghost use Rattle.format.specs.Moving.{toUnicodeAnswer, toUnicodeOutput, toBytes
 ghost use Rattle.format.specs.Listing.{sectionPlace};
 ghost use Rattle.format.specs.StoreList.{storeListAnswer, storeListOutput};
 ghost use Rattle.scheduler.specs.Code.{codeOf, faultCode, sectionCode};
+ghost use Rattle.scheduler.specs.Profiles.{PROFILE, profileOf, underProfile};
 ghost use Rattle.scheduler.specs.Records.{readCode, readFields, writeCode, writtenFields, EndsOf};
 ghost use Rattle.scheduler.specs.Stores.{storeWriteCode, storeWrittenRows, StoreEndsOf};
 ghost use Rattle.scheduler.specs.Paths.{pathCode, pathWritten, PathEndsOf};
@@ -24,19 +26,35 @@ fn code_of(v: Verdict) -> u64
     }
 }
 
-#[no_mangle]
-pub extern "C" fn herringnet_check(s: &[u8]) -> u64
-    ensures { λ r. ⌜ r ≡ codeOf (reading (now (s .entry)) .verdict) ⌝ }
+// Of 0 and 1.
+fn profile_of(n: u32) -> Profile
+    ensures { λ r. ⌜ r ≡ profileOf n ⌝ }
 {
-    let v = reader::check(s);
+    if n == 0 {
+        return Profile::Strict;
+    }
+    Profile::NinetyFive
+}
+
+#[no_mangle]
+pub extern "C" fn herringnet_check(s: &[u8], profile: u32) -> u64
+    ensures { λ r. ⌜ r ≡ underProfile profile (λ p. codeOf (reading p (now (s .entry)) .verdict)) PROFILE ⌝ }
+{
+    if 1 < profile {
+        return 203;
+    }
+    let v = reader::check(s, profile_of(profile));
     code_of(v)
 }
 
 #[no_mangle]
-pub extern "C" fn herringnet_fault(s: &[u8]) -> u64
-    ensures { λ r. ⌜ r ≡ faultCode (faulted (now (s .entry))) ⌝ }
+pub extern "C" fn herringnet_fault(s: &[u8], profile: u32) -> u64
+    ensures { λ r. ⌜ r ≡ underProfile profile (λ p. faultCode (faulted p (now (s .entry)))) PROFILE ⌝ }
 {
-    let g = reader::fault(s);
+    if 1 < profile {
+        return 203;
+    }
+    let g = reader::fault(s, profile_of(profile));
     let v = g.verdict;
     let Verdict::Refused(f, p) = v else {
         return 0;
@@ -46,58 +64,76 @@ pub extern "C" fn herringnet_fault(s: &[u8]) -> u64
 }
 
 #[no_mangle]
-pub extern "C" fn herringnet_target(s: &[u8], out: &mut [u8]) -> u64
-    ensures answer { λ r. ⌜ r ≡ codeOf (targetAnswer (now (s .entry)) (now (out .entry))) ⌝ }
-    ensures output { λ _. ⌜ now (out .exit) ≡ targetOutput (now (s .entry)) (now (out .entry)) ⌝ }
+pub extern "C" fn herringnet_target(s: &[u8], out: &mut [u8], profile: u32) -> u64
+    ensures answer { λ r. ⌜ r ≡ underProfile profile (λ p. codeOf (targetAnswer p (now (s .entry)) (now (out .entry)))) PROFILE ⌝ }
+    ensures output { λ _. ⌜ now (out .exit) ≡ underProfile profile (λ p. targetOutput p (now (s .entry)) (now (out .entry))) (now (out .entry)) ⌝ }
 {
-    let v = target::target(s, out);
+    if 1 < profile {
+        return 203;
+    }
+    let v = target::target(s, out, profile_of(profile));
     code_of(v)
 }
 
 #[no_mangle]
-pub extern "C" fn herringnet_key(s: &[u8], out: &mut [u8]) -> u64
-    ensures answer { λ r. ⌜ r ≡ codeOf (keyAnswer (now (s .entry)) (now (out .entry))) ⌝ }
-    ensures output { λ _. ⌜ now (out .exit) ≡ keyOutput (now (s .entry)) (now (out .entry)) ⌝ }
+pub extern "C" fn herringnet_key(s: &[u8], out: &mut [u8], profile: u32) -> u64
+    ensures answer { λ r. ⌜ r ≡ underProfile profile (λ p. codeOf (keyAnswer p (now (s .entry)) (now (out .entry)))) PROFILE ⌝ }
+    ensures output { λ _. ⌜ now (out .exit) ≡ underProfile profile (λ p. keyOutput p (now (s .entry)) (now (out .entry))) (now (out .entry)) ⌝ }
 {
-    let v = keying::key(s, out);
+    if 1 < profile {
+        return 203;
+    }
+    let v = keying::key(s, out, profile_of(profile));
     code_of(v)
 }
 
 #[no_mangle]
-pub extern "C" fn herringnet_to_unicode(s: &[u8], out: &mut [u8]) -> u64
-    ensures answer { λ r. ⌜ r ≡ codeOf (toUnicodeAnswer (now (s .entry)) (now (out .entry))) ⌝ }
-    ensures output { λ _. ⌜ now (out .exit) ≡ toUnicodeOutput (now (s .entry)) (now (out .entry)) ⌝ }
+pub extern "C" fn herringnet_to_unicode(s: &[u8], out: &mut [u8], profile: u32) -> u64
+    ensures answer { λ r. ⌜ r ≡ underProfile profile (λ p. codeOf (toUnicodeAnswer p (now (s .entry)) (now (out .entry)))) PROFILE ⌝ }
+    ensures output { λ _. ⌜ now (out .exit) ≡ underProfile profile (λ p. toUnicodeOutput p (now (s .entry)) (now (out .entry))) (now (out .entry)) ⌝ }
 {
-    let v = moving::to_unicode(s, out);
+    if 1 < profile {
+        return 203;
+    }
+    let v = moving::to_unicode(s, out, profile_of(profile));
     code_of(v)
 }
 
 #[no_mangle]
-pub extern "C" fn herringnet_to_bytes(s: &[u8], out: &mut [u8]) -> u64
-    ensures answer { λ r. ⌜ r ≡ codeOf (toBytesAnswer (now (s .entry)) (now (out .entry))) ⌝ }
-    ensures output { λ _. ⌜ now (out .exit) ≡ toBytesOutput (now (s .entry)) (now (out .entry)) ⌝ }
+pub extern "C" fn herringnet_to_bytes(s: &[u8], out: &mut [u8], profile: u32) -> u64
+    ensures answer { λ r. ⌜ r ≡ underProfile profile (λ p. codeOf (toBytesAnswer p (now (s .entry)) (now (out .entry)))) PROFILE ⌝ }
+    ensures output { λ _. ⌜ now (out .exit) ≡ underProfile profile (λ p. toBytesOutput p (now (s .entry)) (now (out .entry))) (now (out .entry)) ⌝ }
 {
-    let v = moving::to_bytes(s, out);
+    if 1 < profile {
+        return 203;
+    }
+    let v = moving::to_bytes(s, out, profile_of(profile));
     code_of(v)
 }
 
 #[no_mangle]
-pub extern "C" fn herringnet_section(s: &[u8], name: u32, block: usize) -> u64
-    ensures { λ r. ⌜ r ≡ sectionCode (sectionPlace (now (s .entry)) name block) ⌝ }
+pub extern "C" fn herringnet_section(s: &[u8], name: u32, block: usize, profile: u32) -> u64
+    ensures { λ r. ⌜ r ≡ underProfile profile (λ p. sectionCode (sectionPlace p (now (s .entry)) name block)) PROFILE ⌝ }
 {
-    let b = shown::section_place(s, name, block);
+    if 1 < profile {
+        return 203;
+    }
+    let b = shown::section_place(s, name, block, profile_of(profile));
     256 * (b.at as u64 + 65537 * (b.len as u64))
 }
 
 #[no_mangle]
-pub extern "C" fn herringnet_read(s: &[u8], f: &mut [u64]) -> u64
-    ensures answer { λ r. ⌜ r ≡ readCode (now (s .entry)) (now (f .entry)) ⌝ }
-    ensures output { λ _. ⌜ now (f .exit) ≡ readFields (now (s .entry)) (now (f .entry)) ⌝ }
+pub extern "C" fn herringnet_read(s: &[u8], f: &mut [u64], profile: u32) -> u64
+    ensures answer { λ r. ⌜ r ≡ underProfile profile (λ p. readCode p (now (s .entry)) (now (f .entry))) PROFILE ⌝ }
+    ensures output { λ _. ⌜ now (f .exit) ≡ underProfile profile (λ p. readFields p (now (s .entry)) (now (f .entry))) (now (f .entry)) ⌝ }
 {
+    if 1 < profile {
+        return 203;
+    }
     if f.len() != 49 {
         return 201;
     }
-    let g = reader::read(s);
+    let g = reader::read(s, profile_of(profile));
     let v = g.verdict;
     let q = g.held;
     let Verdict::Accepted(n) = v else {
@@ -108,11 +144,14 @@ pub extern "C" fn herringnet_read(s: &[u8], f: &mut [u64]) -> u64
 }
 
 #[no_mangle]
-pub extern "C" fn herringnet_write(f: &[u64], d: &[u8], out: &mut [u8]) -> u64
-    ensures answer { λ r. ⌜ r ≡ writeCode (now (f .entry)) (now (d .entry)) (now (out .entry)) ⌝ }
-    ensures output { λ _. ⌜ now (out .exit) ≡ writtenFields (now (f .entry)) (now (d .entry)) (now (out .entry)) ⌝ }
-    ensures least { λ r. ⌜ EndsOf (now (f .entry)) (now (d .entry)) (now (out .entry)) r (now (out .exit)) ⌝ }
+pub extern "C" fn herringnet_write(f: &[u64], d: &[u8], out: &mut [u8], profile: u32) -> u64
+    ensures answer { λ r. ⌜ r ≡ underProfile profile (λ p. writeCode p (now (f .entry)) (now (d .entry)) (now (out .entry))) PROFILE ⌝ }
+    ensures output { λ _. ⌜ now (out .exit) ≡ underProfile profile (λ p. writtenFields p (now (f .entry)) (now (d .entry)) (now (out .entry))) (now (out .entry)) ⌝ }
+    ensures least { λ r. ⌜ (profile ≤ 1 → EndsOf (profileOf profile) (now (f .entry)) (now (d .entry)) (now (out .entry)) r (now (out .exit))) ⌝ }
 {
+    if 1 < profile {
+        return 203;
+    }
     if f.len() != 49 {
         return 201;
     }
@@ -120,16 +159,19 @@ pub extern "C" fn herringnet_write(f: &[u64], d: &[u8], out: &mut [u8]) -> u64
         return 202;
     }
     let q = fields::record_from(f);
-    let v = writer::write(q, d, out);
+    let v = writer::write(q, d, out, profile_of(profile));
     code_of(v)
 }
 
 #[no_mangle]
-pub extern "C" fn herringnet_store_list(s: &[u8], rows: &mut [u64]) -> u64
-    ensures answer { λ r. ⌜ r ≡ codeOf (storeListAnswer (now (s .entry)) (now (rows .entry))) ⌝ }
-    ensures output { λ _. ⌜ now (rows .exit) ≡ storeListOutput (now (s .entry)) (now (rows .entry)) ⌝ }
+pub extern "C" fn herringnet_store_list(s: &[u8], rows: &mut [u64], profile: u32) -> u64
+    ensures answer { λ r. ⌜ r ≡ underProfile profile (λ p. codeOf (storeListAnswer p (now (s .entry)) (now (rows .entry)))) PROFILE ⌝ }
+    ensures output { λ _. ⌜ now (rows .exit) ≡ underProfile profile (λ p. storeListOutput p (now (s .entry)) (now (rows .entry))) (now (rows .entry)) ⌝ }
 {
-    let v = storing::store_list(s, rows);
+    if 1 < profile {
+        return 203;
+    }
+    let v = storing::store_list(s, rows, profile_of(profile));
     code_of(v)
 }
 
@@ -154,11 +196,15 @@ pub extern "C" fn herringnet_path_block(
     text: &[u8],
     unicode: &[u8],
     out: &mut [u8],
+    profile: u32,
 ) -> u64
-    ensures answer { λ r. ⌜ r ≡ pathCode (now (f .entry)) (now (d .entry)) signature (now (text .entry)) (now (unicode .entry)) (now (out .entry)) ⌝ }
-    ensures output { λ _. ⌜ now (out .exit) ≡ pathWritten (now (f .entry)) (now (d .entry)) signature (now (text .entry)) (now (unicode .entry)) (now (out .entry)) ⌝ }
-    ensures least { λ r. ⌜ PathEndsOf (now (f .entry)) (now (d .entry)) signature (now (text .entry)) (now (unicode .entry)) (now (out .entry)) r (now (out .exit)) ⌝ }
+    ensures answer { λ r. ⌜ r ≡ underProfile profile (λ p. pathCode p (now (f .entry)) (now (d .entry)) signature (now (text .entry)) (now (unicode .entry)) (now (out .entry))) PROFILE ⌝ }
+    ensures output { λ _. ⌜ now (out .exit) ≡ underProfile profile (λ p. pathWritten p (now (f .entry)) (now (d .entry)) signature (now (text .entry)) (now (unicode .entry)) (now (out .entry))) (now (out .entry)) ⌝ }
+    ensures least { λ r. ⌜ (profile ≤ 1 → PathEndsOf (profileOf profile) (now (f .entry)) (now (d .entry)) signature (now (text .entry)) (now (unicode .entry)) (now (out .entry)) r (now (out .exit))) ⌝ }
 {
+    if 1 < profile {
+        return 203;
+    }
     if f.len() != 49 {
         return 201;
     }
@@ -166,6 +212,6 @@ pub extern "C" fn herringnet_path_block(
         return 202;
     }
     let q = fields::record_from(f);
-    let v = pathing::path_block(q, d, signature, text, unicode, out);
+    let v = pathing::path_block(q, d, signature, text, unicode, out, profile_of(profile));
     code_of(v)
 }

@@ -10,6 +10,7 @@ use borrow.Author.Tests.{leb-true, leb-false, eq-eqb, ne-eqb}
 use Rattle.octets.specs.Steps.Puts.{part}
 use Rattle.octets.specs.declared.Cursor.{Cursor}
 use Rattle.octets.proofs.PartLaws.{part-in}
+use Rattle.format.specs.declared.Profile.{Profile}
 use Rattle.format.specs.declared.Fault.{Fault}
 use Rattle.format.specs.declared.Fault.the-variants.{Long as LONG, Trail as TRAIL}
 use Rattle.format.specs.declared.Header.{Header}
@@ -78,43 +79,43 @@ the-terminal p (n ∷ ns) = let z : p + n + sum ns ≡ p + (n + sum ns) = omega 
 
 -- ---- what the outline says of the listing
 
-data Cases (s : List ℕ) (o : Outline) : Type 0 where
-  stopped : (f : Fault) (q : Spot) → o .next ≡ Off f q → shortcut s ≡ refused f q → Cases s o
-  went : (h : Header) → length s ≤ most → header 0 s ≡ got h 76 → o ≡ outline s h → Cases s o
+data Cases (profile : Profile) (s : List ℕ) (o : Outline) : Type 0 where
+  stopped : (f : Fault) (q : Spot) → o .next ≡ Off f q → shortcut profile s ≡ refused f q → Cases profile s o
+  went : (h : Header) → length s ≤ most → header profile 0 s ≡ got h 76 → o ≡ outline profile s h → Cases profile s o
 
-cases : (s : List ℕ) (o : Outline) → o ≡ outlineOf s → Cases s o
+cases : (profile : Profile) (s : List ℕ) (o : Outline) → o ≡ outlineOf profile s → Cases profile s o
 unfolding outlineOf outlineOff
-cases s o e = go (leb (length s) most) refl e
+cases profile s o e = go (leb (length s) most) refl e
   where
-    after : length s ≤ most → (t : HeaderTaken) → t ≡ headerAt s → o ≡ outlineAfter s t → Cases s o
-    after k (Got h c) i x = let g = header-got s i refl in went h k (g .is) (x ∙ ap (outlineFrom s h) (g .cursor))
-    after k (Refused f q) i x = stopped f q (ap (λ (y : Outline). y .next) x) (header-refused-shortcut s k (header-refused s i refl))
+    after : length s ≤ most → (t : HeaderTaken) → t ≡ headerAt profile s → o ≡ outlineAfter profile s t → Cases profile s o
+    after k (Got h c) i x = let g = header-got profile s i refl in went h k (g .is) (x ∙ ap (outlineFrom profile s h) (g .cursor))
+    after k (Refused f q) i x = stopped f q (ap (λ (y : Outline). y .next) x) (header-refused-shortcut profile s k (header-refused profile s i refl))
 
-    go : (b : Bool) → leb (length s) most ≡ b → o ≡ cond b (outlineAfter s (headerAt s)) (outlineOff LONG (spotAt noSection most)) → Cases s o
-    go true k x = after (leb-true (length s) most k) (headerAt s) refl x
-    go false k x = stopped LONG (spotAt noSection most) (ap (λ (y : Outline). y .next) x) (long-shortcut s (leb-false (length s) most k))
+    go : (b : Bool) → leb (length s) most ≡ b → o ≡ cond b (outlineAfter profile s (headerAt profile s)) (outlineOff LONG (spotAt noSection most)) → Cases profile s o
+    go true k x = after (leb-true (length s) most k) (headerAt profile s) refl x
+    go false k x = stopped LONG (spotAt noSection most) (ap (λ (y : Outline). y .next) x) (long-shortcut profile s (leb-false (length s) most k))
 
-refused-listing : (s : List ℕ) {f : Fault} {q : Spot} → shortcut s ≡ refused f q → listing s ≡ []
+refused-listing : (profile : Profile) (s : List ℕ) {f : Fault} {q : Spot} → shortcut profile s ≡ refused f q → listing profile s ≡ []
 unfolding listing
-refused-listing s e = rw e
+refused-listing profile s e = rw e
 
-pub off-listing : (s : List ℕ) (o : Outline) {f : Fault} {q : Spot} → o ≡ outlineOf s → o .next ≡ Off f q → listing s ≡ []
-off-listing s o {f} {q} e k = go (cases s o e)
+pub off-listing : (profile : Profile) (s : List ℕ) (o : Outline) {f : Fault} {q : Spot} → o ≡ outlineOf profile s → o .next ≡ Off f q → listing profile s ≡ []
+off-listing profile s o {f} {q} e k = go (cases profile s o e)
   where
-    go : Cases s o → listing s ≡ []
-    go (stopped g p i j) = refused-listing s j
-    go (went h l i x) = refused-listing s (shortcut-refused s l (sections-refused s h i ((outline-runs s h) .off f q (ap (λ (y : Outline). y .next) (sym x) ∙ k))))
+    go : Cases profile s o → listing profile s ≡ []
+    go (stopped g p i j) = refused-listing profile s j
+    go (went h l i x) = refused-listing profile s (shortcut-refused profile s l (sections-refused profile s h i ((outline-runs profile s h) .off f q (ap (λ (y : Outline). y .next) (sym x) ∙ k))))
 
-pub trail-listing : (s : List ℕ) (o : Outline) (c : Cursor) → o ≡ outlineOf s → o .next ≡ On c → (c .at ≡ length s → ⊥) → listing s ≡ []
-trail-listing s o c e k d = go (cases s o e)
+pub trail-listing : (profile : Profile) (s : List ℕ) (o : Outline) (c : Cursor) → o ≡ outlineOf profile s → o .next ≡ On c → (c .at ≡ length s → ⊥) → listing profile s ≡ []
+trail-listing profile s o c e k d = go (cases profile s o e)
   where
-    go : Cases s o → listing s ≡ []
-    go (stopped g p i j) = refused-listing s j
+    go : Cases profile s o → listing profile s ≡ []
+    go (stopped g p i j) = refused-listing profile s j
     go (went h l i x) =
-        let r = (outline-runs s h) .on c (ap (λ (y : Outline). y .next) (sym x) ∙ k) in
+        let r = (outline-runs profile s h) .on c (ap (λ (y : Outline). y .next) (sym x) ∙ k) in
         let n : 76 + r .count ≡ c .at = r .ends in
-        let z : shortcut s ≡ refused TRAIL (spotAt (section 9 (c .at - 4)) 4) = shortcut-ends s l (sections-got s h i (r .is)) ∙ rw (n, ne-eqb (c .at) (length s) d) in
-        refused-listing s z
+        let z : shortcut profile s ≡ refused TRAIL (spotAt (section 9 (c .at - 4)) 4) = shortcut-ends profile s l (sections-got profile s h i (r .is)) ∙ rw (n, ne-eqb (c .at) (length s) d) in
+        refused-listing profile s z
 
 -- the rows of an accepted shortcut
 abbrev rowsFrom : Outline → List ℕ → List Row
@@ -129,26 +130,26 @@ rowsFrom o ns =
     ++ (row 6 (sectionOf (stringThere argumentsBit f) (o .ends .workdir) (o .ends .arguments) (tt {0}))
     ++ (row 7 (sectionOf (stringThere iconBit f) (o .ends .arguments) (o .ends .icon) (tt {0})) ++ blockRows (o .ends .icon) ns)))))))
 
-pub record AllRows (s : List ℕ) (o : Outline) : Type 0 where
+pub record AllRows (profile : Profile) (s : List ℕ) (o : Outline) : Type 0 where
   pub lengths : List ℕ
   pub count : ℕ
   pub is : blocks (o .ends .icon) (drop (o .ends .icon) s) ≡ got lengths count
   pub last : o .ends .icon + count ≡ length s
-  pub rows : listing s ≡ rowsFrom o lengths
+  pub rows : listing profile s ≡ rowsFrom o lengths
 
-accepted-listing : (s : List ℕ) {c : Sections} {n : ℕ} → shortcut s ≡ got c n → listing s ≡ rowsOf c
+accepted-listing : (profile : Profile) (s : List ℕ) {c : Sections} {n : ℕ} → shortcut profile s ≡ got c n → listing profile s ≡ rowsOf c
 unfolding listing
-accepted-listing s e = rw e
+accepted-listing profile s e = rw e
 
-outlined-rows : (s : List ℕ) (h : Header) (v : Tail) → Outlined s h (outline s h) v → rowsOf (headerSection h, v) ≡ rowsFrom (outline s h) (blocksIn v .read)
-outlined-rows s h v F =
-    let e = header-held s h in
+outlined-rows : (profile : Profile) (s : List ℕ) (h : Header) (v : Tail) → Outlined s h (outline profile s h) v → rowsOf (headerSection h, v) ≡ rowsFrom (outline profile s h) (blocksIn v .read)
+outlined-rows profile s h v F =
+    let e = header-held profile s h in
     let f = h .flags in
-    let o = outline s h .ends in
+    let o = outline profile s h .ends in
     rw (
       e,
       F .items,
-      row-any 1 (itemsThere f) 76 (o .items) (placeIn (outline s h .held) itemsSlot),
+      row-any 1 (itemsThere f) 76 (o .items) (placeIn (outline profile s h .held) itemsSlot),
       F .info,
       row-any 2 (infoThere f) (o .items) (o .info) (F .read),
       F .name,
@@ -165,32 +166,32 @@ outlined-rows s h v F =
     )
   where
     string : ℕ → Place
-    string k = placeIn (outline s h .held) (stringSlot k)
+    string k = placeIn (outline profile s h .held) (stringSlot k)
 
     -- whatever it holds
     row-any : {A : Type 0} (k : ℕ) (b : Bool) (p e : ℕ) (a : A) → row k (sectionOf b p e a) ≡ row k (sectionOf {A = Unit {0}} b p e tt)
     row-any k true p e a = refl
     row-any k false p e a = refl
 
-pub all-rows : (s : List ℕ) (o : Outline) (c : Cursor) → o ≡ outlineOf s → o .next ≡ On c → c .at ≡ length s → AllRows s o
+pub all-rows : (profile : Profile) (s : List ℕ) (o : Outline) (c : Cursor) → o ≡ outlineOf profile s → o .next ≡ On c → c .at ≡ length s → AllRows profile s o
 unfolding atOf
-all-rows s o c e k d = go (cases s o e)
+all-rows profile s o c e k d = go (cases profile s o e)
   where
-    go : Cases s o → AllRows s o
+    go : Cases profile s o → AllRows profile s o
     go (stopped g p i j) = absurd (on-not-off k i)
     go (went h l i x) =
-        let y : outline s h .next ≡ On c = ap (λ (y : Outline). y .next) (sym x) ∙ k in
-        let r = (outline-runs s h) .on c y in
+        let y : outline profile s h .next ≡ On c = ap (λ (y : Outline). y .next) (sym x) ∙ k in
+        let r = (outline-runs profile s h) .on c y in
         let n : 76 + r .count ≡ c .at = r .ends in
         let F = r .fact in
-        let z : shortcut s ≡ got (headerSection h, r .value) (c .at) = shortcut-ends s l (sections-got s h i (r .is)) ∙ rw (n, eq-eqb (c .at) (length s) d) in
+        let z : shortcut profile s ≡ got (headerSection h, r .value) (c .at) = shortcut-ends profile s l (sections-got profile s h i (r .is)) ∙ rw (n, eq-eqb (c .at) (length s) d) in
         rw x
         (record {
           lengths = blocksIn (r .value) .read;
           count = blocksIn (r .value) .len;
           is = F .blocks .is;
           last = F .blocks .last ∙ ap atOf y ∙ d;
-          rows = accepted-listing s z ∙ outlined-rows s h (r .value) F;
+          rows = accepted-listing profile s z ∙ outlined-rows profile s h (r .value) F;
         })
 
 -- ---- the place of each name
@@ -204,75 +205,75 @@ unfolding between
 nth-section j true p e a = refl
 nth-section j false p e a = refl
 
-module _ (s : List ℕ) (block : ℕ) where
-  pub none-place : (name : ℕ) → listing s ≡ [] → noPlace ≡ sectionPlace s name block
+module _ (profile : Profile) (s : List ℕ) (block : ℕ) where
+  pub none-place : (name : ℕ) → listing profile s ≡ [] → noPlace ≡ sectionPlace profile s name block
   unfolding sectionPlace
   none-place name e = rw e
 
-  module _ (o : Outline) (R : AllRows s o) where
+  module _ (o : Outline) (R : AllRows profile s o) where
     abbrev f : ℕ
     f = o .held .header .flags
 
     low : (k : ℕ) → k < 8 → named k (blockRows (o .ends .icon) (R .lengths)) ≡ []
     low k h = no-blocks k (o .ends .icon) (R .lengths) (λ e. omega arith) (λ e. omega arith)
 
-    pub place-0 : place 0 76 ≡ sectionPlace s 0 block
+    pub place-0 : place 0 76 ≡ sectionPlace profile s 0 block
     unfolding sectionPlace
     place-0 = rw (R .rows)
 
-    pub place-1 : between (itemsThere f) 76 (o .ends .items) ≡ sectionPlace s 1 block
+    pub place-1 : between (itemsThere f) 76 (o .ends .items) ≡ sectionPlace profile s 1 block
     unfolding sectionPlace
     place-1 = rw (R .rows) (simp (named-append, named-row, low 1 (omega arith), append-nil) (sym (nth-section 1 (itemsThere f) 76 (o .ends .items) (tt {0}))))
 
-    pub place-2 : between (infoThere f) (o .ends .items) (o .ends .info) ≡ sectionPlace s 2 block
+    pub place-2 : between (infoThere f) (o .ends .items) (o .ends .info) ≡ sectionPlace profile s 2 block
     unfolding sectionPlace
     place-2 =
         rw (R .rows)
         (simp (named-append, named-row, low 2 (omega arith), append-nil) (sym (nth-section 2 (infoThere f) (o .ends .items) (o .ends .info) (tt {0}))))
 
-    pub place-3 : between (stringThere nameBit f) (o .ends .info) (o .ends .name) ≡ sectionPlace s 3 block
+    pub place-3 : between (stringThere nameBit f) (o .ends .info) (o .ends .name) ≡ sectionPlace profile s 3 block
     unfolding sectionPlace
     place-3 =
         rw (R .rows)
         (simp (named-append, named-row, low 3 (omega arith), append-nil) (sym (nth-section 3 (stringThere nameBit f) (o .ends .info) (o .ends .name) (tt {0}))))
 
-    pub place-4 : between (stringThere relativeBit f) (o .ends .name) (o .ends .relative) ≡ sectionPlace s 4 block
+    pub place-4 : between (stringThere relativeBit f) (o .ends .name) (o .ends .relative) ≡ sectionPlace profile s 4 block
     unfolding sectionPlace
     place-4 =
         rw (R .rows)
         (simp (named-append, named-row, low 4 (omega arith), append-nil) (sym (nth-section 4 (stringThere relativeBit f) (o .ends .name) (o .ends .relative) (tt {0}))))
 
-    pub place-5 : between (stringThere workdirBit f) (o .ends .relative) (o .ends .workdir) ≡ sectionPlace s 5 block
+    pub place-5 : between (stringThere workdirBit f) (o .ends .relative) (o .ends .workdir) ≡ sectionPlace profile s 5 block
     unfolding sectionPlace
     place-5 =
         rw (R .rows)
         (simp (named-append, named-row, low 5 (omega arith), append-nil) (sym (nth-section 5 (stringThere workdirBit f) (o .ends .relative) (o .ends .workdir) (tt {0}))))
 
-    pub place-6 : between (stringThere argumentsBit f) (o .ends .workdir) (o .ends .arguments) ≡ sectionPlace s 6 block
+    pub place-6 : between (stringThere argumentsBit f) (o .ends .workdir) (o .ends .arguments) ≡ sectionPlace profile s 6 block
     unfolding sectionPlace
     place-6 =
         rw (R .rows)
         (simp (named-append, named-row, low 6 (omega arith), append-nil) (sym (nth-section 6 (stringThere argumentsBit f) (o .ends .workdir) (o .ends .arguments) (tt {0}))))
 
-    pub place-7 : between (stringThere iconBit f) (o .ends .arguments) (o .ends .icon) ≡ sectionPlace s 7 block
+    pub place-7 : between (stringThere iconBit f) (o .ends .arguments) (o .ends .icon) ≡ sectionPlace profile s 7 block
     unfolding sectionPlace
     place-7 =
         rw (R .rows)
         (simp (named-append, named-row, low 7 (omega arith), append-nil) (sym (nth-section 7 (stringThere iconBit f) (o .ends .arguments) (o .ends .icon) (tt {0}))))
 
-    pub place-8 : {b : Place} → b ≡ nthBlock s (o .ends .icon) block → b ≡ sectionPlace s 8 block
+    pub place-8 : {b : Place} → b ≡ nthBlock s (o .ends .icon) block → b ≡ sectionPlace profile s 8 block
     unfolding sectionPlace
     place-8 e =
         rw (R .rows) (nth-of e .is [] (R .lengths) (R .count) (R .is) ∙ simp (named-append, named-row) (sym (nth-block block (o .ends .icon) (R .lengths))))
 
-    pub place-9 : place (length s - 4) 4 ≡ sectionPlace s 9 block
+    pub place-9 : place (length s - 4) 4 ≡ sectionPlace profile s 9 block
     unfolding sectionPlace
     place-9 =
         let w = blocks-walked [] (o .ends .icon) (drop (o .ends .icon) s) (R .lengths) (R .count) (R .is) in
         let z : length s - 4 ≡ o .ends .icon + sum (R .lengths) = omega (arith, w .adds, R .last) in
         rw (R .rows, z) (simp (named-append, named-row, the-terminal))
 
-    pub place-more : (name : ℕ) → Other name → noPlace ≡ sectionPlace s name block
+    pub place-more : (name : ℕ) → Other name → noPlace ≡ sectionPlace profile s name block
     unfolding sectionPlace
     place-more name n =
         let e : named name (rowsFrom o (R .lengths)) ≡ []
@@ -305,24 +306,24 @@ nth-inside j k p q (x ∷ xs) e = go (λ i. nth-inside i k (p + x .len) q xs (e 
     go rest true (suc i) = rest i
     go rest false i = rest i
 
-section-inside : (s : List ℕ) (name block : ℕ) → Ends≤ (length s) (sectionPlace s name block)
+section-inside : (profile : Profile) (s : List ℕ) (name block : ℕ) → Ends≤ (length s) (sectionPlace profile s name block)
 unfolding sectionPlace listing
-section-inside s name block = go (shortcut s) refl
+section-inside profile s name block = go (shortcut profile s) refl
   where
-    go : (o : Outcome Sections) → shortcut s ≡ o → Ends≤ (length s) (nth (cond (eqb name 8) block 0) (named name (rowsBy (shortcut s))))
+    go : (o : Outcome Sections) → shortcut profile s ≡ o → Ends≤ (length s) (nth (cond (eqb name 8) block 0) (named name (rowsBy (shortcut profile s))))
     go (got c n) i =
-        let w = shortcut-whole s c n i in
-        rw i (nth-inside (cond (eqb name 8) block 0) name 0 (length s) (rowsOf c) (rw (w .all) at (read-end-to-end s c n (w .read))))
+        let w = shortcut-whole profile s c n i in
+        rw i (nth-inside (cond (eqb name 8) block 0) name 0 (length s) (rowsOf c) (rw (w .all) at (read-end-to-end profile s c n (w .read))))
     go (refused f p) i = rw i (omega arith)
 
-pub section-shown : (s : List ℕ) (name block : ℕ) {b : Place} {r : List ℕ} → b ≡ sectionPlace s name block → r ≡ part s (b .at) (b .len) → r ≡ sectionBytes s name block
+pub section-shown : (profile : Profile) (s : List ℕ) (name block : ℕ) {b : Place} {r : List ℕ} → b ≡ sectionPlace profile s name block → r ≡ part s (b .at) (b .len) → r ≡ sectionBytes profile s name block
 unfolding sectionBytes
-section-shown s name block {b} e p = p ∙ sym (part-in s (b .at) (b .len) (rw e (section-inside s name block))) ∙ rw e
+section-shown profile s name block {b} e p = p ∙ sym (part-in s (b .at) (b .len) (rw e (section-inside profile s name block))) ∙ rw e
 
 -- for a caller that puts place and length in one number
-pub section-small : (s : List ℕ) (name block : ℕ) {b : Place} → b ≡ sectionPlace s name block → b .at + b .len ≤ 65536
-section-small s name block {b} e = go (shortcut s) refl
+pub section-small : (profile : Profile) (s : List ℕ) (name block : ℕ) {b : Place} → b ≡ sectionPlace profile s name block → b .at + b .len ≤ 65536
+section-small profile s name block {b} e = go (shortcut profile s) refl
   where
-    go : (o : Outcome Sections) → shortcut s ≡ o → b .at + b .len ≤ 65536
-    go (got c n) i = let h = section-inside s name block in let l = (shortcut-whole s c n i) .limit in rw e (omega (arith, h, l))
-    go (refused f p) i = rw (e, ← (none-place s block name (refused-listing s i))) (omega arith)
+    go : (o : Outcome Sections) → shortcut profile s ≡ o → b .at + b .len ≤ 65536
+    go (got c n) i = let h = section-inside profile s name block in let l = (shortcut-whole profile s c n i) .limit in rw e (omega (arith, h, l))
+    go (refused f p) i = rw (e, ← (none-place profile s block name (refused-listing profile s i))) (omega arith)

@@ -1,5 +1,6 @@
 // A section asked for by name, shown as the caller's own bytes.
 use format::Place;
+use format::Profile;
 use reader::Next;
 use reader::Outline;
 ghost use mathlib.Core.Path.{_≡_};
@@ -31,9 +32,9 @@ fn between(there: bool, p: usize, e: usize) -> Place
 }
 
 // By the outline, which is all that the sections' places need.
-fn place_in(s: &[u8], o: Outline, name: u32, block: usize) -> Place
-    requires { ⌜ o ≡ outlineOf (now s) ⌝ }
-    ensures { λ r. ⌜ r ≡ sectionPlace (now (s .entry)) name block ⌝ }
+fn place_in(s: &[u8], o: Outline, name: u32, block: usize, profile: Profile) -> Place
+    requires { ⌜ o ≡ outlineOf profile (now s) ⌝ }
+    ensures { λ r. ⌜ r ≡ sectionPlace profile (now (s .entry)) name block ⌝ }
 {
     let next = o.next;
     let Next::On(c) = next else {
@@ -63,15 +64,15 @@ fn place_in(s: &[u8], o: Outline, name: u32, block: usize) -> Place
 }
 
 // Where the section stands, all of it, as listed; the empty place where it is absent, refused or unknown.
-pub fn section_place(s: &[u8], name: u32, block: usize) -> Place
-    ensures { λ r. ⌜ r ≡ sectionPlace (now (s .entry)) name block ⌝ }
+pub fn section_place(s: &[u8], name: u32, block: usize, profile: Profile) -> Place
+    ensures { λ r. ⌜ r ≡ sectionPlace profile (now (s .entry)) name block ⌝ }
 {
-    place_in(s, reader::outline_of(s), name, block)
+    place_in(s, reader::outline_of(s, profile), name, block, profile)
 }
 
-pub fn section(s: &[u8], name: u32, block: usize) -> &[u8]
-    ensures { λ r. ⌜ now r ≡ sectionBytes (now (s .entry)) name block ⌝ }
+pub fn section(s: &[u8], name: u32, block: usize, profile: Profile) -> &[u8]
+    ensures { λ r. ⌜ now r ≡ sectionBytes profile (now (s .entry)) name block ⌝ }
 {
-    let b = section_place(s, name, block);
+    let b = section_place(s, name, block, profile);
     octets::part(s, b.at, b.len)
 }

@@ -10,6 +10,7 @@ use lib.Dec.{eqb}
 use borrow.Author.Tests.{le-leb}
 use Rattle.octets.specs.Numbers.{Bytes}
 use Rattle.octets.proofs.NumberLaws.{bytes-take, bytes-drop}
+use Rattle.format.specs.declared.Profile.{Profile}
 use Rattle.format.specs.declared.Place.{Place}
 use Rattle.format.specs.declared.StoreRow.{StoreRow}
 use Rattle.format.specs.Tests.{got}
@@ -77,7 +78,7 @@ rows-placed n (r ∷ rs) (a, h) = and-both (allInside n (placesUsed r)) (rowsPla
 
 -- ---- the store of a shortcut
 
-module _ (s : List ℕ) (bytes : Bytes s) (c : Sections) (n : ℕ) (e : shortcut s ≡ got c n) where
+module _ (profile : Profile) (s : List ℕ) (bytes : Bytes s) (c : Sections) (n : ℕ) (e : shortcut profile s ≡ got c n) where
   abbrev at : Place
   at = firstPlace s 0xA0000009 (blocksOf c .start) (blocksOf c .read)
 
@@ -87,7 +88,7 @@ module _ (s : List ℕ) (bytes : Bytes s) (c : Sections) (n : ℕ) (e : shortcut
 
   module _ (some : at .len ≡ 0 → ⊥) where
     holds : HoldsStore s (blocksOf c .start) at
-    holds = held-store s c n e some
+    holds = held-store profile s c n e some
 
     store-long : length store ≡ at .len - 8
     store-long =
@@ -100,7 +101,7 @@ module _ (s : List ℕ) (bytes : Bytes s) (c : Sections) (n : ℕ) (e : shortcut
     reads : ReadsAsStore store (entries s (storeRows (at .at + 8) store))
     reads = record {
       bytes = bytes-drop 8 (bytesAt s at) (bytes-take (at .len) (drop (at .at) s) (bytes-drop (at .at) s bytes));
-      small = held-small s c n e some;
+      small = held-small profile s c n e some;
       right = store-anywhere 0 8 store ∙ pass-all (storeTests 8 store) (holds .right);
       same = store-said store 0 8 store (record { is = take-length store }) (holds .right) ∙ sym (store-said s (at .at + 8) 8 store stands (holds .right));
     }

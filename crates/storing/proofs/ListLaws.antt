@@ -12,6 +12,7 @@ use Rattle.octets.specs.Parts.{put}
 use Rattle.octets.specs.Steps.Puts.{part}
 use Rattle.octets.proofs.PartLaws.{part-in}
 use Rattle.octets.proofs.WroteLaws.{put-nil}
+use Rattle.format.specs.declared.Profile.{Profile}
 use Rattle.format.specs.declared.Fault.{Fault}
 use Rattle.format.specs.declared.Fault.the-variants.{Room as ROOM}
 use Rattle.format.specs.declared.Place.{Place}
@@ -52,10 +53,10 @@ no-rows : (s : List ℕ) (b : Place) → b .len ≡ 0 → blockRows s b ≡ []
 unfolding storeRows perPart
 no-rows s b e = rw e
 
-module _ (s : List ℕ) {g : Reading} (e : g ≡ reading s) where
-  pub stored-refused : {f : Fault} {p : ℕ} → g .verdict ≡ Refused f p → StoredIs s (record { verdict = g .verdict; block = noPlace })
+module _ (profile : Profile) (s : List ℕ) {g : Reading} (e : g ≡ reading profile s) where
+  pub stored-refused : {f : Fault} {p : ℕ} → g .verdict ≡ Refused f p → StoredIs profile s (record { verdict = g .verdict; block = noPlace })
   stored-refused q =
-      let i = refused-read s (ap (λ (x : Reading). x .verdict) (sym e) ∙ q) in
+      let i = refused-read profile s (ap (λ (x : Reading). x .verdict) (sym e) ∙ q) in
       record {
         verdict = ap (λ (x : Reading). x .verdict) e;
         rows = no-rows s noPlace refl ∙ rw (i .is);
@@ -66,16 +67,16 @@ module _ (s : List ℕ) {g : Reading} (e : g ≡ reading s) where
     -- the ninth signature of the table
     pub record StoreField : Type 0 where
       pub reached : getD row 8 0 ≤ length s
-      pub stored : {b : Place} → b ≡ blockFrom s (getD row 8 0) → StoredIs s (record { verdict = g .verdict; block = b })
+      pub stored : {b : Place} → b ≡ blockFrom s (getD row 8 0) → StoredIs profile s (record { verdict = g .verdict; block = b })
 
     pub store-field : StoreField
     unfolding Accepts firsts rowsOf
     store-field =
-        let x = accepted-read s (g .held) n (accepted-held s e q) in
+        let x = accepted-read profile s (g .held) n (accepted-held profile s e q) in
         let c = x .sections in
         let start = blocksOf c .start in
         let lengths = blocksOf c .read in
-        let walk = read-walk s c n ((shortcut-whole s c n (x .is)) .read) in
+        let walk = read-walk profile s c n ((shortcut-whole profile s c n (x .is)) .read) in
         let same : placeIn (g .held) blocksSlot .at ≡ start = ap (λ (r : Record). placeIn r blocksSlot .at) (sym (x .held)) in
         let k : (ls : List ℕ) (m : ℕ) → blocks start (drop start s) ≡ got ls m → row ≡ firsts s start ls = rw same at noted in
         let field : getD row 8 0 ≡ firstField s 0xA0000009 start lengths = ap (λ (l : List ℕ). getD l 8 0) (k lengths _ walk) in
@@ -116,66 +117,66 @@ store-ready s b h small e =
     rw q (h .right, omega (arith, length-drop 8 (bytesAt s b), h .inside, h .long))
 
 -- what the call says of its answer v and its buffer x
-abbrev ListCall : List ℕ → List ℕ → Verdict → List ℕ → Type 0
-ListCall s out v x = (v ≡ storeListAnswer s out) × ((x ≡ storeListOutput s out) × Numbered v (storeList s (length out)))
+abbrev ListCall : Profile → List ℕ → List ℕ → Verdict → List ℕ → Type 0
+ListCall profile s out v x = (v ≡ storeListAnswer profile s out) × ((x ≡ storeListOutput profile s out) × Numbered v (storeList profile s (length out)))
 
-list-call : (s out : List ℕ) {v : Verdict} {x : List ℕ} → v ≡ storeListAnswer s out → x ≡ storeListOutput s out → ListCall s out v x
+list-call : (profile : Profile) (s out : List ℕ) {v : Verdict} {x : List ℕ} → v ≡ storeListAnswer profile s out → x ≡ storeListOutput profile s out → ListCall profile s out v x
 unfolding storeListAnswer
-list-call s out a o = (a, (o, numbered (storeList s (length out)) a))
+list-call profile s out a o = (a, (o, numbered (storeList profile s (length out)) a))
 
-module _ (s out : List ℕ) {t : Stored} (T : StoredIs s t) where
+module _ (profile : Profile) (s out : List ℕ) {t : Stored} (T : StoredIs profile s t) where
   -- leaving with the refusal
-  pub list-left : {f : Fault} {p : ℕ} → t .verdict ≡ Refused f p → ListCall s out (t .verdict) out
+  pub list-left : {f : Fault} {p : ℕ} → t .verdict ≡ Refused f p → ListCall profile s out (t .verdict) out
   unfolding storeListAnswer storeListOutput storeList outputOf
-  list-left q = let i = refused-read s (sym (T .verdict) ∙ q) in list-call s out (q ∙ rw (i .is, i .told)) (rw (i .is))
+  list-left q = let i = refused-read profile s (sym (T .verdict) ∙ q) in list-call profile s out (q ∙ rw (i .is, i .told)) (rw (i .is))
 
   module _ {n : ℕ} (q : t .verdict ≡ Accepted n) where
     abbrev rows : List StoreRow
     rows = blockRows s (t .block)
 
-    list-is : storeList s (length out) ≡ cond (leb (length (allNumbers rows)) (length out)) (got (allNumbers rows) (length rows)) (refused ROOM nowhere)
+    list-is : storeList profile s (length out) ≡ cond (leb (length (allNumbers rows)) (length out)) (got (allNumbers rows) (length rows)) (refused ROOM nowhere)
     unfolding storeList
     list-is =
-        let x = accepted-read s (reading s .held) n (accepted-held s {g = reading s} refl (sym (T .verdict) ∙ q)) in
+        let x = accepted-read profile s (reading profile s .held) n (accepted-held profile s {g = reading profile s} refl (sym (T .verdict) ∙ q)) in
         let r : rows ≡ rowsOf s (x .sections) = T .rows ∙ ap (rowsBy s) (x .is) in
         rw (x .is, r)
 
-    pub list-none : t .block .len ≡ 0 → ListCall s out (Accepted 0) out
+    pub list-none : t .block .len ≡ 0 → ListCall profile s out (Accepted 0) out
     unfolding storeListAnswer storeListOutput outputOf
     list-none e =
-        let z : storeList s (length out) ≡ got [] 0 = list-is ∙ rw (no-rows s (t .block) e, le-leb 0 (length out) (omega arith)) in
-        list-call s out (rw z) (rw z (put-nil out 0))
+        let z : storeList profile s (length out) ≡ got [] 0 = list-is ∙ rw (no-rows s (t .block) e, le-leb 0 (length out) (omega arith)) in
+        list-call profile s out (rw z) (rw z (put-nil out 0))
 
     module _ {m : ℕ} (count : m ≡ length rows) where
-      pub list-room : length out / 6 < m → ListCall s out (Refused ROOM 0) out
+      pub list-room : length out / 6 < m → ListCall profile s out (Refused ROOM 0) out
       unfolding storeListAnswer storeListOutput outputOf
       list-room h =
-          let z : storeList s (length out) ≡ refused ROOM nowhere = list-is ∙ rw (lt-leb (length (allNumbers rows)) (length out) (omega (arith, numbers-long rows))) in
-          list-call s out (rw z) (rw z)
+          let z : storeList profile s (length out) ≡ refused ROOM nowhere = list-is ∙ rw (lt-leb (length (allNumbers rows)) (length out) (omega (arith, numbers-long rows))) in
+          list-call profile s out (rw z) (rw z)
 
       pub list-fits : m ≤ length out / 6 → length (allNumbers rows) ≤ length out
       list-fits h = omega (arith, numbers-long rows)
 
-      pub list-put : m ≤ length out / 6 → {x : List ℕ} → x ≡ put out 0 (allNumbers rows) → ListCall s out (Accepted m) x
+      pub list-put : m ≤ length out / 6 → {x : List ℕ} → x ≡ put out 0 (allNumbers rows) → ListCall profile s out (Accepted m) x
       unfolding storeListAnswer storeListOutput outputOf
       list-put h e =
-          let z : storeList s (length out) ≡ got (allNumbers rows) (length rows) = list-is ∙ rw (le-leb (length (allNumbers rows)) (length out) (list-fits h)) in
-          list-call s out (rw (z, count)) (e ∙ rw z)
+          let z : storeList profile s (length out) ≡ got (allNumbers rows) (length rows) = list-is ∙ rw (le-leb (length (allNumbers rows)) (length out) (list-fits h)) in
+          list-call profile s out (rw (z, count)) (e ∙ rw z)
 
 -- ---- a row
 
-module _ (s : List ℕ) (k : ℕ) {t : Stored} (T : StoredIs s t) where
-  row-told : nthRow k (blockRows s (t .block)) ≡ storeRow s k
+module _ (profile : Profile) (s : List ℕ) (k : ℕ) {t : Stored} (T : StoredIs profile s t) where
+  row-told : nthRow k (blockRows s (t .block)) ≡ storeRow profile s k
   unfolding storeRow
   row-told = ap (nthRow k) (T .rows)
 
-  pub row-none : {r : StoreRow} → r ≡ nthRow k [] → t .block .len ≡ 0 → RowIs s k r
+  pub row-none : {r : StoreRow} → r ≡ nthRow k [] → t .block .len ≡ 0 → RowIs profile s k r
   row-none {r} i e = record {
     is = i ∙ sym (ap (nthRow k) (no-rows s (t .block) e)) ∙ row-told;
     inside = rw i (nth-in (length s) k [] tt);
   }
 
-  pub row-is : {r : StoreRow} → (t .block .len ≡ 0 → ⊥) → r ≡ nthRow k (blockRows s (t .block)) → RowIs s k r
+  pub row-is : {r : StoreRow} → (t .block .len ≡ 0 → ⊥) → r ≡ nthRow k (blockRows s (t .block)) → RowIs profile s k r
   row-is {r} z i =
       let b = t .block in
       let h = T .holds z in
@@ -186,11 +187,11 @@ module _ (s : List ℕ) (k : ℕ) {t : Stored} (T : StoredIs s t) where
       record { is = i ∙ row-told; inside = rw i (record { name = omega (arith, a .name); raw = omega (arith, a .raw) }) }
 
 -- the parts that a row shows
-module _ (s : List ℕ) (k : ℕ) {r : StoreRow} (R : RowIs s k r) where
-  pub shown-name : part s (r .name .at) (r .name .len) ≡ storeName s k
+module _ (profile : Profile) (s : List ℕ) (k : ℕ) {r : StoreRow} (R : RowIs profile s k r) where
+  pub shown-name : part s (r .name .at) (r .name .len) ≡ storeName profile s k
   unfolding storeName
   shown-name = sym (part-in s (r .name .at) (r .name .len) (R .inside .name)) ∙ ap (λ (x : StoreRow). bytesAt s (x .name)) (R .is)
 
-  pub shown-raw : part s (r .raw .at) (r .raw .len) ≡ storeRaw s k
+  pub shown-raw : part s (r .raw .at) (r .raw .len) ≡ storeRaw profile s k
   unfolding storeRaw
   shown-raw = sym (part-in s (r .raw .at) (r .raw .len) (R .inside .raw)) ∙ ap (λ (x : StoreRow). bytesAt s (x .raw)) (R .is)

@@ -5,6 +5,7 @@ mod tests;
 
 use format::Fault;
 use format::Place;
+use format::Profile;
 use format::StoreRow;
 use format::Verdict;
 ghost use mathlib.Core.Path.{_≡_};
@@ -20,10 +21,10 @@ struct Stored {
     block: Place,
 }
 
-fn stored_in(s: &[u8]) -> Stored
-    ensures { λ r. ⌜ StoredIs (now (s .entry)) r ⌝ }
+fn stored_in(s: &[u8], profile: Profile) -> Stored
+    ensures { λ r. ⌜ StoredIs profile (now (s .entry)) r ⌝ }
 {
-    let o = reader::outline_of(s);
+    let o = reader::outline_of(s, profile);
     let next = o.next;
     let held = o.held;
     let firsts = o.firsts;
@@ -42,12 +43,12 @@ fn stored_in(s: &[u8]) -> Stored
 }
 
 // A row of six numbers for each storage and each value, in order, with places in the shortcut.
-pub fn store_list(s: &[u8], rows: &mut [u64]) -> Verdict
-    ensures answer { λ r. ⌜ r ≡ storeListAnswer (now (s .entry)) (now (rows .entry)) ⌝ }
-    ensures output { λ _. ⌜ now (rows .exit) ≡ storeListOutput (now (s .entry)) (now (rows .entry)) ⌝ }
-    ensures numbers { λ r. ⌜ Numbered r (storeList (now (s .entry)) (length (now (rows .entry)))) ⌝ }
+pub fn store_list(s: &[u8], rows: &mut [u64], profile: Profile) -> Verdict
+    ensures answer { λ r. ⌜ r ≡ storeListAnswer profile (now (s .entry)) (now (rows .entry)) ⌝ }
+    ensures output { λ _. ⌜ now (rows .exit) ≡ storeListOutput profile (now (s .entry)) (now (rows .entry)) ⌝ }
+    ensures numbers { λ r. ⌜ Numbered r (storeList profile (now (s .entry)) (length (now (rows .entry)))) ⌝ }
 {
-    let t = stored_in(s);
+    let t = stored_in(s, profile);
     let v = t.verdict;
     let b = t.block;
     let Verdict::Accepted(_) = v else {
@@ -67,10 +68,10 @@ pub fn store_list(s: &[u8], rows: &mut [u64]) -> Verdict
 }
 
 // The row of this number; zeros where there is none.
-fn row_of(s: &[u8], k: usize) -> StoreRow
-    ensures { λ r. ⌜ RowIs (now (s .entry)) k r ⌝ }
+fn row_of(s: &[u8], k: usize, profile: Profile) -> StoreRow
+    ensures { λ r. ⌜ RowIs profile (now (s .entry)) k r ⌝ }
 {
-    let t = stored_in(s);
+    let t = stored_in(s, profile);
     let b = t.block;
     if b.len == 0 {
         return rows::NO_ROW;
@@ -80,19 +81,19 @@ fn row_of(s: &[u8], k: usize) -> StoreRow
 }
 
 // The name of the value in this row; empty where the row has none, or there is no such row.
-pub fn store_name(s: &[u8], k: usize) -> &[u8]
-    ensures { λ r. ⌜ now r ≡ storeName (now (s .entry)) k ⌝ }
+pub fn store_name(s: &[u8], k: usize, profile: Profile) -> &[u8]
+    ensures { λ r. ⌜ now r ≡ storeName profile (now (s .entry)) k ⌝ }
 {
-    let r = row_of(s, k);
+    let r = row_of(s, k, profile);
     let b = r.name;
     octets::part(s, b.at, b.len)
 }
 
 // Its raw bytes, or a storage's format identifier; empty where there is no such row.
-pub fn store_raw(s: &[u8], k: usize) -> &[u8]
-    ensures { λ r. ⌜ now r ≡ storeRaw (now (s .entry)) k ⌝ }
+pub fn store_raw(s: &[u8], k: usize, profile: Profile) -> &[u8]
+    ensures { λ r. ⌜ now r ≡ storeRaw profile (now (s .entry)) k ⌝ }
 {
-    let r = row_of(s, k);
+    let r = row_of(s, k, profile);
     let b = r.raw;
     octets::part(s, b.at, b.len)
 }

@@ -11,6 +11,7 @@ use borrow.Author.Tests.{le-leb, lt-leb, ne-eqb, not-true, not-false}
 use Rattle.octets.specs.Parts.{put}
 use Rattle.octets.specs.Steps.Puts.{part}
 use Rattle.octets.proofs.PartLaws.{part-in, put-put, length-put}
+use Rattle.format.specs.declared.Profile.{Profile}
 use Rattle.format.specs.declared.Place.{Place}
 use Rattle.format.specs.declared.Record.{Record}
 use Rattle.format.specs.declared.Reading.{Reading}
@@ -40,24 +41,24 @@ pub record TextsInside (s : List ℕ) (r : Record) : Type 0 where
   pub suffix : placeIn r suffixSlot .at + placeIn r suffixSlot .len ≤ length s
   pub small : length s ≤ 65536
 
-pub texts-inside : (s : List ℕ) (r : Record) (n : ℕ) → reading s ≡ record { verdict = Accepted n; held = r } → TextsInside s r
+pub texts-inside : (profile : Profile) (s : List ℕ) (r : Record) (n : ℕ) → reading profile s ≡ record { verdict = Accepted n; held = r } → TextsInside s r
 unfolding firstText
-texts-inside s r n e =
-    let inside = accepted-bodies s r n e in
+texts-inside profile s r n e =
+    let inside = accepted-bodies profile s r n e in
     record {
       first = either (localThere (r .link .flags)) (placeIn r localSlot) (placeIn r netSlot) (inside localSlot) (inside netSlot);
       suffix = inside suffixSlot;
-      small = accepted-limit s r n e;
+      small = accepted-limit profile s r n e;
     }
   where
     either : (b : Bool) (x y : Place) → x .at + x .len ≤ length s → y .at + y .len ≤ length s → (cond b x y) .at + (cond b x y) .len ≤ length s
     either true x y p q = p
     either false x y p q = q
 
-pub texts-stand : (s : List ℕ) (r : Record) (n : ℕ) → reading s ≡ record { verdict = Accepted n; held = r } → Stands s (textsOf s r)
+pub texts-stand : (profile : Profile) (s : List ℕ) (r : Record) (n : ℕ) → reading profile s ≡ record { verdict = Accepted n; held = r } → Stands s (textsOf s r)
 unfolding textsOf
-texts-stand s r n e =
-    let i = texts-inside s r n e in
+texts-stand profile s r n e =
+    let i = texts-inside profile s r n e in
     (i .first, i .suffix, separator-few (bytesAt s (firstText r)) (bytesAt s (placeIn r suffixSlot)))
 
 -- ---- the text
@@ -127,25 +128,25 @@ texts-long s t h =
 -- ---- the ways out
 
 -- what the call says of its answer v and its buffer x
-abbrev TargetCall : List ℕ → List ℕ → Verdict → List ℕ → Type 0
-TargetCall s out v x = (v ≡ targetAnswer s out) × ((x ≡ targetOutput s out) × Numbered v (target s (length out)))
+abbrev TargetCall : Profile → List ℕ → List ℕ → Verdict → List ℕ → Type 0
+TargetCall profile s out v x = (v ≡ targetAnswer profile s out) × ((x ≡ targetOutput profile s out) × Numbered v (target profile s (length out)))
 
-target-call : (s out : List ℕ) {v : Verdict} {x : List ℕ} → v ≡ targetAnswer s out → x ≡ targetOutput s out → TargetCall s out v x
+target-call : (profile : Profile) (s out : List ℕ) {v : Verdict} {x : List ℕ} → v ≡ targetAnswer profile s out → x ≡ targetOutput profile s out → TargetCall profile s out v x
 unfolding targetAnswer
-target-call s out a o = (a, (o, numbered (target s (length out)) a))
+target-call profile s out a o = (a, (o, numbered (target profile s (length out)) a))
 
-module _ (s out : List ℕ) {g : Reading} (e : g ≡ reading s) where
+module _ (profile : Profile) (s out : List ℕ) {g : Reading} (e : g ≡ reading profile s) where
   -- leaving with the refusal
-  pub target-left : {f : Fault} {p : ℕ} → g .verdict ≡ Refused f p → TargetCall s out (g .verdict) out
+  pub target-left : {f : Fault} {p : ℕ} → g .verdict ≡ Refused f p → TargetCall profile s out (g .verdict) out
   unfolding targetAnswer targetOutput target outputOf
-  target-left q = let i = refused-read s (ap (λ (x : Reading). x .verdict) (sym e) ∙ q) in target-call s out (q ∙ rw (i .is, i .told)) (rw (i .is))
+  target-left q = let i = refused-read profile s (ap (λ (x : Reading). x .verdict) (sym e) ∙ q) in target-call profile s out (q ∙ rw (i .is, i .told)) (rw (i .is))
 
   module _ {n : ℕ} (q : g .verdict ≡ Accepted n) where
-    accepted : reading s ≡ record { verdict = Accepted n; held = g .held }
-    accepted = accepted-held s e q
+    accepted : reading profile s ≡ record { verdict = Accepted n; held = g .held }
+    accepted = accepted-held profile s e q
 
     pub inside : TextsInside s (g .held)
-    inside = texts-inside s (g .held) n accepted
+    inside = texts-inside profile s (g .held) n accepted
 
     -- where the code has the text, the numbers are small
     pub record Found (t : Texts) : Type 0 where
@@ -153,23 +154,23 @@ module _ (s out : List ℕ) {g : Reading} (e : g ≡ reading s) where
       pub small : length s ≤ 65536
 
     pub found : {t : Texts} → t ≡ textsOf s (g .held) → Found t
-    found is = rw is (record { stands = texts-stand s (g .held) n accepted; small = inside .small })
+    found is = rw is (record { stands = texts-stand profile s (g .held) n accepted; small = inside .small })
 
     -- the target of what was read
-    target-is : target s (length out) ≡ cond (hasTarget (g .held)) (cond (leb (length (targetText s (g .held))) (length out)) (got (targetText s (g .held)) (length (targetText s (g .held)))) (refused ROOM nowhere)) (refused NOTARGET nowhere)
+    target-is : target profile s (length out) ≡ cond (hasTarget (g .held)) (cond (leb (length (targetText s (g .held))) (length out)) (got (targetText s (g .held)) (length (targetText s (g .held)))) (refused ROOM nowhere)) (refused NOTARGET nowhere)
     unfolding target
     target-is =
-        let x = accepted-read s (g .held) n accepted in
+        let x = accepted-read profile s (g .held) n accepted in
         rw (x .is)
         (ap (λ (r : Record). cond (hasTarget r) (cond (leb (length (targetText s r)) (length out)) (got (targetText s r) (length (targetText s r))) (refused ROOM nowhere)) (refused NOTARGET nowhere))
         (x .held))
 
     module _ {k : Bool} (h : k ≡ hasTarget (g .held)) where
-      pub target-none : not k ≡ true → TargetCall s out (Refused NOTARGET 0) out
+      pub target-none : not k ≡ true → TargetCall profile s out (Refused NOTARGET 0) out
       unfolding targetAnswer targetOutput outputOf
       target-none t =
-          let z : target s (length out) ≡ refused NOTARGET nowhere = target-is ∙ rw (sym h ∙ not-true k t) in
-          target-call s out (rw z) (rw z)
+          let z : target profile s (length out) ≡ refused NOTARGET nowhere = target-is ∙ rw (sym h ∙ not-true k t) in
+          target-call profile s out (rw z) (rw z)
 
       module _ (has : not k ≡ false) {t : Texts} {m : ℕ} (is : t ≡ textsOf s (g .held)) (sum : m ≡ textsLength t) where
         target-text : targetText s (g .held) ≡ textsBytes s t
@@ -178,19 +179,19 @@ module _ (s out : List ℕ) {g : Reading} (e : g ≡ reading s) where
         long : length (textsBytes s t) ≡ m
         long = texts-long s t (found is .stands) ∙ sym sum
 
-        pub target-room : length out < m → TargetCall s out (Refused ROOM 0) out
+        pub target-room : length out < m → TargetCall profile s out (Refused ROOM 0) out
         unfolding targetAnswer targetOutput outputOf
         target-room o =
-            let z : target s (length out) ≡ refused ROOM nowhere
+            let z : target profile s (length out) ≡ refused ROOM nowhere
             = target-is ∙ rw (target-text, long, sym h ∙ not-false k has, lt-leb m (length out) o) in
-            target-call s out (rw z) (rw z)
+            target-call profile s out (rw z) (rw z)
 
-        pub target-written : {x : List ℕ} → m ≤ length out → x ≡ put out 0 (textsBytes s t) → TargetCall s out (Accepted m) x
+        pub target-written : {x : List ℕ} → m ≤ length out → x ≡ put out 0 (textsBytes s t) → TargetCall profile s out (Accepted m) x
         unfolding targetAnswer targetOutput outputOf
         target-written o w =
-            let z : target s (length out) ≡ got (textsBytes s t) m
+            let z : target profile s (length out) ≡ got (textsBytes s t) m
             = target-is ∙ rw (target-text, long, sym h ∙ not-false k has, le-leb m (length out) o) in
-            target-call s out (rw z) (rw z w)
+            target-call profile s out (rw z) (rw z w)
 
 -- ---- putting the text
 

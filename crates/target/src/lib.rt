@@ -1,6 +1,7 @@
 // The target text of a shortcut, into a lent buffer.
 use format::Fault;
 use format::Place;
+use format::Profile;
 use format::Record;
 use format::Verdict;
 ghost use mathlib.Core.Path.{_≡_};
@@ -84,12 +85,12 @@ pub fn put_texts(s: &[u8], t: Texts, at: usize, out: &mut [u8])
     octets::put_bytes(out, last, octets::part(s, t.suffix.at, t.suffix.len));
 }
 
-pub fn target(s: &[u8], out: &mut [u8]) -> Verdict
-    ensures answer { λ r. ⌜ r ≡ targetAnswer (now (s .entry)) (now (out .entry)) ⌝ }
-    ensures output { λ _. ⌜ now (out .exit) ≡ targetOutput (now (s .entry)) (now (out .entry)) ⌝ }
-    ensures numbers { λ r. ⌜ Numbered r (target (now (s .entry)) (length (now (out .entry)))) ⌝ }
+pub fn target(s: &[u8], out: &mut [u8], profile: Profile) -> Verdict
+    ensures answer { λ r. ⌜ r ≡ targetAnswer profile (now (s .entry)) (now (out .entry)) ⌝ }
+    ensures output { λ _. ⌜ now (out .exit) ≡ targetOutput profile (now (s .entry)) (now (out .entry)) ⌝ }
+    ensures numbers { λ r. ⌜ Numbered r (target profile (now (s .entry)) (length (now (out .entry)))) ⌝ }
 {
-    let g = reader::read(s);
+    let g = reader::read(s, profile);
     let v = g.verdict;
     let Verdict::Accepted(_) = v else {
         return v;

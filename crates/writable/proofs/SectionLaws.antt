@@ -4,6 +4,7 @@ use mathlib.Core.List.{List, [], _∷_}
 use mathlib.Core.Bool.{Bool, true, false, not, _&&_, _||_, cond}
 use Prim.Native.Nat.{ℕ}
 use lib.Dec.{leb}
+use Rattle.format.specs.declared.Profile.{Profile}
 use Rattle.format.specs.declared.Place.{Place}
 use Rattle.format.specs.declared.Header.{Header}
 use Rattle.format.specs.declared.Link.{Link}
@@ -26,8 +27,8 @@ use Rattle.writable.specs.Steps.Slots.{rowOk, slotsOk, bodiesOk}
 pub if-there : {A : Type 0} (f : A → Bool) {t : Bool} {x y : A} {r : Bool} → t ≡ true → r ≡ f x → x ≡ y → r ≡ writableIf t f y
 if-there f e q k = rw (e, ← k) q
 
-pub header-is : (h : Header) {a b c : Bool} → a ≡ flagsOk (h .flags) → b ≡ attributesOk (h .attributes) → c ≡ hotkeyOk (h .hotkey) → (a && b && c) ≡ writableHeader h
-header-is h {a} {b} {c} ea eb ec = joined-every a (b ∷ c ∷ []) ∙ rw (ea, eb, ec)
+pub header-is : (profile : Profile) (h : Header) {a b c : Bool} → a ≡ flagsOk (h .flags) → b ≡ attributesOk profile (h .attributes) → c ≡ hotkeyOk (h .hotkey) → (a && b && c) ≡ writableHeader profile h
+header-is profile h {a} {b} {c} ea eb ec = joined-every a (b ∷ c ∷ []) ∙ rw (ea, eb, ec)
 
 -- ---- LinkInfo's numbers
 
@@ -67,11 +68,11 @@ bodies-same d q = ap every (along-contents writableRow true (λ k x. refl) d q) 
 
 -- ---- together
 
-pub sections-are : (d : List ℕ) (q : Record) {s : Shape} {h l b : Bool} → s ≡ shapeOf (q .header .flags) (q .link) → h ≡ writableHeader (q .header)
+pub sections-are : (profile : Profile) (d : List ℕ) (q : Record) {s : Shape} {h l b : Bool} → s ≡ shapeOf (q .header .flags) (q .link) → h ≡ writableHeader profile (q .header)
     → l ≡ writableLink (q .header .flags) (q .link) → b ≡ bodiesOk d (q .places) s
-    → (h && l && b) ≡ every (writableHeader (contents d q .header) ∷ writableLink (contents d q .header .flags) (contents d q .link) ∷ every (writableBodies (contents d q)) ∷ [])
+    → (h && l && b) ≡ every (writableHeader profile (contents d q .header) ∷ writableLink (contents d q .header .flags) (contents d q .link) ∷ every (writableBodies (contents d q)) ∷ [])
 unfolding contents present
-sections-are d q {s} {h} {l} {b} e eh el eb =
+sections-are profile d q {s} {h} {l} {b} e eh el eb =
     let m : b ≡ every (writableBodies (contents d q)) = eb ∙ ap (bodiesOk d (q .places)) e ∙ sym (bodies-same d q) in
     let n : l ≡ writableLink (q .header .flags) (contents d q .link) = el ∙ sym (link-same d q) in
     joined-every h (l ∷ b ∷ []) ∙ rw (eh, m, n)

@@ -7,6 +7,7 @@ use native.Mathlib.Omega.{arith}
 use lib.ListN.{length}
 use lib.Dec.{leb}
 use borrow.Author.Tests.{le-leb, lt-leb}
+use Rattle.format.specs.declared.Profile.{Profile}
 use Rattle.format.specs.declared.Record.{Record}
 use Rattle.format.specs.Shortcut.{most}
 use Rattle.format.specs.Bodies.{placed}
@@ -17,13 +18,13 @@ use Rattle.sizes.specs.Steps.Sizes.{clippedLength}
 use Rattle.sizes.proofs.WholeLaws.{canonical-length, exact-length, over-length}
 use Rattle.writable.proofs.TestLaws.{every-last}
 
-module _ (d : List ℕ) (q : Record) (inside : placed (length d) q ≡ true) where
+module _ (profile : Profile) (d : List ℕ) (q : Record) (inside : placed (length d) q ≡ true) where
   abbrev rules : List Bool
-  rules = writableHeader (contents d q .header) ∷ writableLink (contents d q .header .flags) (contents d q .link) ∷ every (writableBodies (contents d q)) ∷ []
+  rules = writableHeader profile (contents d q .header) ∷ writableLink (contents d q .header .flags) (contents d q .link) ∷ every (writableBodies (contents d q)) ∷ []
 
   -- the count of the whole decides first
   module _ {n : ℕ} (count : n ≡ clippedLength q) where
-    pub writable-long : most < n → false ≡ writable (contents d q)
+    pub writable-long : most < n → false ≡ writable profile (contents d q)
     unfolding writable
     writable-long h =
         let long : most < length (canonical (contents d q)) = rw (canonical-length d q inside) (omega (arith, over-length q)) in
@@ -34,12 +35,12 @@ module _ (d : List ℕ) (q : Record) (inside : placed (length d) q ≡ true) whe
     pub short-length : n ≤ most → n ≡ length (canonical (contents d q))
     short-length h = count ∙ exact-length q (omega arith) ∙ sym (canonical-length d q inside)
 
-    pub writable-short : n ≤ most → {r : Bool} → r ≡ every rules → r ≡ writable (contents d q)
+    pub writable-short : n ≤ most → {r : Bool} → r ≡ every rules → r ≡ writable profile (contents d q)
     unfolding writable
     writable-short h e =
         let t : leb (length (canonical (contents d q))) most ≡ true = le-leb (length (canonical (contents d q))) most (omega (arith, short-length h)) in
         e ∙ sym (every-last rules (leb (length (canonical (contents d q))) most) ∙ rw t (and-yes (every rules)))
 
     -- for a record that can be written the count is no more than the most
-    pub writable-few : writable (contents d q) ≡ true → n ≤ most
+    pub writable-few : writable profile (contents d q) ≡ true → n ≤ most
     writable-few e = by-order n most (λ h. h) (λ h. clash e (sym (writable-long h)))

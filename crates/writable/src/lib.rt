@@ -2,6 +2,7 @@
 use format::Header;
 use format::Link;
 use format::Place;
+use format::Profile;
 use format::Record;
 use format::Shape;
 ghost use mathlib.Core.Path.{_≡_};
@@ -120,10 +121,12 @@ fn blocks_ok(x: &[u8]) -> bool
 
 // ---- whether a section can be written
 
-fn header_ok(h: Header) -> bool
-    ensures { λ r. ⌜ r ≡ writableHeader h ⌝ }
+fn header_ok(h: Header, profile: Profile) -> bool
+    ensures { λ r. ⌜ r ≡ writableHeader profile h ⌝ }
 {
-    header::flags_ok(h.flags) & header::attributes_ok(h.attributes) & header::hotkey_ok(h.hotkey)
+    header::flags_ok(h.flags)
+        & header::attributes_ok(h.attributes, profile)
+        & header::hotkey_ok(h.hotkey)
 }
 
 // LinkInfo's flags, the drive type and the network link's flags, as far as they are there.
@@ -191,15 +194,15 @@ fn bodies_ok(row: [Place; 16], s: Shape, d: &[u8]) -> bool
 // ---- the whole
 
 // A body that is too long is refused by its length, before any body is looked at. `end` is where the shortest form ends.
-pub fn writable(q: Record, s: Shape, end: u32, d: &[u8]) -> bool
+pub fn writable(q: Record, s: Shape, end: u32, d: &[u8], profile: Profile) -> bool
     requires shape { ⌜ s ≡ shapeOf (q .header .flags) (q .link) ⌝ }
     requires placed { ⌜ placed (length (now d)) q ≡ true ⌝ }
     requires counted { ⌜ end ≡ clippedLength q ⌝ }
-    ensures { λ r. ⌜ r ≡ writable (contents (now (d .entry)) q) ⌝ }
+    ensures { λ r. ⌜ r ≡ writable profile (contents (now (d .entry)) q) ⌝ }
 {
     if 65536 < end {
         return false;
     }
     let row = q.places;
-    header_ok(q.header) & link_ok(q.header.flags, q.link) & bodies_ok(row, s, d)
+    header_ok(q.header, profile) & link_ok(q.header.flags, q.link) & bodies_ok(row, s, d)
 }

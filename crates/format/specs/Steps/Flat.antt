@@ -1,7 +1,7 @@
 -- The canonical form as it is put: the heads by the link and by the sizes of the slots, the bodies slot by slot.
 use Prim.Native.Nat.{ℕ, _+_}
 use mathlib.Core.List.{List, [], _∷_, _++_}
-use mathlib.Core.Bool.{Bool, cond}
+use mathlib.Core.Bool.{cond}
 use lib.ListN.{getD}
 use Rattle.octets.specs.Numbers.{little}
 use Rattle.format.specs.declared.Place.{Place}

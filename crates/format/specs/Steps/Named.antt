@@ -4,6 +4,7 @@ use mathlib.Core.List.{List, [], _∷_, _++_, map}
 use mathlib.Core.Bool.{Bool, true, false, _&&_, cond}
 use lib.ListN.{length}
 use lib.Dec.{leb}
+use Rattle.format.specs.declared.Profile.{Profile}
 use Rattle.format.specs.declared.Place.{Place}
 use Rattle.format.specs.declared.Header.{Header}
 use Rattle.format.specs.declared.Network.{Network}
@@ -18,7 +19,7 @@ use Rattle.format.specs.Network.{noNetwork}
 use Rattle.format.specs.Info.{noInfo, linkOf, infoPlaces}
 use Rattle.format.specs.Blocks.{firstPlace}
 use Rattle.format.specs.Shortcut.{most, Sections, blocksOf, shortcut, sum, noHeader, verdictOf}
-use Rattle.format.specs.Bodies.{BodyKind, itemsKind, textKind, stringKind, blocksKind, BodyRow, itemsSlot, labelSlot, localSlot, netSlot, deviceSlot, netUnicodeSlot, deviceUnicodeSlot, suffixSlot, localUnicodeSlot, suffixUnicodeSlot, stringSlot, blocksSlot, placeIn, tableOf, along, allInside}
+use Rattle.format.specs.Bodies.{BodyKind, itemsKind, textKind, stringKind, blocksKind, itemsSlot, labelSlot, localSlot, netSlot, deviceSlot, netUnicodeSlot, deviceUnicodeSlot, suffixSlot, localUnicodeSlot, suffixUnicodeSlot, stringSlot, blocksSlot, placeIn, tableOf, along, allInside}
 use Rattle.format.specs.Contents.{bytesAt, InfoContents, Contents, bodyIn, infoIn}
 use Rattle.format.specs.Writing.{endToEnd, ifThere, headerBytes, itemsBytes, infoBytes, stringBytes, blocksBytes, every, writableIf, writableHeader, writableItems, writableString, writableBlocks}
 use Rattle.format.specs.Target.{targeted, joined}
@@ -247,6 +248,7 @@ module _ (c : NamedContents) where
       ∷ blocksBytes (c .blocks)
       ∷ [])
 
+module _ (profile : Profile) (c : NamedContents) where
   abbrev pub writableStringOf : ℕ → List ℕ → Bool
   writableStringOf k x = writableIf (stringThere k (c .header .flags)) (writableString (stringsUnicode (c .header .flags))) x
 
@@ -254,7 +256,7 @@ module _ (c : NamedContents) where
   unfolding namedCanonical
   namedWritable =
       every
-      (writableHeader (c .header)
+      (writableHeader profile (c .header)
       ∷ writableIf (itemsThere (c .header .flags)) writableItems (c .items)
       ∷ writableIf (infoThere (c .header .flags)) writableInfo (c .info)
       ∷ writableStringOf nameBit (c .name)
@@ -263,14 +265,14 @@ module _ (c : NamedContents) where
       ∷ writableStringOf argumentsBit (c .arguments)
       ∷ writableStringOf iconBit (c .icon)
       ∷ writableBlocks (c .blocks)
-      ∷ leb (length namedCanonical) most
+      ∷ leb (length (namedCanonical c)) most
       ∷ [])
 
-unfoldable pub namedWriting : Named → List ℕ → ℕ → Outcome (List ℕ)
+unfoldable pub namedWriting : Profile → Named → List ℕ → ℕ → Outcome (List ℕ)
 unfolding namedPlaced namedContents namedCanonical namedWritable
-namedWriting r d room =
+namedWriting profile r d room =
     let w = namedCanonical (namedContents d r) in
-    tests noSection (namedPlaced (length d) r else PLACE at 0 ∷ namedWritable (namedContents d r) else UNWRITABLE at 0 ∷ leb (length w) room else ROOM at 0 ∷ [])
+    tests noSection (namedPlaced (length d) r else PLACE at 0 ∷ namedWritable profile (namedContents d r) else UNWRITABLE at 0 ∷ leb (length w) room else ROOM at 0 ∷ [])
     (got w (length w))
 
 -- ---- read, target, key
@@ -311,9 +313,9 @@ abbrev pub namedBy : Outcome Sections → Named
 namedBy (got c n) = namedOf c
 namedBy (refused f p) = noNamed
 
-unfoldable pub namedReading : List ℕ → NamedReading
+unfoldable pub namedReading : Profile → List ℕ → NamedReading
 unfolding shortcut
-namedReading s = record { verdict = verdictOf (shortcut s); held = namedBy (shortcut s) }
+namedReading profile s = record { verdict = verdictOf (shortcut profile s); held = namedBy (shortcut profile s) }
 
 abbrev pub namedHasTarget : Named → Bool
 namedHasTarget r = targeted (r .header .flags) (r .info .flags)
@@ -322,10 +324,10 @@ abbrev pub namedText : List ℕ → Named → List ℕ
 namedText s r =
     joined (cond (localThere (r .info .flags)) (bytesAt s (r .info .local)) (bytesAt s (r .info .network .net))) (bytesAt s (r .info .suffix))
 
-unfoldable pub namedTarget : List ℕ → ℕ → Outcome (List ℕ)
+unfoldable pub namedTarget : Profile → List ℕ → ℕ → Outcome (List ℕ)
 unfolding shortcut
-namedTarget s room =
-    andThen (shortcut s) (λ c n.
+namedTarget profile s room =
+    andThen (shortcut profile s) (λ c n.
     let w = namedText s (namedOf c) in
     tests noSection (namedHasTarget (namedOf c) else NOTARGET at 0 ∷ leb (length w) room else ROOM at 0 ∷ []) (got w (length w)))
 
@@ -340,9 +342,9 @@ namedKeyOf s c =
       environment = environment s (firstPlace s 0xA0000001 (blocksOf c .start) (blocksOf c .read));
     }
 
-unfoldable pub namedKey : List ℕ → ℕ → Outcome (List ℕ)
+unfoldable pub namedKey : Profile → List ℕ → ℕ → Outcome (List ℕ)
 unfolding shortcut namedKeyOf keyBytes
-namedKey s room =
-    andThen (shortcut s) (λ c n.
+namedKey profile s room =
+    andThen (shortcut profile s) (λ c n.
     let w = keyBytes (namedKeyOf s c) in
     tests noSection (leb (length w) room else ROOM at 0 ∷ []) (got w (length w)))

@@ -41,7 +41,8 @@ returns : tie.Need-returns
 returns c =
     let after-zeros = c .before .before .before .before in
     let after-flags = after-zeros .before .before .before .before in
-    head-wrong-is _ (after-flags .before .before .u32-at .ensures) (after-flags .before .flags-ok .ensures) (after-flags .u32-at2 .ensures)
+    let start = after-flags .before .before .before .before in
+    head-wrong-is (start .args .profile) _ (after-flags .before .before .u32-at .ensures) (after-flags .before .flags-ok .ensures) (after-flags .u32-at2 .ensures)
     (after-zeros .before .before .before .attributes-ok .ensures) (after-zeros .before .before .u16-at .ensures) (after-zeros .before .hotkey-ok .ensures) (after-zeros .zeros-from-66 .ensures)
     (c .before .before .before .unless .ensures) (c .before .before .unless2 .ensures) (c .before .unless3 .ensures) (c .unless4 .ensures)
 

@@ -13,7 +13,7 @@ spot-at-requires c κs = search needs
 
 returns : tie.Need-returns
 returns c =
-    header-cut _ (omega arith) (c .spot-at .ensures)
+    header-cut _ _ (omega arith) (c .spot-at .ensures)
 
 slice-aggregate-l : tie.Need-slice-aggregate-l
 slice-aggregate-l c = sym (length-take-le 76 (c .before .before .before .args .s .now) (omega arith))
@@ -30,7 +30,7 @@ spot-at-requires-2 c κs = search needs
 returns-2 : tie.Need-returns-2
 returns-2 c =
     let then = c .before in
-    header-size _ (omega arith) (then .before .before .u32-at .ensures) (then .before .header-size-ok .ensures) (then .if2 .taken) (c .spot-at2 .ensures)
+    header-size _ _ (omega arith) (then .before .before .u32-at .ensures) (then .before .header-size-ok .ensures) (then .if2 .taken) (c .spot-at2 .ensures)
 
 identifier-ok-requires : tie.Need-identifier-ok-requires
 identifier-ok-requires c κs = simp length-take (omega arith)
@@ -42,7 +42,7 @@ returns-3 : tie.Need-returns-3
 returns-3 c =
     let then = c .before in
     let size = then .before .before in
-    header-identifier _ (omega arith) (size .before .before .u32-at .ensures) (size .before .header-size-ok .ensures) (size .if2 .left) (then .before .identifier-ok .ensures) (then .if3 .taken) (c .spot-at3 .ensures)
+    header-identifier _ _ (omega arith) (size .before .before .u32-at .ensures) (size .before .header-size-ok .ensures) (size .if2 .left) (then .before .identifier-ok .ensures) (then .if3 .taken) (c .spot-at3 .ensures)
 
 head-wrong-requires : tie.Need-head-wrong-requires
 head-wrong-requires c κs = simp length-take (omega arith)
@@ -55,7 +55,7 @@ returns-4 c =
     let then = c .before in
     let identifier = then .before .before in
     let size = identifier .before .before in
-    header-head _ (omega arith) (size .before .before .u32-at .ensures) (size .before .header-size-ok .ensures) (size .if2 .left) (identifier .before .identifier-ok .ensures) (identifier .if3 .left)
+    header-head _ _ (omega arith) (size .before .before .u32-at .ensures) (size .before .header-size-ok .ensures) (size .if2 .left) (identifier .before .identifier-ok .ensures) (identifier .if3 .left)
     (then .before .head-wrong .ensures) (then .if4 .taken) (c .spot-at4 .ensures)
 
 header-fields-requires : tie.Need-header-fields-requires
@@ -66,7 +66,7 @@ returns-5 c =
     let head = c .before in
     let identifier = head .before .before in
     let size = identifier .before .before in
-    header-got _ (omega arith) (size .before .before .u32-at .ensures) (size .before .header-size-ok .ensures) (size .if2 .left) (identifier .before .identifier-ok .ensures) (identifier .if3 .left)
+    header-got _ _ (omega arith) (size .before .before .u32-at .ensures) (size .before .header-size-ok .ensures) (size .if2 .left) (identifier .before .identifier-ok .ensures) (identifier .if3 .left)
     (head .before .head-wrong .ensures) (head .if4 .left) (c .header-fields .ensures)
 
 pub header-spec : {M : Type 1} → statement M

@@ -1,5 +1,5 @@
 -- Each refusal has its law, in the order of the tests; past them the part from the start to the declared end is read.
-use Rattle.info.proofs.InfoLaws.{head-most, piece-most, info-cut, info-small, info-past, info-head, info-piece, info-got}
+use Rattle.info.proofs.InfoLaws.{head-passed, head-most, piece-most, info-cut, info-small, info-past, info-head, info-piece, info-got}
 use Rattle.octets.proofs.CursorLaws.{take-got, take-lost, skip-got, skip-lost}
 use lib.ListN.{length-take, length-drop}
 use mathlib.Core.Path.{sym, _∙_}
@@ -23,7 +23,7 @@ spot-at-requires c κs = search needs
 returns : tie.Need-returns
 returns c =
     let after-take-u32 = c .before .before .before in
-    info-cut _ _ (take-lost _ _ _ (after-take-u32 .take-u32 .ensures) (c .before .enum-told .given .1)) (c .spot-at .ensures)
+    info-cut _ _ _ (take-lost _ _ _ (after-take-u32 .take-u32 .ensures) (c .before .enum-told .given .1)) (c .spot-at .ensures)
 
 spot-at-requires-2 : tie.Need-spot-at-requires-2
 spot-at-requires-2 c κs = search needs
@@ -33,7 +33,7 @@ returns-2 c =
     let after-size = c .before .before .before in
     let after-take-u32 = after-size .before .before in
     let t = take-got _ _ _ (after-take-u32 .take-u32 .ensures) (after-size .size .given .1) in
-    info-small _ _ (t .0) (t .1) (omega arith) (c .spot-at2 .ensures)
+    info-small _ _ _ (t .0) (t .1) (omega arith) (c .spot-at2 .ensures)
 
 cast-skip : tie.Need-cast-skip
 cast-skip c = search needs
@@ -56,7 +56,7 @@ returns-3 c =
     let after-size = after-skip .before .before .before in
     let after-take-u32 = after-size .before .before in
     let t = take-got _ _ _ (after-take-u32 .take-u32 .ensures) (after-size .size .given .1) in
-    info-past _ _ (t .0) (t .1) (omega arith) (skip-lost _ _ _ (after-skip .skip .ensures) (c .before .enum-told2 .given .1)) (c .spot-at3 .ensures)
+    info-past _ _ _ (t .0) (t .1) (omega arith) (skip-lost _ _ _ (after-skip .skip .ensures) (c .before .enum-told2 .given .1)) (c .spot-at3 .ensures)
 
 sub-l : tie.Need-sub-l
 sub-l c =
@@ -85,7 +85,10 @@ spot-at-requires-4 c κs =
     let after-next = c .before .before .before .before in
     let after-skip = after-next .before .before in
     let u = skip-got _ _ _ (after-skip .skip .ensures) (after-next .next .given .1) in
-    omega (arith, head-most _ (c .before .info-head-wrong .ensures))
+    let after-size = after-skip .before .before .before in
+    let after-take-u32 = after-size .before .before in
+    let start = after-take-u32 .before .before in
+    omega (arith, head-most (start .args .profile) _ (c .before .info-head-wrong .ensures))
 
 returns-4 : tie.Need-returns-4
 returns-4 c =
@@ -96,14 +99,17 @@ returns-4 c =
     let after-take-u32 = after-size .before .before in
     let t = take-got _ _ _ (after-take-u32 .take-u32 .ensures) (after-size .size .given .1) in
     let u = skip-got _ _ _ (after-skip .skip .ensures) (after-next .next .given .1) in
-    info-head _ _ (t .0) (t .1) (omega arith) (u .0) (u .1) (after-info-head-wrong .info-head-wrong .ensures) (c .before .if2 .taken) (c .spot-at4 .ensures)
+    info-head _ _ _ (t .0) (t .1) (omega arith) (u .0) (u .1) (after-info-head-wrong .info-head-wrong .ensures) (c .before .if2 .taken) (c .spot-at4 .ensures)
 
 info-pieces-requires : tie.Need-info-pieces-requires
 info-pieces-requires c κs =
     let after-next = c .before .before .before .before in
     let after-skip = after-next .before .before in
     let u = skip-got _ _ _ (after-skip .skip .ensures) (after-next .next .given .1) in
-    (simp (length-take, length-drop) (omega arith), simp (length-take, length-drop) (omega arith), sym (c .before .info-head-wrong .ensures) ∙ c .if2 .left)
+    let after-size = after-skip .before .before .before in
+    let after-take-u32 = after-size .before .before in
+    let start = after-take-u32 .before .before in
+    (simp (length-take, length-drop) (omega arith), simp (length-take, length-drop) (omega arith), head-passed (start .args .profile) _ (sym (c .before .info-head-wrong .ensures) ∙ c .if2 .left))
 
 spot-at-requires-5 : tie.Need-spot-at-requires-5
 spot-at-requires-5 c κs =
@@ -116,7 +122,8 @@ spot-at-requires-5 c κs =
     let after-take-u32 = after-size .before .before in
     let t = take-got _ _ _ (after-take-u32 .take-u32 .ensures) (after-size .size .given .1) in
     let u = skip-got _ _ _ (after-skip .skip .ensures) (after-next .next .given .1) in
-    omega (arith, piece-most _ _ (t .0) (t .1) (omega arith) (u .0) (u .1) (after-info-head-wrong .info-head-wrong .ensures) (after-if2 .if2 .left) (after-info-pieces .info-pieces .ensures))
+    let start = after-take-u32 .before .before in
+    omega (arith, piece-most (start .args .profile) _ _ (t .0) (t .1) (omega arith) (u .0) (u .1) (after-info-head-wrong .info-head-wrong .ensures) (after-if2 .if2 .left) (after-info-pieces .info-pieces .ensures))
 
 returns-5 : tie.Need-returns-5
 returns-5 c =
@@ -129,7 +136,7 @@ returns-5 c =
     let after-take-u32 = after-size .before .before in
     let t = take-got _ _ _ (after-take-u32 .take-u32 .ensures) (after-size .size .given .1) in
     let u = skip-got _ _ _ (after-skip .skip .ensures) (after-next .next .given .1) in
-    info-piece _ _ (t .0) (t .1) (omega arith) (u .0) (u .1) (after-info-head-wrong .info-head-wrong .ensures) (after-if2 .if2 .left)
+    info-piece _ _ _ (t .0) (t .1) (omega arith) (u .0) (u .1) (after-info-head-wrong .info-head-wrong .ensures) (after-if2 .if2 .left)
     (after-info-pieces .info-pieces .ensures) (c .before .if3 .taken) (c .spot-at5 .ensures)
 
 returns-6 : tie.Need-returns-6
@@ -143,7 +150,7 @@ returns-6 c =
     let after-take-u32 = after-size .before .before in
     let t = take-got _ _ _ (after-take-u32 .take-u32 .ensures) (after-size .size .given .1) in
     let u = skip-got _ _ _ (after-skip .skip .ensures) (after-next .next .given .1) in
-    info-got _ _ (t .0) (t .1) (omega arith) (u .0) (u .1) (after-info-head-wrong .info-head-wrong .ensures) (after-if2 .if2 .left)
+    info-got _ _ _ (t .0) (t .1) (omega arith) (u .0) (u .1) (after-info-head-wrong .info-head-wrong .ensures) (after-if2 .if2 .left)
     (after-info-pieces .info-pieces .ensures) (c .before .if3 .left)
 
 pub info-spec : {M : Type 1} → statement M

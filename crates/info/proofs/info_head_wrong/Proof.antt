@@ -12,7 +12,7 @@ cast-head : tie.Need-cast-head
 cast-head c = search needs
 
 returns : tie.Need-returns
-returns c = head-unfit _ (c .before .u32-at .ensures) (c .if1 .taken)
+returns c = head-unfit (c .before .before .before .args .profile) _ (c .before .u32-at .ensures) (c .if1 .taken)
 
 u32-at-requires-2 : tie.Need-u32-at-requires-2
 u32-at-requires-2 c κs = search needs
@@ -21,7 +21,11 @@ returns-2 : tie.Need-returns-2
 returns-2 c =
     let after-if1 = c .before .before in
     let after-u32-at = after-if1 .before in
-    flags-unfit _ (after-u32-at .u32-at .ensures) (after-if1 .if1 .left) (c .before .u32-at2 .ensures) (omega arith)
+    let start = after-u32-at .before .before in
+    flags-unfit (start .args .profile) _ (after-u32-at .u32-at .ensures) (after-if1 .if1 .left) (c .before .u32-at2 .ensures) (omega arith)
+
+ignores-leftovers-requires : tie.Need-ignores-leftovers-requires
+ignores-leftovers-requires c κs = search needs
 
 local-there-requires : tie.Need-local-there-requires
 local-there-requires c κs = search needs
@@ -39,11 +43,13 @@ returns-3 : tie.Need-returns-3
 returns-3 c =
     let after-u32-at3 = c .before .before in
     let after-local-there = after-u32-at3 .before in
-    let after-u32-at2 = after-local-there .before .before in
+    let after-ignores-leftovers = after-local-there .before in
+    let after-u32-at2 = after-ignores-leftovers .before .before in
     let after-if1 = after-u32-at2 .before in
     let after-u32-at = after-if1 .before in
-    volume-kept _ (after-u32-at .u32-at .ensures) (after-if1 .if1 .left) (after-u32-at2 .u32-at2 .ensures) (omega arith)
-    (after-local-there .local-there .ensures) (after-u32-at3 .u32-at3 .ensures) (c .before .absent-zero .ensures) (c .if3 .taken)
+    let start = after-u32-at .before .before in
+    volume-kept (start .args .profile) _ (after-u32-at .u32-at .ensures) (after-if1 .if1 .left) (after-u32-at2 .u32-at2 .ensures) (omega arith)
+    (after-ignores-leftovers .ignores-leftovers .ensures) (after-local-there .local-there .ensures) (after-u32-at3 .u32-at3 .ensures) (c .before .absent-zero .ensures) (c .if3 .taken)
 
 u32-at-requires-4 : tie.Need-u32-at-requires-4
 u32-at-requires-4 c κs = search needs
@@ -61,11 +67,13 @@ returns-4 c =
     let after-absent-zero = after-if3 .before in
     let after-u32-at3 = after-absent-zero .before in
     let after-local-there = after-u32-at3 .before in
-    let after-u32-at2 = after-local-there .before .before in
+    let after-ignores-leftovers = after-local-there .before in
+    let after-u32-at2 = after-ignores-leftovers .before .before in
     let after-if1 = after-u32-at2 .before in
     let after-u32-at = after-if1 .before in
-    local-kept _ (after-u32-at .u32-at .ensures) (after-if1 .if1 .left) (after-u32-at2 .u32-at2 .ensures) (omega arith)
-    (after-local-there .local-there .ensures) (after-u32-at3 .u32-at3 .ensures) (after-absent-zero .absent-zero .ensures) (after-if3 .if3 .left) (after-u32-at4 .u32-at4 .ensures) (c .before .absent-zero2 .ensures) (c .if4 .taken)
+    let start = after-u32-at .before .before in
+    local-kept (start .args .profile) _ (after-u32-at .u32-at .ensures) (after-if1 .if1 .left) (after-u32-at2 .u32-at2 .ensures) (omega arith)
+    (after-ignores-leftovers .ignores-leftovers .ensures) (after-local-there .local-there .ensures) (after-u32-at3 .u32-at3 .ensures) (after-absent-zero .absent-zero .ensures) (after-if3 .if3 .left) (after-u32-at4 .u32-at4 .ensures) (c .before .absent-zero2 .ensures) (c .if4 .taken)
 
 network-there-requires : tie.Need-network-there-requires
 network-there-requires c κs = search needs
@@ -90,21 +98,24 @@ returns-5 c =
     let after-absent-zero = after-if3 .before in
     let after-u32-at3 = after-absent-zero .before in
     let after-local-there = after-u32-at3 .before in
-    let after-u32-at2 = after-local-there .before .before in
+    let after-ignores-leftovers = after-local-there .before in
+    let after-u32-at2 = after-ignores-leftovers .before .before in
     let after-if1 = after-u32-at2 .before in
     let after-u32-at = after-if1 .before in
-    network-kept _ (after-u32-at .u32-at .ensures) (after-if1 .if1 .left) (after-u32-at2 .u32-at2 .ensures) (omega arith)
-    (after-local-there .local-there .ensures) (after-u32-at3 .u32-at3 .ensures) (after-absent-zero .absent-zero .ensures) (after-if3 .if3 .left) (after-u32-at4 .u32-at4 .ensures) (after-absent-zero2 .absent-zero2 .ensures)
+    let start = after-u32-at .before .before in
+    network-kept (start .args .profile) _ (after-u32-at .u32-at .ensures) (after-if1 .if1 .left) (after-u32-at2 .u32-at2 .ensures) (omega arith)
+    (after-ignores-leftovers .ignores-leftovers .ensures) (after-local-there .local-there .ensures) (after-u32-at3 .u32-at3 .ensures) (after-absent-zero .absent-zero .ensures) (after-if3 .if3 .left) (after-u32-at4 .u32-at4 .ensures) (after-absent-zero2 .absent-zero2 .ensures)
     (after-if4 .if4 .left) (after-network-there .network-there .ensures) (after-u32-at5 .u32-at5 .ensures) (c .before .absent-zero3 .ensures) (c .if5 .taken)
 
 field-requires : tie.Need-field-requires
 field-requires c κs =
     let after-if4 = c .before .before .before .before in
     let after-absent-zero = after-if4 .before .before .before .before in
-    let after-u32-at2 = after-absent-zero .before .before .before .before in
+    let after-u32-at2 = after-absent-zero .before .before .before .before .before in
     let after-if1 = after-u32-at2 .before in
     let after-u32-at = after-if1 .before in
-    λ e. omega (arith, head-room _ (after-u32-at .u32-at .ensures) (after-if1 .if1 .left) (after-u32-at2 .u32-at2 .ensures) e)
+    let start = after-u32-at .before .before in
+    λ e. omega (arith, head-room (start .args .profile) _ (after-u32-at .u32-at .ensures) (after-if1 .if1 .left) (after-u32-at2 .u32-at2 .ensures) e)
 
 absent-zero-requires-4 : tie.Need-absent-zero-requires-4
 absent-zero-requires-4 c κs = search needs
@@ -126,11 +137,13 @@ returns-6 c =
     let after-absent-zero = after-if3 .before in
     let after-u32-at3 = after-absent-zero .before in
     let after-local-there = after-u32-at3 .before in
-    let after-u32-at2 = after-local-there .before .before in
+    let after-ignores-leftovers = after-local-there .before in
+    let after-u32-at2 = after-ignores-leftovers .before .before in
     let after-if1 = after-u32-at2 .before in
     let after-u32-at = after-if1 .before in
-    local-unicode-kept _ (after-u32-at .u32-at .ensures) (after-if1 .if1 .left) (after-u32-at2 .u32-at2 .ensures) (omega arith)
-    (after-local-there .local-there .ensures) (after-u32-at3 .u32-at3 .ensures) (after-absent-zero .absent-zero .ensures) (after-if3 .if3 .left) (after-u32-at4 .u32-at4 .ensures) (after-absent-zero2 .absent-zero2 .ensures)
+    let start = after-u32-at .before .before in
+    local-unicode-kept (start .args .profile) _ (after-u32-at .u32-at .ensures) (after-if1 .if1 .left) (after-u32-at2 .u32-at2 .ensures) (omega arith)
+    (after-ignores-leftovers .ignores-leftovers .ensures) (after-local-there .local-there .ensures) (after-u32-at3 .u32-at3 .ensures) (after-absent-zero .absent-zero .ensures) (after-if3 .if3 .left) (after-u32-at4 .u32-at4 .ensures) (after-absent-zero2 .absent-zero2 .ensures)
     (after-if4 .if4 .left) (after-network-there .network-there .ensures) (after-u32-at5 .u32-at5 .ensures) (after-absent-zero3 .absent-zero3 .ensures)
     (after-if5 .if5 .left) (after-field .field .ensures) (c .before .absent-zero4 .ensures) (c .unless .ensures)
 
@@ -143,6 +156,7 @@ info-head-wrong-spec =
     returns
     u32-at-requires-2
     returns-2
+    ignores-leftovers-requires
     local-there-requires
     u32-at-requires-3
     cast-absent-zero

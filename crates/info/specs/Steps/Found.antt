@@ -6,6 +6,8 @@ use mathlib.Core.Bool.{Bool, true, false, cond}
 use lib.ListN.{drop}
 use lib.Dec.{leb, eqb}
 use Rattle.octets.specs.Numbers.{u32At}
+use Rattle.format.specs.declared.Profile.{Profile}
+use Rattle.format.specs.declared.Profile.the-variants.{Strict, NinetyFive}
 use Rattle.format.specs.declared.Place.{Place}
 use Rattle.format.specs.declared.Volume.{Volume}
 use Rattle.format.specs.declared.Network.{Network}
@@ -35,6 +37,11 @@ EndSmall x = x .at + x .len ≤ 65536
 -- a field that is there, or 0
 unfoldable pub fieldIf : Bool → List ℕ → ℕ → ℕ
 fieldIf there l i = cond there (u32At l i) 0
+
+-- whether the offset fields of absent parts are not looked at
+unfoldable pub ignoresLeftovers : Profile → Bool
+ignoresLeftovers Strict = false
+ignoresLeftovers NinetyFive = true
 
 -- ---- a piece and what it says
 

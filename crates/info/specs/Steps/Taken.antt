@@ -2,6 +2,7 @@
 use Prim.Native.Nat.{ℕ, _+_}
 use mathlib.Core.List.{List}
 use lib.ListN.{drop}
+use Rattle.format.specs.declared.Profile.{Profile}
 use Rattle.format.specs.declared.Info.{Info}
 use Rattle.format.specs.Tests.{Outcome, got, refused}
 use Rattle.format.specs.Info.{info}
@@ -15,8 +16,8 @@ abbrev pub infoTaken : ℕ → Outcome Info → InfoTaken
 infoTaken p (got i n) = Got i (record { at = p + n })
 infoTaken p (refused f q) = Refused f q
 
-unfoldable pub infoAt : List ℕ → ℕ → InfoTaken
-infoAt s p = infoTaken p (info p (drop p s))
+unfoldable pub infoAt : Profile → List ℕ → ℕ → InfoTaken
+infoAt profile s p = infoTaken p (info profile p (drop p s))
 
 unfoldable pub infoNumber : InfoTaken → ℕ
 infoNumber (Got i c) = 0
@@ -27,5 +28,5 @@ unfoldable pub infoValue : InfoTaken → ℕ
 infoValue (Got i c) = c .at
 infoValue (Refused f q) = q .position
 
-abbrev pub InfoAnswer : List ℕ → ℕ → InfoTaken → Type 0
-InfoAnswer s p r = Answers infoNumber infoValue p (info p (drop p s)) (infoAt s p) r
+abbrev pub InfoAnswer : Profile → List ℕ → ℕ → InfoTaken → Type 0
+InfoAnswer profile s p r = Answers infoNumber infoValue p (info profile p (drop p s)) (infoAt profile s p) r

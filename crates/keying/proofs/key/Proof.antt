@@ -21,7 +21,7 @@ enum-told-2 c = search needs
 returns : tie.Need-returns
 returns c =
     let after-finish = c .before .before in
-    key-left _ _ (outline-read _ (after-finish .before .before .before .outline-of .ensures) (after-finish .finish .ensures)) (c .enum-told2 .given .1)
+    key-left _ _ _ (outline-read _ _ (after-finish .before .before .before .outline-of .ensures) (after-finish .finish .ensures)) (c .enum-told2 .given .1)
 
 parts-of-requires : tie.Need-parts-of-requires
 parts-of-requires c κs =
@@ -29,7 +29,7 @@ parts-of-requires c κs =
     let after-outline-of = after-finish .before .before .before in
     let accepted = c .enum-told .given .1 in
     let out = after-outline-of .before .before .before .args .out .now in
-    (accepts _ out (outline-read _ (after-outline-of .outline-of .ensures) (after-finish .finish .ensures)) accepted, first-accepted _ (after-outline-of .outline-of .ensures) (after-finish .finish .ensures) accepted)
+    (accepts _ _ out (outline-read _ _ (after-outline-of .outline-of .ensures) (after-finish .finish .ensures)) accepted, first-accepted _ _ (after-outline-of .outline-of .ensures) (after-finish .finish .ensures) accepted)
 
 key-length-requires : tie.Need-key-length-requires
 key-length-requires c κs = search needs
@@ -38,7 +38,7 @@ returns-2 : tie.Need-returns-2
 returns-2 c =
     let after-accepted = c .before .before .before in
     let after-finish = after-accepted .before .before in
-    key-room _ _ (outline-read _ (after-finish .before .before .before .outline-of .ensures) (after-finish .finish .ensures)) (after-accepted .enum-told .given .1) (c .before .before .parts-of .ensures .0) (c .before .before .parts-of .ensures .1) (c .before .key-length .ensures) (c .if1 .taken)
+    key-room _ _ _ (outline-read _ _ (after-finish .before .before .before .outline-of .ensures) (after-finish .finish .ensures)) (after-accepted .enum-told .given .1) (c .before .before .parts-of .ensures .0) (c .before .before .parts-of .ensures .1) (c .before .key-length .ensures) (c .if1 .taken)
 
 put-key-requires : tie.Need-put-key-requires
 put-key-requires c κs = search needs
@@ -54,7 +54,7 @@ returns-3 c =
     let after-accepted = after-parts-of .before in
     let after-finish = after-accepted .before .before in
     let after-outline-of = after-finish .before .before .before in
-    key-written _ _ (outline-read _ (after-outline-of .outline-of .ensures) (after-finish .finish .ensures)) (after-accepted .enum-told .given .1) (after-parts-of .parts-of .ensures .0) (after-parts-of .parts-of .ensures .1) (after-key-length .key-length .ensures) (omega arith) (after-put-key .put-key .ensures)
+    key-written _ _ _ (outline-read _ _ (after-outline-of .outline-of .ensures) (after-finish .finish .ensures)) (after-accepted .enum-told .given .1) (after-parts-of .parts-of .ensures .0) (after-parts-of .parts-of .ensures .1) (after-key-length .key-length .ensures) (omega arith) (after-put-key .put-key .ensures)
 
 pub key-spec : {M : Type 1} → statement M
 key-spec =

@@ -13,7 +13,7 @@ has-target-requires c κs = search needs
 texts-of-requires : tie.Need-texts-of-requires
 texts-of-requires c κs =
     let start = c .before .before .before .before in
-    let i = accepted-texts _ _ (start .pre .0) in
+    let i = accepted-texts _ _ _ (start .pre .0) in
     (i .first, i .suffix)
 
 part-if-requires : tie.Need-part-if-requires
@@ -52,7 +52,7 @@ environment-requires c κs =
     let after-part-if = after-part-if2 .before .before .before .before in
     let after-row = after-part-if .before .before .before .before in
     let start = after-row .before .before in
-    (row-block _ _ (start .pre .0) (start .pre .1)) .block
+    (row-block _ _ _ (start .pre .0) (start .pre .1)) .block
 
 returns : tie.Need-returns
 returns c =
@@ -67,7 +67,7 @@ returns c =
     let after-has-target = after-texts-of .before in
     let after-strings-unicode = after-has-target .before in
     let start = after-strings-unicode .before .before .before in
-    parts-are _ _ (start .pre .0) (after-strings-unicode .strings-unicode .ensures)
+    parts-are _ _ _ (start .pre .0) (after-strings-unicode .strings-unicode .ensures)
     (after-has-target .has-target .ensures) (after-texts-of .texts-of .ensures) (after-part-if .part-if .ensures)
     (after-arguments-there .arguments-there .ensures) (after-only .only .ensures) (after-part-if2 .part-if2 .ensures)
     (after-workdir-there .workdir-there .ensures) (after-only2 .only2 .ensures) (after-part-if3 .part-if3 .ensures)

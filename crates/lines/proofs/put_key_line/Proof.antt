@@ -37,7 +37,7 @@ returns c =
     let after-key = after-told .before .before .before in
     let after-shared = after-key .before .before .before in
     let bytes : Bytes (after-shared .before .args .s .now) = record { at = λ i. omega (arith, after-shared .shared-slice-known .given i) } in
-    let told = refused-key (after-shared .before .args .s .now) _ bytes (length-replicate {A = ℕ} 65536 0) (after-key .key .ensures .0) (after-told .enum-told .given .1) in
+    let told = refused-key _ (after-shared .before .args .s .now) _ bytes (length-replicate {A = ℕ} 65536 0) (after-key .key .ensures .0) (after-told .enum-told .given .1) in
     showed-piece _ _ _ (showed-as (after-verdict .show-verdict .ensures) told)
 
 slice-aggregate-part : tie.Need-slice-aggregate-part
@@ -68,7 +68,7 @@ returns-2 c =
     let after-key = after-v .before .before .before in
     let after-shared = after-key .before .before .before in
     let bytes : Bytes (after-shared .before .args .s .now) = record { at = λ i. omega (arith, after-shared .shared-slice-known .given i) } in
-    let told = accepted-key (after-shared .before .args .s .now) _ bytes (length-replicate {A = ℕ} 65536 0) (after-key .key .ensures .0) (after-v .v .given .1) (after-key .key .ensures .1 .0) in
+    let told = accepted-key _ (after-shared .before .args .s .now) _ bytes (length-replicate {A = ℕ} 65536 0) (after-key .key .ensures .0) (after-v .v .given .1) (after-key .key .ensures .1 .0) in
     showed-piece _ _ _ (showed-as (showed-join (after-hex .show-hex .ensures) (omega arith) (after-feed .show .ensures)) (ap (λ (l : List ℕ). hexOf l ++ lineFeed) (after-part .part .ensures) ∙ told))
 
 pub put-key-line-spec : {M : Type 1} → statement M

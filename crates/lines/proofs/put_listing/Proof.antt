@@ -30,7 +30,7 @@ returns c =
     let after-verdict = c .before .before .before .before in
     let after-finish = after-verdict .before .before in
     let after-outline = after-finish .before .before .before in
-    let told = refused-listing _ (after-outline .outline-of .ensures) (after-finish .finish .ensures) (c .enum-told2 .given .1) in
+    let told = refused-listing _ _ (after-outline .outline-of .ensures) (after-finish .finish .ensures) (c .enum-told2 .given .1) in
     showed-piece _ _ _ (showed-as (after-verdict .show-verdict .ensures) told)
 
 show-sections-requires : tie.Need-show-sections-requires
@@ -50,10 +50,10 @@ returns-2 c =
     let after-verdict = after-told .before .before .before .before in
     let after-finish = after-verdict .before .before in
     let after-outline = after-finish .before .before .before in
-    let R = accepted-rows _ (after-outline .outline-of .ensures) (after-finish .finish .ensures) (after-told .enum-told .given .1) in
+    let R = accepted-rows _ _ (after-outline .outline-of .ensures) (after-finish .finish .ensures) (after-told .enum-told .given .1) in
     let sections = showed-join (after-verdict .show-verdict .ensures) (omega arith) (after-sections .show-sections .ensures) in
     let all = showed-join sections (omega arith) (c .before .before .show-blocks .ensures [] (R .lengths) (R .count) (R .is)) in
-    showed-piece _ _ _ (showed-as all (accepted-listing _ (after-outline .outline-of .ensures) (after-finish .finish .ensures) R))
+    showed-piece _ _ _ (showed-as all (accepted-listing _ _ (after-outline .outline-of .ensures) (after-finish .finish .ensures) R))
 
 pub put-listing-spec : {M : Type 1} → statement M
 put-listing-spec =

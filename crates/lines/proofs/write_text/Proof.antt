@@ -11,10 +11,10 @@ use Rattle.lines.proofs.write_text.Statement.{statement}
 use Rattle.lines.proofs.write_text.Tie as tie
 
 abbrev Inv-loop : tie.InvT-loop
-Inv-loop key s out₀ from₀ out from = (length out ≡ 65536) × (from ≤ length (textOf key s))
+Inv-loop key s profile out₀ from₀ out from = (length out ≡ 65536) × (from ≤ length (textOf profile key s))
 
 abbrev μ-loop : tie.MeasureT-loop
-μ-loop key s out₀ from₀ out from = length (textOf key s) - from
+μ-loop key s profile out₀ from₀ out from = length (textOf profile key s) - from
 
 loop-holds : tie.Need-loop-holds Inv-loop μ-loop
 loop-holds c = (length-replicate {A = ℕ} 65536 0, omega arith)
@@ -46,7 +46,7 @@ add-from c =
     let after-loop = after-put .before .before in
     let after-known = after-loop .before in
     let bytes : Bytes (after-known .before .args .s .now) = record { at = λ i. omega (arith, after-known .shared-slice-known .given i) } in
-    omega (arith, piece-inside _ _ _ (after-put .put-text .ensures .0) (after-loop .loop .inv .1), length-text (after-known .before .args .key) _ bytes)
+    omega (arith, piece-inside _ _ _ (after-put .put-text .ensures .0) (after-loop .loop .inv .1), length-text (after-known .before .args .profile) (after-known .before .args .key) _ bytes)
 
 loop-less : tie.Need-loop-less Inv-loop μ-loop
 loop-less c =

@@ -5,10 +5,11 @@ use mathlib.Core.Bool.{Bool, cond}
 use lib.ListN.{length}
 use lib.Dec.{ltb}
 use Rattle.lines.specs.Text.{listingText, keyText, piece}
+use Rattle.format.specs.declared.Profile.{Profile}
 
 -- the key's line, or the listing
-unfoldable pub textOf : Bool → List ℕ → List ℕ
-textOf key s = cond key (keyText s) (listingText s)
+unfoldable pub textOf : Profile → Bool → List ℕ → List ℕ
+textOf profile key s = cond key (keyText profile s) (listingText profile s)
 
 -- from the place p on, at most k of them; the first that does not fill the room is the last
 unfoldable pub pieces : ℕ → ℕ → List ℕ → ℕ → List ℕ

@@ -18,23 +18,23 @@ enum-told-2 c = search needs
 returns : tie.Need-returns
 returns c =
     let start = c .before .before .before .before .before in
-    move-left (start .args .unicode) (start .args .s .now) (start .args .out .now) (c .before .before .read .ensures .0) (c .enum-told2 .given .1)
+    move-left (start .args .profile) (start .args .unicode) (start .args .s .now) (start .args .out .now) (c .before .before .read .ensures .0) (c .enum-told2 .given .1)
 
 maps-requires : tie.Need-maps-requires
 maps-requires c κs =
     let start = c .before .before .before .before .before .before in
-    is-inside (is-read (start .args .unicode) (start .args .s .now) (start .args .out .now) (c .before .before .before .read .ensures .0) (c .before .enum-told .given .1) (record { at = λ i. omega (arith, c .before .before .before .before .before .shared-slice-known .given i) }))
+    is-inside (start .args .profile) (is-read (start .args .profile) (start .args .unicode) (start .args .s .now) (start .args .out .now) (c .before .before .before .read .ensures .0) (c .before .enum-told .given .1) (record { at = λ i. omega (arith, c .before .before .before .before .before .shared-slice-known .given i) }))
 
 returns-2 : tie.Need-returns-2
 returns-2 c =
     let start = c .before .before .before .before .before .before .before .before in
-    move-none (start .args .unicode) (start .args .s .now) (start .args .out .now) (c .before .before .before .before .before .read .ensures .0) (c .before .before .before .enum-told .given .1) (record { at = λ i. omega (arith, c .before .before .before .before .before .before .before .shared-slice-known .given i) }) (c .before .maps .ensures) (c .if1 .taken)
+    move-none (start .args .profile) (start .args .unicode) (start .args .s .now) (start .args .out .now) (c .before .before .before .before .before .read .ensures .0) (c .before .before .before .enum-told .given .1) (record { at = λ i. omega (arith, c .before .before .before .before .before .before .before .shared-slice-known .given i) }) (c .before .maps .ensures) (c .if1 .taken)
 
 write-moved-requires : tie.Need-write-moved-requires
 write-moved-requires c κs =
     let start = c .before .before .before .before .before .before .before .before .before in
     let bytes : Bytes (start .args .s .now) = record { at = λ i. omega (arith, c .before .before .before .before .before .before .before .before .shared-slice-known .given i) } in
-    (is-read (start .args .unicode) (start .args .s .now) (start .args .out .now) (c .before .before .before .before .before .before .read .ensures .0) (c .before .before .before .before .enum-told .given .1) bytes, move-maps (start .args .unicode) (start .args .s .now) (start .args .out .now) (c .before .before .before .before .before .before .read .ensures .0) (c .before .before .before .before .enum-told .given .1) bytes (c .before .before .maps .ensures) (c .before .if1 .left))
+    (is-read (start .args .profile) (start .args .unicode) (start .args .s .now) (start .args .out .now) (c .before .before .before .before .before .before .read .ensures .0) (c .before .before .before .before .enum-told .given .1) bytes, move-maps (start .args .profile) (start .args .unicode) (start .args .s .now) (start .args .out .now) (c .before .before .before .before .before .before .read .ensures .0) (c .before .before .before .before .enum-told .given .1) bytes (c .before .before .maps .ensures) (c .before .if1 .left))
 
 same-length : tie.Need-same-length
 same-length c = search needs
@@ -43,8 +43,8 @@ returns-3 : tie.Need-returns-3
 returns-3 c =
     let start = c .before .before .before .before .before .before .before .before .before .before .before .before in
     let bytes : Bytes (start .args .s .now) = record { at = λ i. omega (arith, c .before .before .before .before .before .before .before .before .before .before .before .shared-slice-known .given i) } in
-    let maps = move-maps (start .args .unicode) (start .args .s .now) (start .args .out .now) (c .before .before .before .before .before .before .before .before .before .read .ensures .0) (c .before .before .before .before .before .before .before .enum-told .given .1) bytes (c .before .before .before .before .before .maps .ensures) (c .before .before .before .before .if1 .left) in
-    move-made (start .args .unicode) (start .args .s .now) (start .args .out .now) (c .before .before .before .before .before .before .before .before .before .read .ensures .0) (c .before .before .before .before .before .before .before .enum-told .given .1) bytes maps (c .before .before .write-moved .ensures .0) (c .before .before .write-moved .ensures .1)
+    let maps = move-maps (start .args .profile) (start .args .unicode) (start .args .s .now) (start .args .out .now) (c .before .before .before .before .before .before .before .before .before .read .ensures .0) (c .before .before .before .before .before .before .before .enum-told .given .1) bytes (c .before .before .before .before .before .maps .ensures) (c .before .before .before .before .if1 .left) in
+    move-made (start .args .profile) (start .args .unicode) (start .args .s .now) (start .args .out .now) (c .before .before .before .before .before .before .before .before .before .read .ensures .0) (c .before .before .before .before .before .before .before .enum-told .given .1) bytes maps (c .before .before .write-moved .ensures .0) (c .before .before .write-moved .ensures .1)
 
 pub move-to-spec : {M : Type 1} → statement M
 move-to-spec =

@@ -14,7 +14,7 @@ same-length c = search needs
 returns : tie.Need-returns
 returns c =
     let start = c .before .before .before .before .before .before in
-    bytes-call (start .args .s .now) (start .args .out .now) (record { at = λ i. omega (arith, c .before .before .before .before .before .shared-slice-known .given i) }) (c .before .before .move-to .ensures .0) (c .before .before .move-to .ensures .1)
+    bytes-call (start .args .profile) (start .args .s .now) (start .args .out .now) (record { at = λ i. omega (arith, c .before .before .before .before .before .shared-slice-known .given i) }) (c .before .before .move-to .ensures .0) (c .before .before .move-to .ensures .1)
 
 pub to-bytes-spec : {M : Type 1} → statement M
 to-bytes-spec = tie.close (tie.spec move-to-requires same-length returns)

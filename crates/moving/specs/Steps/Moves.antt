@@ -6,6 +6,7 @@ use mathlib.Core.Bool.{Bool, true, false, not, _&&_, _||_, cond}
 use lib.ListN.{length, getD}
 use Rattle.octets.specs.Numbers.{Bytes}
 use Rattle.format.specs.declared.Place.{Place}
+use Rattle.format.specs.declared.Profile.{Profile}
 use Rattle.format.specs.declared.Record.{Record}
 use Rattle.format.specs.Tests.{Outcome, place, noPlace}
 use Rattle.format.specs.Presence.{infoThere, nameBit, relativeBit, workdirBit, argumentsBit, iconBit, stringsUnicode}
@@ -43,9 +44,9 @@ abbrev pub moved : Bool → Contents → Contents
 moved true = inUnicode
 moved false = inBytes
 
-abbrev pub call : Bool → List ℕ → ℕ → Outcome (List ℕ)
-call true = toUnicode
-call false = toByteStrings
+abbrev pub call : Profile → Bool → List ℕ → ℕ → Outcome (List ℕ)
+call profile true = toUnicode profile
+call profile false = toByteStrings profile
 
 -- ---- the record
 
@@ -128,6 +129,6 @@ pub record Going (u : Bool) (d out : List ℕ) (r : Record) : Type 0 where
   pub room : writtenLength (movedRecord u r) ≤ length out
 
 -- the record r was read from the shortcut d
-pub record ReadFrom (d : List ℕ) (r : Record) : Type 0 where
+pub record ReadFrom (profile : Profile) (d : List ℕ) (r : Record) : Type 0 where
   pub bytes : Bytes d
-  pub accepted : Accepts d r
+  pub accepted : Accepts profile d r

@@ -22,7 +22,7 @@ stand : (c : tie.After-known-told)
     → let after-gained = c .before .before .before .before .before .before .before in
     let after-place-of = after-gained .before .before in
     let start = after-place-of .before .before .before .before .before .before .before .before in
-    Stand (start .args .r) (start .args .d .now) (start .args .signature) (start .args .text .now) (start .args .unicode .now) (start .args .out .now)
+    Stand (start .args .profile) (start .args .r) (start .args .d .now) (start .args .signature) (start .args .text .now) (start .args .unicode .now) (start .args .out .now)
     (c .before .v .given .0 .0) (after-gained .gained .result) (after-place-of .before .part .result .now) (after-place-of .place-of .result)
 stand c =
     let after-v = c .before in
@@ -33,7 +33,7 @@ stand c =
     let after-part = after-place-of .before in
     let types = after-part .before .before .before .before in
     let start = types .before .before .before in
-    path-left (start .args .r) (start .args .d .now) (start .args .signature) (start .args .text .now) (start .args .unicode .now) (start .args .out .now) (bytes-given types)
+    path-left (start .args .profile) (start .args .r) (start .args .d .now) (start .args .signature) (start .args .text .now) (start .args .unicode .now) (start .args .out .now) (bytes-given types)
     (after-part .part .ensures) (after-place-of .place-of .ensures) (after-path-fits .path-fits .ensures) (after-gained .gained .ensures) (after-write-leaving .write-leaving .ensures) (after-v .v .given .1) .0
 
 array-copy-out-body : tie.Need-array-copy-out-body
@@ -71,8 +71,8 @@ returns c =
     let after-place-of = after-path-fits .before in
     let after-part = after-place-of .before in
     let types = after-part .before .before .before .before in
-    ended _ _ _ _ _ _ (all-given types)
-    (path-refused _ _ _ _ _ _ (bytes-given types)
+    ended _ _ _ _ _ _ _ (all-given types)
+    (path-refused _ _ _ _ _ _ _ (bytes-given types)
     (after-part .part .ensures) (after-place-of .place-of .ensures) (after-path-fits .path-fits .ensures) (after-gained .gained .ensures) (after-write-leaving .write-leaving .ensures) (c .enum-told .given .1))
 
 block-of-requires : tie.Need-block-of-requires
@@ -110,8 +110,8 @@ returns-2 c =
     let after-place-of = after-path-fits .before in
     let after-part = after-place-of .before in
     let types = after-part .before .before .before .before in
-    ended _ _ _ _ _ _ (all-given types)
-    (path-left _ _ _ _ _ _ (bytes-given types)
+    ended _ _ _ _ _ _ _ (all-given types)
+    (path-left _ _ _ _ _ _ _ (bytes-given types)
     (after-part .part .ensures) (after-place-of .place-of .ensures) (after-path-fits .path-fits .ensures) (after-gained .gained .ensures) (after-write-leaving .write-leaving .ensures) (after-v .v .given .1)
     .1 _ _ (after-block-of .block-of .ensures) (after-put-over .put-over .ensures))
 

@@ -13,12 +13,12 @@ enum-known-next c = search needs
 returns : tie.Need-returns
 returns c =
     let on = c .before .before in
-    fault-whole _ (on .before .before .outline-of .ensures) (on .next .given .1) (c .if1 .taken)
+    fault-whole _ _ (on .before .before .outline-of .ensures) (on .next .given .1) (c .if1 .taken)
 
 trailing-requires : tie.Need-trailing-requires
 trailing-requires c κs =
     let on = c .before .before in
-    on-four _ (on .before .before .outline-of .ensures) (on .next .given .1)
+    on-four _ _ (on .before .before .outline-of .ensures) (on .next .given .1)
 
 enum-known-next-2 : tie.Need-enum-known-next-2
 enum-known-next-2 c = search needs
@@ -26,10 +26,10 @@ enum-known-next-2 c = search needs
 returns-2 : tie.Need-returns-2
 returns-2 c =
     let on = c .before .before .before in
-    fault-trail _ (on .before .before .outline-of .ensures) (on .next .given .1) (c .before .if1 .left) (c .trailing .ensures)
+    fault-trail _ _ (on .before .before .outline-of .ensures) (on .next .given .1) (c .before .if1 .left) (c .trailing .ensures)
 
 returns-3 : tie.Need-returns-3
-returns-3 c = fault-off _ (c .before .before .before .outline-of .ensures) (c .before .next2 .given .1)
+returns-3 c = fault-off _ _ (c .before .before .before .outline-of .ensures) (c .before .next2 .given .1)
 
 pub fault-spec : {M : Type 1} → statement M
 fault-spec =

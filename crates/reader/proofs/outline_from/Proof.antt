@@ -86,7 +86,7 @@ returns c =
     let after-items = after-info-there .before .before in
     let after-items-there = after-items .before in
     let after-unicode = after-items-there .before in
-    outline-is _ _ _ (after-unicode .strings-unicode .ensures)
+    outline-is _ _ _ _ (after-unicode .strings-unicode .ensures)
     (after-items-there .items-there .ensures) (after-items .items-step .ensures)
     (after-info-there .info-there .ensures) (after-info .info-step .ensures)
     (after-name-there .name-there .ensures) (after-name .string-step .ensures)

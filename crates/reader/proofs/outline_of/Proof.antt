@@ -12,7 +12,7 @@ outline-off-requires : tie.Need-outline-off-requires
 outline-off-requires c κs = search needs
 
 returns : tie.Need-returns
-returns c = outline-long _ (omega arith) (rw (c .before .spot-at .ensures) at (c .outline-off .ensures))
+returns c = outline-long _ _ (omega arith) (rw (c .before .spot-at .ensures) at (c .outline-off .ensures))
 
 header-requires : tie.Need-header-requires
 header-requires c κs = search needs
@@ -31,11 +31,11 @@ outline-off-requires-2 c κs = search needs
 
 returns-2 : tie.Need-returns-2
 returns-2 c =
-    outline-got _ (omega arith) (c .before .before .before .before .header .ensures .is) (c .before .before .h .given .1) (c .outline-from .ensures)
+    outline-got _ _ (omega arith) (c .before .before .before .before .header .ensures .is) (c .before .before .h .given .1) (c .outline-from .ensures)
 
 returns-3 : tie.Need-returns-3
 returns-3 c =
-    outline-refused _ (omega arith) (c .before .before .before .before .header .ensures .is) (c .before .before .f .given .1) (c .outline-off2 .ensures)
+    outline-refused _ _ (omega arith) (c .before .before .before .before .header .ensures .is) (c .before .before .f .given .1) (c .outline-off2 .ensures)
 
 pub outline-of-spec : {M : Type 1} → statement M
 outline-of-spec =

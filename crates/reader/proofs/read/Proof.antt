@@ -14,8 +14,8 @@ finish-requires c κs = search needs
 
 returns : tie.Need-returns
 returns c =
-    let e = outline-read _ (c .before .before .outline-of .ensures) (c .finish .ensures) in
-    (e, read-numbered _ (ap (λ (x : Reading). x .verdict) e))
+    let e = outline-read _ _ (c .before .before .outline-of .ensures) (c .finish .ensures) in
+    (e, read-numbered _ _ (ap (λ (x : Reading). x .verdict) e))
 
 pub read-spec : {M : Type 1} → statement M
 read-spec = tie.close (tie.spec outline-of-requires finish-requires returns)

@@ -3,6 +3,7 @@ use Prim.Native.Nat.{ℕ, _+_}
 use mathlib.Core.List.{List, [], _∷_, _++_}
 use mathlib.Core.Bool.{Bool, cond}
 use Rattle.octets.specs.declared.Cursor.{Cursor}
+use Rattle.format.specs.declared.Profile.{Profile}
 use Rattle.format.specs.declared.Place.{Place}
 use Rattle.format.specs.declared.Header.{Header}
 use Rattle.format.specs.declared.Info.{Info}
@@ -73,13 +74,13 @@ unfoldable pub settledInfo : InfoTaken → InfoStep
 settledInfo (GotInfo i c) = stepInfo (On c) i
 settledInfo (RefusedInfo f p) = stepInfo (Off f p) noInfo
 
-unfoldable pub infoOn : List ℕ → Bool → Cursor → InfoStep
+unfoldable pub infoOn : Profile → List ℕ → Bool → Cursor → InfoStep
 unfolding settledInfo
-infoOn s present c = cond present (settledInfo (infoAt s (c .at))) (stepInfo (On c) noInfo)
+infoOn profile s present c = cond present (settledInfo (infoAt profile s (c .at))) (stepInfo (On c) noInfo)
 
-unfoldable pub infoStep : List ℕ → Bool → Next → InfoStep
+unfoldable pub infoStep : Profile → List ℕ → Bool → Next → InfoStep
 unfolding infoOn
-infoStep s present next = onwardsInfo next (infoOn s present)
+infoStep profile s present next = onwardsInfo next (infoOn profile s present)
 
 -- after a refusal nothing is noted
 unfoldable pub settledBlocks : Taken → List ℕ → BlocksStep
@@ -115,13 +116,13 @@ unfoldable pub recordFrom : Header → Place → Info → List Place → Place �
 recordFrom h items info strings blocks = record { header = h; link = linkOf info; places = items ∷ infoPlaces info ++ (strings ++ blocks ∷ []) }
 
 -- the sections after the header
-unfoldable pub outlineFrom : List ℕ → Header → Cursor → Outline
+unfoldable pub outlineFrom : Profile → List ℕ → Header → Cursor → Outline
 unfolding itemsStep stringStep infoStep blocksStep endsOf recordFrom
-outlineFrom s h c =
+outlineFrom profile s h c =
     let f = h .flags in
     let u = stringsUnicode f in
     let items = itemsStep s (itemsThere f) (On c) in
-    let info = infoStep s (infoThere f) (items .next) in
+    let info = infoStep profile s (infoThere f) (items .next) in
     let name = stringStep s (stringThere nameBit f) (nameBit + 1) u (info .next) in
     let relative = stringStep s (stringThere relativeBit f) (relativeBit + 1) u (name .next) in
     let workdir = stringStep s (stringThere workdirBit f) (workdirBit + 1) u (relative .next) in

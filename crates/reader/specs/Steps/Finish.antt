@@ -6,6 +6,7 @@ use mathlib.Core.Bool.{cond}
 use lib.ListN.{length, drop}
 use lib.Dec.{leb, eqb}
 use Rattle.octets.specs.declared.Cursor.{Cursor}
+use Rattle.format.specs.declared.Profile.{Profile}
 use Rattle.format.specs.declared.Fault.{Fault}
 use Rattle.format.specs.declared.Fault.the-variants.{Long as LONG, Trail as TRAIL}
 use Rattle.format.specs.declared.Record.{Record}
@@ -38,14 +39,14 @@ outlineOff f p = record {
   firsts = noFirsts;
 }
 
-abbrev pub outlineAfter : List ℕ → HeaderTaken → Outline
-outlineAfter s (Got h c) = outlineFrom s h c
-outlineAfter s (Stopped f p) = outlineOff f p
+abbrev pub outlineAfter : Profile → List ℕ → HeaderTaken → Outline
+outlineAfter profile s (Got h c) = outlineFrom profile s h c
+outlineAfter profile s (Stopped f p) = outlineOff f p
 
 -- LONG first, then the header, then the sections after it
-unfoldable pub outlineOf : List ℕ → Outline
+unfoldable pub outlineOf : Profile → List ℕ → Outline
 unfolding outlineFrom outlineOff
-outlineOf s = cond (leb (length s) most) (outlineAfter s (headerAt s)) (outlineOff LONG (spotAt noSection most))
+outlineOf profile s = cond (leb (length s) most) (outlineAfter profile s (headerAt profile s)) (outlineOff LONG (spotAt noSection most))
 
 unfoldable pub refusedAt : Fault → ℕ → Reading
 refusedAt f p = record { verdict = Refused f p; held = noRecord }
@@ -74,11 +75,11 @@ nextValue (On c) = c .at
 nextValue (Off f p) = p .position
 
 -- reading, but for what follows the terminal block
-abbrev pub toTerminal : List ℕ → Outcome Sections
-toTerminal s = tests noSection (leb (length s) most else LONG at most ∷ []) (sections 0 s)
+abbrev pub toTerminal : Profile → List ℕ → Outcome Sections
+toTerminal profile s = tests noSection (leb (length s) most else LONG at most ∷ []) (sections profile 0 s)
 
-abbrev pub OutlineAnswer : List ℕ → Outline → Type 0
-OutlineAnswer s r = Answers (λ (o : Outline). nextNumber (o .next)) (λ (o : Outline). nextValue (o .next)) 0 (toTerminal s) (outlineOf s) r
+abbrev pub OutlineAnswer : Profile → List ℕ → Outline → Type 0
+OutlineAnswer profile s r = Answers (λ (o : Outline). nextNumber (o .next)) (λ (o : Outline). nextValue (o .next)) 0 (toTerminal profile s) (outlineOf profile s) r
 
 -- the terminal block ends at the cursor
 abbrev pub trailing : Cursor → Spot

@@ -15,7 +15,7 @@ enum-told-2 : tie.Need-enum-told-2
 enum-told-2 c = search needs
 
 returns : tie.Need-returns
-returns c = rewrite-left _ _ (c .before .before .read .ensures .0) (c .enum-told2 .given .1)
+returns c = rewrite-left _ _ _ (c .before .before .read .ensures .0) (c .enum-told2 .given .1)
 
 write-requires : tie.Need-write-requires
 write-requires c κs = search needs
@@ -29,7 +29,7 @@ returns-2 c =
     let after-accepted = after-write .before .before .before in
     let after-read = after-accepted .before .before in
     let after-bytes-known = after-read .before .before in
-    rewrite-written _ _ (after-read .read .ensures .0) (record { at = λ i. omega (arith, after-bytes-known .shared-slice-known .given i) }) (after-accepted .enum-told .given .1) (after-write .write .ensures)
+    rewrite-written _ _ _ (after-read .read .ensures .0) (record { at = λ i. omega (arith, after-bytes-known .shared-slice-known .given i) }) (after-accepted .enum-told .given .1) (after-write .write .ensures)
 
 pub rewrite-spec : {M : Type 1} → statement M
 rewrite-spec =

@@ -1,4 +1,7 @@
 -- Only 49 fields that are a record are written; the record from them is the one that the definition writes.
+use native.Mathlib.Omega.{arith}
+use borrow.Author.Tests.{lt-leb, le-leb}
+use Rattle.scheduler.specs.Profiles.{profileOf}
 use Rattle.scheduler.proofs.PositionLaws.{write-small}
 use Rattle.scheduler.proofs.FieldLaws.{write-miscounted, write-no-record, is-record, write-answered}
 use borrow.Author.Needs.{needs}
@@ -6,48 +9,77 @@ use Rattle.scheduler.proofs.herringnet_write.Statement.{statement}
 use Rattle.scheduler.proofs.herringnet_write.Tie as tie
 
 returns : tie.Need-returns
-returns c = write-miscounted _ _ _ (c .if1 .taken)
+returns c =
+    let start = c .before .before .before .before in
+    (rw (lt-leb (start .args .profile) 1 (omega arith)), (rw (lt-leb (start .args .profile) 1 (omega arith)), λ h. absurd (omega arith)))
+
+returns-2 : tie.Need-returns-2
+returns-2 c =
+    let start = c .before .before .before .before .before in
+    let small = le-leb (start .args .profile) 1 (omega arith) in
+    let told = write-miscounted (profileOf (start .args .profile)) (start .args .f .now) (start .args .d .now) (start .args .out .now) (c .if2 .taken) in
+    (rw small (told .0), (rw small (told .1 .0), λ h. told .1 .1))
 
 are-record-requires : tie.Need-are-record-requires
 are-record-requires c κs = search needs
 
-returns-2 : tie.Need-returns-2
-returns-2 c = write-no-record _ _ _ (c .before .before .if1 .left) (c .before .are-record .ensures) (c .if2 .taken)
+returns-3 : tie.Need-returns-3
+returns-3 c =
+    let after-are-record = c .before in
+    let after-count-asked = after-are-record .before in
+    let start = after-count-asked .before .before .before .before .before in
+    let small = le-leb (start .args .profile) 1 (omega arith) in
+    let told = write-no-record (profileOf (start .args .profile)) (start .args .f .now) (start .args .d .now) (start .args .out .now) (after-count-asked .if2 .left) (after-are-record .are-record .ensures) (c .if3 .taken) in
+    (rw small (told .0), (rw small (told .1 .0), λ h. told .1 .1))
 
 record-from-requires : tie.Need-record-from-requires
 record-from-requires c κs =
     let after-are-record = c .before in
     let after-count-asked = after-are-record .before in
-    let start = after-count-asked .before .before .before .before in
-    (after-count-asked .if1 .left, is-record _ (start .args .d .now) (start .args .out .now) (after-count-asked .if1 .left) (after-are-record .are-record .ensures) (c .if2 .left))
+    let start = after-count-asked .before .before .before .before .before in
+    (after-count-asked .if2 .left, is-record (profileOf (start .args .profile)) (start .args .f .now) (start .args .d .now) (start .args .out .now) (after-count-asked .if2 .left) (after-are-record .are-record .ensures) (c .if3 .left))
+
+profile-of-requires : tie.Need-profile-of-requires
+profile-of-requires c κs = search needs
 
 write-requires : tie.Need-write-requires
 write-requires c κs = search needs
 
 code-of-requires : tie.Need-code-of-requires
-code-of-requires c κs = rw (c .before .before .write .ensures .0) (write-small _ _ _)
+code-of-requires c κs =
+    let after-write = c .before .before in
+    rw (after-write .write .ensures .0) (write-small (after-write .before .profile-of .result) _ _ _)
 
 same-length : tie.Need-same-length
 same-length c = search needs
 
-returns-3 : tie.Need-returns-3
-returns-3 c =
+returns-4 : tie.Need-returns-4
+returns-4 c =
     let after-write = c .before .before .before in
-    let after-record-from = after-write .before .before in
+    let after-profile-of = after-write .before in
+    let after-record-from = after-profile-of .before .before in
     let after-record-asked = after-record-from .before in
     let after-are-record = after-record-asked .before in
     let after-count-asked = after-are-record .before in
-    write-answered _ _ _ (after-count-asked .if1 .left) (after-are-record .are-record .ensures) (after-record-asked .if2 .left) (after-record-from .record-from .ensures) (after-write .write .ensures) (c .code-of .ensures)
+    let start = after-count-asked .before .before .before .before .before in
+    let small = le-leb (start .args .profile) 1 (omega arith) in
+    let given = after-profile-of .profile-of .ensures in
+    let told =
+    write-answered (after-profile-of .profile-of .result) (start .args .f .now) (start .args .d .now) (start .args .out .now) (after-count-asked .if2 .left) (after-are-record .are-record .ensures) (after-record-asked .if3 .left)
+    (after-record-from .record-from .ensures) (after-write .write .ensures) (c .code-of .ensures) in
+    (rw (small, ← given) (told .0), (rw (small, ← given) (told .1 .0), λ h. rw (← given) (told .1 .1)))
 
 pub herringnet-write-spec : {M : Type 1} → statement M
 herringnet-write-spec =
     tie.close
     (tie.spec
     returns
-    are-record-requires
     returns-2
+    are-record-requires
+    returns-3
     record-from-requires
+    profile-of-requires
     write-requires
     code-of-requires
     same-length
-    returns-3)
+    returns-4)

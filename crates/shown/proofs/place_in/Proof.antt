@@ -13,13 +13,13 @@ enum-told c = search needs
 
 returns : tie.Need-returns
 returns c =
-    none-place _ _ _ (off-listing _ _ (c .before .before .before .pre) (c .enum-told .given .1))
+    none-place _ _ _ _ (off-listing _ _ _ (c .before .before .before .pre) (c .enum-told .given .1))
 
 returns-2 : tie.Need-returns-2
 returns-2 c =
     let after-next = c .before .before .before in
     let start = after-next .before .before .before in
-    none-place _ _ _ (trail-listing _ _ _ (start .pre) (after-next .next .given .1) (c .if1 .taken))
+    none-place _ _ _ _ (trail-listing _ _ _ _ (start .pre) (after-next .next .given .1) (c .if1 .taken))
 
 items-there-requires : tie.Need-items-there-requires
 items-there-requires c κs = search needs
@@ -76,55 +76,55 @@ entry c =
     let after-next = after-end-asked .before .before .before in
     after-next .before .before .before
 
-every-row : (c : tie.After-e) → AllRows (entry c .args .s .now) (entry c .args .o)
+every-row : (c : tie.After-e) → AllRows (entry c .args .profile) (entry c .args .s .now) (entry c .args .o)
 every-row c =
     let after-end-asked = c .before in
     let after-next = after-end-asked .before .before .before in
-    all-rows _ _ _ (entry c .pre) (after-next .next .given .1) (after-end-asked .if1 .left)
+    all-rows _ _ _ _ (entry c .pre) (after-next .next .given .1) (after-end-asked .if1 .left)
 
 returns-3 : tie.Need-returns-3
 returns-3 c =
-    rw (c .match2 .keys1) (place-0 _ _ _ (every-row (c .before)))
+    rw (c .match2 .keys1) (place-0 _ _ _ _ (every-row (c .before)))
 
 returns-4 : tie.Need-returns-4
 returns-4 c =
-    rw (c .before .before .match2 .keys2) (c .between .ensures ∙ rw (c .before .items-there .ensures) (place-1 _ _ _ (every-row (c .before .before .before))))
+    rw (c .before .before .match2 .keys2) (c .between .ensures ∙ rw (c .before .items-there .ensures) (place-1 _ _ _ _ (every-row (c .before .before .before))))
 
 returns-5 : tie.Need-returns-5
 returns-5 c =
-    rw (c .before .before .match2 .keys3) (c .between2 .ensures ∙ rw (c .before .info-there .ensures) (place-2 _ _ _ (every-row (c .before .before .before))))
+    rw (c .before .before .match2 .keys3) (c .between2 .ensures ∙ rw (c .before .info-there .ensures) (place-2 _ _ _ _ (every-row (c .before .before .before))))
 
 returns-6 : tie.Need-returns-6
 returns-6 c =
-    rw (c .before .before .match2 .keys4) (c .between3 .ensures ∙ rw (c .before .name-there .ensures) (place-3 _ _ _ (every-row (c .before .before .before))))
+    rw (c .before .before .match2 .keys4) (c .between3 .ensures ∙ rw (c .before .name-there .ensures) (place-3 _ _ _ _ (every-row (c .before .before .before))))
 
 returns-7 : tie.Need-returns-7
 returns-7 c =
-    rw (c .before .before .match2 .keys5) (c .between4 .ensures ∙ rw (c .before .relative-there .ensures) (place-4 _ _ _ (every-row (c .before .before .before))))
+    rw (c .before .before .match2 .keys5) (c .between4 .ensures ∙ rw (c .before .relative-there .ensures) (place-4 _ _ _ _ (every-row (c .before .before .before))))
 
 returns-8 : tie.Need-returns-8
 returns-8 c =
-    rw (c .before .before .match2 .keys6) (c .between5 .ensures ∙ rw (c .before .workdir-there .ensures) (place-5 _ _ _ (every-row (c .before .before .before))))
+    rw (c .before .before .match2 .keys6) (c .between5 .ensures ∙ rw (c .before .workdir-there .ensures) (place-5 _ _ _ _ (every-row (c .before .before .before))))
 
 returns-9 : tie.Need-returns-9
 returns-9 c =
-    rw (c .before .before .match2 .keys7) (c .between6 .ensures ∙ rw (c .before .arguments-there .ensures) (place-6 _ _ _ (every-row (c .before .before .before))))
+    rw (c .before .before .match2 .keys7) (c .between6 .ensures ∙ rw (c .before .arguments-there .ensures) (place-6 _ _ _ _ (every-row (c .before .before .before))))
 
 returns-10 : tie.Need-returns-10
 returns-10 c =
-    rw (c .before .before .match2 .keys8) (c .between7 .ensures ∙ rw (c .before .icon-there .ensures) (place-7 _ _ _ (every-row (c .before .before .before))))
+    rw (c .before .before .match2 .keys8) (c .between7 .ensures ∙ rw (c .before .icon-there .ensures) (place-7 _ _ _ _ (every-row (c .before .before .before))))
 
 returns-11 : tie.Need-returns-11
 returns-11 c =
-    rw (c .before .match2 .keys9) (place-8 _ _ _ (every-row (c .before .before)) (c .nth-block .ensures))
+    rw (c .before .match2 .keys9) (place-8 _ _ _ _ (every-row (c .before .before)) (c .nth-block .ensures))
 
 returns-12 : tie.Need-returns-12
 returns-12 c =
-    rw (c .before .match2 .keys10) (rw (c .less .ensures) (place-9 _ _ _ (every-row (c .before .before))))
+    rw (c .before .match2 .keys10) (rw (c .less .ensures) (place-9 _ _ _ _ (every-row (c .before .before))))
 
 returns-13 : tie.Need-returns-13
 returns-13 c =
-    place-more _ _ _ (every-row (c .before)) _ (c .match2 .rest)
+    place-more _ _ _ _ (every-row (c .before)) _ (c .match2 .rest)
 
 pub place-in-spec : {M : Type 1} → statement M
 place-in-spec =

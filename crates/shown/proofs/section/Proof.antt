@@ -11,7 +11,7 @@ part-requires : tie.Need-part-requires
 part-requires c κs = search needs
 
 returns : tie.Need-returns
-returns c = section-shown _ _ _ (c .before .section-place .ensures) (c .part .ensures)
+returns c = section-shown _ _ _ _ (c .before .section-place .ensures) (c .part .ensures)
 
 pub section-spec : {M : Type 1} → statement M
 section-spec = tie.close (tie.spec section-place-requires part-requires returns)

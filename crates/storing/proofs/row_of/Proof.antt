@@ -10,7 +10,7 @@ stored-in-requires : tie.Need-stored-in-requires
 stored-in-requires c κs = search needs
 
 returns : tie.Need-returns
-returns c = row-none _ _ (c .before .before .before .stored-in .ensures) refl (c .if1 .taken)
+returns c = row-none _ _ _ (c .before .before .before .stored-in .ensures) refl (c .if1 .taken)
 
 add-at : tie.Need-add-at
 add-at c =
@@ -48,7 +48,7 @@ returns-2 c =
     let after-stored = has-block .before .before .before in
     let T = after-stored .stored-in .ensures in
     let H = T .holds (has-block .if1 .left) in
-    row-is _ _ T (has-block .if1 .left) (rw (after-part .part .ensures ∙ store-part _ _ H) at (c .row-at .ensures))
+    row-is _ _ _ T (has-block .if1 .left) (rw (after-part .part .ensures ∙ store-part _ _ H) at (c .row-at .ensures))
 
 pub row-of-spec : {M : Type 1} → statement M
 row-of-spec =

@@ -16,12 +16,12 @@ enum-told-2 : tie.Need-enum-told-2
 enum-told-2 c = search needs
 
 returns : tie.Need-returns
-returns c = list-left _ _ (c .before .before .before .stored-in .ensures) (c .enum-told2 .given .1)
+returns c = list-left _ _ _ (c .before .before .before .stored-in .ensures) (c .enum-told2 .given .1)
 
 returns-2 : tie.Need-returns-2
 returns-2 c =
     let after-accepted = c .before .before in
-    list-none _ _ (after-accepted .before .before .before .stored-in .ensures) (after-accepted .enum-told .given .1) (c .if1 .taken)
+    list-none _ _ _ (after-accepted .before .before .before .stored-in .ensures) (after-accepted .enum-told .given .1) (c .if1 .taken)
 
 add-at : tie.Need-add-at
 add-at c =
@@ -64,7 +64,7 @@ returns-3 c =
     let after-stored = after-accepted .before .before .before in
     let T = after-stored .stored-in .ensures in
     let H = T .holds (has-block .if1 .left) in
-    list-room _ _ T (after-accepted .enum-told .given .1) (rw (after-part .part .ensures ∙ store-part _ _ H) at (after-count .count-rows .ensures .0)) (c .if2 .taken)
+    list-room _ _ _ T (after-accepted .enum-told .given .1) (rw (after-part .part .ensures ∙ store-part _ _ H) at (after-count .count-rows .ensures .0)) (c .if2 .taken)
 
 put-rows-requires : tie.Need-put-rows-requires
 put-rows-requires c κs =
@@ -79,7 +79,7 @@ put-rows-requires c κs =
     let start = after-stored .before .before .before in
     let q = after-part .part .ensures ∙ store-part _ _ H in
     let ready = store-ready _ _ H (omega (arith, start .good)) (after-part .part .ensures) in
-    (ready .0, (ready .1, rw q (list-fits (start .args .s .now) (start .args .rows .now) T (after-accepted .enum-told .given .1) (rw q at (after-count .count-rows .ensures .0)) (after-test .if2 .left))))
+    (ready .0, (ready .1, rw q (list-fits _ (start .args .s .now) (start .args .rows .now) T (after-accepted .enum-told .given .1) (rw q at (after-count .count-rows .ensures .0)) (after-test .if2 .left))))
 
 same-length : tie.Need-same-length
 same-length c = search needs
@@ -96,7 +96,7 @@ returns-4 c =
     let T = after-stored .stored-in .ensures in
     let H = T .holds (has-block .if1 .left) in
     let q = after-part .part .ensures ∙ store-part _ _ H in
-    list-put _ _ T (after-accepted .enum-told .given .1) (rw q at (after-count .count-rows .ensures .0)) (after-test .if2 .left) (rw q at (after-put .put-rows .ensures))
+    list-put _ _ _ T (after-accepted .enum-told .given .1) (rw q at (after-count .count-rows .ensures .0)) (after-test .if2 .left) (rw q at (after-put .put-rows .ensures))
 
 pub store-list-spec : {M : Type 1} → statement M
 store-list-spec =

@@ -12,7 +12,7 @@ part-requires : tie.Need-part-requires
 part-requires c κs = search needs
 
 returns : tie.Need-returns
-returns c = c .part .ensures ∙ shown-name _ _ (c .before .before .row-of .ensures)
+returns c = c .part .ensures ∙ shown-name _ _ _ (c .before .before .row-of .ensures)
 
 pub store-name-spec : {M : Type 1} → statement M
 store-name-spec = tie.close (tie.spec row-of-requires part-requires returns)

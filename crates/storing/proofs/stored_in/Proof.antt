@@ -21,7 +21,7 @@ enum-told-2 c = search needs
 returns : tie.Need-returns
 returns c =
     let after-finish = c .before .before in
-    stored-refused _ (outline-read _ (after-finish .before .before .before .outline-of .ensures) (after-finish .finish .ensures)) (c .enum-told2 .given .1)
+    stored-refused _ _ (outline-read _ _ (after-finish .before .before .before .outline-of .ensures) (after-finish .finish .ensures)) (c .enum-told2 .given .1)
 
 array-read-block-from : tie.Need-array-read-block-from
 array-read-block-from c = search needs
@@ -31,7 +31,7 @@ block-from-requires c κs =
     let after-finish = c .before .before in
     let after-outline-of = after-finish .before .before .before in
     let accepted = c .enum-told .given .1 in
-    store-field _ (outline-read _ (after-outline-of .outline-of .ensures) (after-finish .finish .ensures)) accepted (first-accepted _ (after-outline-of .outline-of .ensures) (after-finish .finish .ensures) accepted) .reached
+    store-field _ _ (outline-read _ _ (after-outline-of .outline-of .ensures) (after-finish .finish .ensures)) accepted (first-accepted _ _ (after-outline-of .outline-of .ensures) (after-finish .finish .ensures) accepted) .reached
 
 returns-2 : tie.Need-returns-2
 returns-2 c =
@@ -39,7 +39,7 @@ returns-2 c =
     let after-finish = after-accepted .before .before in
     let after-outline-of = after-finish .before .before .before in
     let accepted = after-accepted .enum-told .given .1 in
-    store-field _ (outline-read _ (after-outline-of .outline-of .ensures) (after-finish .finish .ensures)) accepted (first-accepted _ (after-outline-of .outline-of .ensures) (after-finish .finish .ensures) accepted) .stored (c .block-from .ensures)
+    store-field _ _ (outline-read _ _ (after-outline-of .outline-of .ensures) (after-finish .finish .ensures)) accepted (first-accepted _ _ (after-outline-of .outline-of .ensures) (after-finish .finish .ensures) accepted) .stored (c .block-from .ensures)
 
 pub stored-in-spec : {M : Type 1} → statement M
 stored-in-spec =

@@ -4,6 +4,7 @@ use mathlib.Core.List.{List}
 use Prim.Native.Nat.{ℕ, _+_, _≤_}
 use lib.ListN.{length, drop}
 use mathlib.Core.Bool.{true}
+use Rattle.format.specs.declared.Profile.{Profile}
 use Rattle.format.specs.Tests.{all}
 use Rattle.format.specs.declared.Place.{Place}
 use Rattle.format.specs.Store.{storeTests}
@@ -19,9 +20,9 @@ pub record Holds (s : List ℕ) (b : Place) : Type 0 where
   pub long : 12 ≤ b .len
   pub right : all (storeTests 0 (drop 8 (bytesAt s b))) ≡ true
 
-pub record StoredIs (s : List ℕ) (t : Stored) : Type 0 where
-  pub verdict : t .verdict ≡ reading s .verdict
-  pub rows : blockRows s (t .block) ≡ rowsBy s (shortcut s)
+pub record StoredIs (profile : Profile) (s : List ℕ) (t : Stored) : Type 0 where
+  pub verdict : t .verdict ≡ reading profile s .verdict
+  pub rows : blockRows s (t .block) ≡ rowsBy s (shortcut profile s)
   pub holds : (t .block .len ≡ 0 → ⊥) → Holds s (t .block)
 
 -- the places of a row lie inside n bytes
@@ -30,6 +31,6 @@ pub record RowIn (n : ℕ) (r : StoreRow) : Type 0 where
   pub raw : r .raw .at + r .raw .len ≤ n
 
 -- the row of this number in the shortcut s
-pub record RowIs (s : List ℕ) (k : ℕ) (r : StoreRow) : Type 0 where
-  pub is : r ≡ storeRow s k
+pub record RowIs (profile : Profile) (s : List ℕ) (k : ℕ) (r : StoreRow) : Type 0 where
+  pub is : r ≡ storeRow profile s k
   pub inside : RowIn (length s) r

@@ -16,7 +16,7 @@ enum-told-2 : tie.Need-enum-told-2
 enum-told-2 c = search needs
 
 returns : tie.Need-returns
-returns c = target-left _ _ (c .before .before .read .ensures .0) (c .enum-told2 .given .1)
+returns c = target-left _ _ _ (c .before .before .read .ensures .0) (c .enum-told2 .given .1)
 
 has-target-requires : tie.Need-has-target-requires
 has-target-requires c κs = search needs
@@ -26,14 +26,14 @@ returns-2 c =
     let after-has-target = c .before in
     let after-accepted = after-has-target .before .before in
     let after-read = after-accepted .before .before in
-    target-none _ _ (after-read .read .ensures .0) (after-accepted .enum-told .given .1) (after-has-target .has-target .ensures) (c .if1 .taken)
+    target-none _ _ _ (after-read .read .ensures .0) (after-accepted .enum-told .given .1) (after-has-target .has-target .ensures) (c .if1 .taken)
 
 texts-of-requires : tie.Need-texts-of-requires
 texts-of-requires c κs =
     let after-accepted = c .before .before .before in
     let after-read = after-accepted .before .before in
     let start = after-read .before .before .before in
-    let i = inside _ (start .args .out .now) (after-read .read .ensures .0) (after-accepted .enum-told .given .1) in
+    let i = inside _ _ (start .args .out .now) (after-read .read .ensures .0) (after-accepted .enum-told .given .1) in
     (i .first, i .suffix)
 
 add-n : tie.Need-add-n
@@ -42,7 +42,7 @@ add-n c =
     let after-accepted = after-texts-of .before .before .before .before in
     let after-read = after-accepted .before .before in
     let start = after-read .before .before .before in
-    let i = found _ (start .args .out .now) (after-read .read .ensures .0) (after-accepted .enum-told .given .1) (after-texts-of .texts-of .ensures) in
+    let i = found _ _ (start .args .out .now) (after-read .read .ensures .0) (after-accepted .enum-told .given .1) (after-texts-of .texts-of .ensures) in
     omega (arith, i .stands .0, i .stands .2, i .small)
 
 add-n-2 : tie.Need-add-n-2
@@ -51,7 +51,7 @@ add-n-2 c =
     let after-accepted = after-texts-of .before .before .before .before in
     let after-read = after-accepted .before .before in
     let start = after-read .before .before .before in
-    let i = found _ (start .args .out .now) (after-read .read .ensures .0) (after-accepted .enum-told .given .1) (after-texts-of .texts-of .ensures) in
+    let i = found _ _ (start .args .out .now) (after-read .read .ensures .0) (after-accepted .enum-told .given .1) (after-texts-of .texts-of .ensures) in
     omega (arith, i .stands .0, i .stands .1, i .stands .2, i .small)
 
 returns-3 : tie.Need-returns-3
@@ -61,7 +61,7 @@ returns-3 c =
     let after-has-target = after-target-asked .before in
     let after-accepted = after-has-target .before .before in
     let after-read = after-accepted .before .before in
-    target-room _ _ (after-read .read .ensures .0) (after-accepted .enum-told .given .1) (after-has-target .has-target .ensures) (after-target-asked .if1 .left) (after-texts-of .texts-of .ensures) refl (c .if2 .taken)
+    target-room _ _ _ (after-read .read .ensures .0) (after-accepted .enum-told .given .1) (after-has-target .has-target .ensures) (after-target-asked .if1 .left) (after-texts-of .texts-of .ensures) refl (c .if2 .taken)
 
 put-texts-requires : tie.Need-put-texts-requires
 put-texts-requires c κs =
@@ -69,7 +69,7 @@ put-texts-requires c κs =
     let after-accepted = after-texts-of .before .before .before .before in
     let after-read = after-accepted .before .before in
     let start = after-read .before .before .before in
-    let i = found _ (start .args .out .now) (after-read .read .ensures .0) (after-accepted .enum-told .given .1) (after-texts-of .texts-of .ensures) in
+    let i = found _ _ (start .args .out .now) (after-read .read .ensures .0) (after-accepted .enum-told .given .1) (after-texts-of .texts-of .ensures) in
     (i .stands, omega arith)
 
 same-length : tie.Need-same-length
@@ -84,7 +84,7 @@ returns-4 c =
     let after-has-target = after-target-asked .before in
     let after-accepted = after-has-target .before .before in
     let after-read = after-accepted .before .before in
-    target-written _ _ (after-read .read .ensures .0) (after-accepted .enum-told .given .1) (after-has-target .has-target .ensures) (after-target-asked .if1 .left) (after-texts-of .texts-of .ensures) refl (omega arith) (after-put-texts .put-texts .ensures)
+    target-written _ _ _ (after-read .read .ensures .0) (after-accepted .enum-told .given .1) (after-has-target .has-target .ensures) (after-target-asked .if1 .left) (after-texts-of .texts-of .ensures) refl (omega arith) (after-put-texts .put-texts .ensures)
 
 pub target-spec : {M : Type 1} → statement M
 target-spec =

@@ -8,10 +8,10 @@ use Rattle.vectors.proofs.each.Statement.{statement}
 use Rattle.vectors.proofs.each.Tie as tie
 
 abbrev Inv-loop : tie.InvT-loop
-Inv-loop room₀ turns₀ room turns = (length room ≡ length room₀) × (turns ≤ 10000)
+Inv-loop room₀ profile turns₀ room turns = (length room ≡ length room₀) × (turns ≤ 10000)
 
 abbrev μ-loop : tie.MeasureT-loop
-μ-loop room₀ turns₀ room turns = 10000 - turns
+μ-loop room₀ profile turns₀ room turns = 10000 - turns
 
 loop-holds : tie.Need-loop-holds Inv-loop μ-loop
 loop-holds c = (refl, omega arith)

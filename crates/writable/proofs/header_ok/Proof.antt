@@ -15,7 +15,7 @@ hotkey-ok-requires c κs = search needs
 
 returns : tie.Need-returns
 returns c =
-    header-is (c .before .before .before .args .h) (c .before .before .flags-ok .ensures) (c .before .attributes-ok .ensures) (c .hotkey-ok .ensures)
+    header-is (c .before .before .before .args .profile) (c .before .before .before .args .h) (c .before .before .flags-ok .ensures) (c .before .attributes-ok .ensures) (c .hotkey-ok .ensures)
 
 pub header-ok-spec : {M : Type 1} → statement M
 header-ok-spec =

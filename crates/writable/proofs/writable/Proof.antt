@@ -10,7 +10,7 @@ use Rattle.writable.proofs.writable.Tie as tie
 returns : tie.Need-returns
 returns c =
     let start = c .before .before in
-    writable-long (start .args .d .now) (start .args .q) (start .pre .1 .0) (start .pre .1 .1) (omega arith)
+    writable-long (start .args .profile) (start .args .d .now) (start .args .q) (start .pre .1 .0) (start .pre .1 .1) (omega arith)
 
 header-ok-requires : tie.Need-header-ok-requires
 header-ok-requires c κs = search needs
@@ -30,8 +30,8 @@ returns-2 c =
     let start = after-header-ok .before .before .before .before in
     let d = start .args .d .now in
     let q = start .args .q in
-    writable-short d q (start .pre .1 .0) (start .pre .1 .1) (omega arith)
-    (sections-are d q (start .pre .0) (after-header-ok .header-ok .ensures) (c .before .link-ok .ensures) (c .bodies-ok .ensures))
+    writable-short (start .args .profile) d q (start .pre .1 .0) (start .pre .1 .1) (omega arith)
+    (sections-are (start .args .profile) d q (start .pre .0) (after-header-ok .header-ok .ensures) (c .before .link-ok .ensures) (c .bodies-ok .ensures))
 
 pub writable-spec : {M : Type 1} → statement M
 writable-spec =

@@ -17,7 +17,7 @@ returns c =
     let after-write-leaving = c .before .before in
     let after-bytes-known = after-write-leaving .before .before .before in
     let start = after-bytes-known .before in
-    ended (start .args .r) (start .args .d .now) (start .args .out .now)
+    ended (start .args .profile) (start .args .r) (start .args .d .now) (start .args .out .now)
     (type-fits _ _ (start .good .0), record { at = λ i. omega (arith, after-bytes-known .shared-slice-known .given i) })
     (after-write-leaving .write-leaving .ensures)
 

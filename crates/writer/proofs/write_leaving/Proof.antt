@@ -15,7 +15,7 @@ counted-few c =
     let after-if1 = after-end-of .before .before in
     let after-placed = after-if1 .before in
     let start = after-placed .before .before .before .before in
-    few (start .args .r) (start .args .d .now) (start .args .more) (start .args .out .now)
+    few (start .args .profile) (start .args .r) (start .args .d .now) (start .args .more) (start .args .out .now)
     (after-placed .placed .ensures) (after-if1 .if1 .left) (after-writable .writable .ensures) (c .if2 .left) (after-end-of .end-of .ensures)
 
 shape-of-requires : tie.Need-shape-of-requires
@@ -25,7 +25,7 @@ placed-requires : tie.Need-placed-requires
 placed-requires c κs = c .shape-of .ensures
 
 returns : tie.Need-returns
-returns c = write-outside _ _ _ _ (c .before .placed .ensures) (c .if1 .taken)
+returns c = write-outside _ _ _ _ _ (c .before .placed .ensures) (c .if1 .taken)
 
 sizes-of-requires : tie.Need-sizes-of-requires
 sizes-of-requires c κs = search needs
@@ -39,13 +39,13 @@ writable-requires c κs =
     let after-placed = after-if1 .before in
     let after-shape-of = after-placed .before in
     let start = after-shape-of .before .before .before in
-    (after-shape-of .shape-of .ensures, (all-placed (start .args .r) (start .args .d .now) (start .args .more) (start .args .out .now) (after-placed .placed .ensures) (after-if1 .if1 .left), c .end-of .ensures))
+    (after-shape-of .shape-of .ensures, (all-placed (start .args .profile) (start .args .r) (start .args .d .now) (start .args .more) (start .args .out .now) (after-placed .placed .ensures) (after-if1 .if1 .left), c .end-of .ensures))
 
 returns-2 : tie.Need-returns-2
 returns-2 c =
     let after-writable = c .before in
     let after-if1 = after-writable .before .before .before in
-    write-unwritable _ _ _ _ (after-if1 .before .placed .ensures) (after-if1 .if1 .left) (after-writable .writable .ensures) (c .if2 .taken)
+    write-unwritable _ _ _ _ _ (after-if1 .before .placed .ensures) (after-if1 .if1 .left) (after-writable .writable .ensures) (c .if2 .taken)
 
 cast-if3 : tie.Need-cast-if3
 cast-if3 c = search needs
@@ -59,7 +59,7 @@ returns-3 c =
     let after-writable = after-if2 .before in
     let after-end-of = after-writable .before in
     let after-if1 = after-end-of .before .before in
-    write-long _ _ _ _ (after-if1 .before .placed .ensures) (after-if1 .if1 .left) (after-writable .writable .ensures) (after-if2 .if2 .left) (after-end-of .end-of .ensures) (c .if3 .taken)
+    write-long _ _ _ _ _ (after-if1 .before .placed .ensures) (after-if1 .if1 .left) (after-writable .writable .ensures) (after-if2 .if2 .left) (after-end-of .end-of .ensures) (c .if3 .taken)
 
 cast-n : tie.Need-cast-n
 cast-n c = search needs
@@ -74,7 +74,7 @@ returns-4 c =
     let after-writable = after-if2 .before in
     let after-end-of = after-writable .before in
     let after-if1 = after-end-of .before .before in
-    write-room _ _ _ _ (after-if1 .before .placed .ensures) (after-if1 .if1 .left) (after-writable .writable .ensures) (after-if2 .if2 .left) (after-end-of .end-of .ensures) (after-if3 .if3 .left) (omega arith)
+    write-room _ _ _ _ _ (after-if1 .before .placed .ensures) (after-if1 .if1 .left) (after-writable .writable .ensures) (after-if2 .if2 .left) (after-end-of .end-of .ensures) (after-if3 .if3 .left) (omega arith)
 
 put-canonical-requires : tie.Need-put-canonical-requires
 put-canonical-requires c κs =
@@ -88,7 +88,7 @@ put-canonical-requires c κs =
     let after-placed = after-if1 .before in
     let after-shape-of = after-placed .before in
     let start = after-shape-of .before .before .before in
-    (write-fits (start .args .r) _ (start .args .more) _ (after-placed .placed .ensures) (after-if1 .if1 .left) (after-writable .writable .ensures) (after-if2 .if2 .left) (after-end-of .end-of .ensures) (after-if3 .if3 .left) (after-if4 .if4 .left), (after-shape-of .shape-of .ensures, after-sizes-of .sizes-of .ensures))
+    (write-fits (start .args .profile) (start .args .r) _ (start .args .more) _ (after-placed .placed .ensures) (after-if1 .if1 .left) (after-writable .writable .ensures) (after-if2 .if2 .left) (after-end-of .end-of .ensures) (after-if3 .if3 .left) (after-if4 .if4 .left), (after-shape-of .shape-of .ensures, after-sizes-of .sizes-of .ensures))
 
 same-length : tie.Need-same-length
 same-length c = search needs
@@ -102,7 +102,7 @@ returns-5 c =
     let after-writable = after-if2 .before in
     let after-end-of = after-writable .before in
     let after-if1 = after-end-of .before .before in
-    write-written _ _ _ _ (after-if1 .before .placed .ensures) (after-if1 .if1 .left) (after-writable .writable .ensures) (after-if2 .if2 .left) (after-end-of .end-of .ensures) (after-if3 .if3 .left) (after-if4 .if4 .left)
+    write-written _ _ _ _ _ (after-if1 .before .placed .ensures) (after-if1 .if1 .left) (after-writable .writable .ensures) (after-if2 .if2 .left) (after-end-of .end-of .ensures) (after-if3 .if3 .left) (after-if4 .if4 .left)
     (after-put-canonical .put-canonical .ensures .1)
 
 pub write-leaving-spec : {M : Type 1} → statement M
