@@ -15,6 +15,8 @@
  * success, or the position of a refusal. A refusal changes no byte of out and no number of fields or
  * rows. A success changes only the first bytes of out, as many as the length says, and all of fields.
  *
+ * profile is a number of enum herringnet_profile. Any other is refused with PROFILE, before all else.
+ *
  * The rules by which they answer are docs/FORMAT.md of the repository, and comments here name its headings.
  */
 #ifndef HERRINGNET_H
@@ -68,8 +70,16 @@ enum herringnet_number {
     HERRINGNET_TWICE = 14,      /* a block has the known signature of one before it */
     HERRINGNET_STORE = 15,      /* the property store of a block */
     HERRINGNET_NOMAP = 16,      /* a text cannot be moved, or flag bit 7 is already as asked */
-    HERRINGNET_FIELDS = 201,    /* fields are not 49 numbers, or rows not whole rows; tested first */
-    HERRINGNET_VALUES = 202     /* a number of fields does not fit its field; tested next */
+    HERRINGNET_FIELDS = 201,    /* fields are not 49 numbers, or rows not whole rows; tested after PROFILE */
+    HERRINGNET_VALUES = 202,    /* a number of fields does not fit its field; tested next */
+    HERRINGNET_PROFILE = 203    /* profile is no number of enum herringnet_profile; tested first */
+};
+
+/* By which rules a shortcut is read or written (FORMAT: Profiles). What strict accepts 95 accepts, and
+ * answers the same. */
+enum herringnet_profile {
+    HERRINGNET_PROFILE_STRICT = 0,
+    HERRINGNET_PROFILE_95 = 1 /* attribute bit 15 is kept, and unused offsets in LinkInfo's own head may hold anything */
 };
 
 /* The name of an answer's number, as "CUT"; "OTHER" for a number that this header does not know. */
@@ -95,6 +105,7 @@ static inline const char *herringnet_name(unsigned number)
     case HERRINGNET_NOMAP: return "NOMAP";
     case HERRINGNET_FIELDS: return "FIELDS";
     case HERRINGNET_VALUES: return "VALUES";
+    case HERRINGNET_PROFILE: return "PROFILE";
     default: return "OTHER";
     }
 }
@@ -173,49 +184,53 @@ enum herringnet_field {
 };
 
 /* Tests a shortcut by all rules (FORMAT: Order of reading). Success: its length. Refusals: 1 to 9, 14, 15. */
-uint64_t herringnet_check(const uint8_t *shortcut, size_t shortcut_len);
+uint64_t herringnet_check(const uint8_t *shortcut, size_t shortcut_len, uint32_t profile);
 
 /* The same verdict with the section at fault: HERRINGNET_FAULT_POSITION, and start and name of the section, which is a
  * number of enum herringnet_section_name. A block has its own start. The terminal block is at fault for TRAIL, and
  * where fewer than four bytes stand where a block's size was due. LONG has start 0 and name 0. Success: value 0. */
-uint64_t herringnet_fault(const uint8_t *shortcut, size_t shortcut_len);
+uint64_t herringnet_fault(const uint8_t *shortcut, size_t shortcut_len, uint32_t profile);
 
 /* Puts the target text into out: local path or net name, and then the suffix; a backslash between them if neither is
  * empty and the first does not end in one. Success: its length. Refusals: as herringnet_check, then NOTARGET, then
  * ROOM. */
-uint64_t herringnet_target(const uint8_t *shortcut, size_t shortcut_len, uint8_t *out, size_t out_len);
+uint64_t herringnet_target(const uint8_t *shortcut, size_t shortcut_len, uint8_t *out, size_t out_len,
+                           uint32_t profile);
 
 /* Puts the cache key into out: a byte 0 or 1 for bit 7 of LINK_FLAGS, then target text, arguments, working directory
  * and environment, the byte text of the block A0000001 up to its zero. Each of these four is a byte 0 or 1 for its
  * presence, its length in bytes as four bytes, little-endian, and its bytes; one that is absent has length 0. Two
  * accepted shortcuts have equal keys exactly if all this is equal. Success: the key's length, which is never more than
  * shortcut_len. Refusals: as herringnet_check, then ROOM. */
-uint64_t herringnet_key(const uint8_t *shortcut, size_t shortcut_len, uint8_t *out, size_t out_len);
+uint64_t herringnet_key(const uint8_t *shortcut, size_t shortcut_len, uint8_t *out, size_t out_len, uint32_t profile);
 
 /* Moves a shortcut without bit 7 of LINK_FLAGS to one with it, into out: the strings are translated by windows-1252,
  * and a LinkInfo with the short head gets the long one, with both its paths in Unicode. The rest is as it was. Success:
  * the length of the result. Refusals: as herringnet_check, then NOMAP for a byte that is not assigned or a shortcut
  * with the bit, then UNWRITABLE for a result over 65,536 bytes, then ROOM. */
-uint64_t herringnet_to_unicode(const uint8_t *shortcut, size_t shortcut_len, uint8_t *out, size_t out_len);
+uint64_t herringnet_to_unicode(const uint8_t *shortcut, size_t shortcut_len, uint8_t *out, size_t out_len,
+                               uint32_t profile);
 
 /* Moves a shortcut with that bit home to one without it. Its Unicode local path and suffix are dropped. Refusals: as
  * herringnet_check, then NOMAP for a unit that is not in the table, a dropped text that is not the translation of its
  * byte twin or a shortcut without the bit, then UNWRITABLE, then ROOM. */
-uint64_t herringnet_to_bytes(const uint8_t *shortcut, size_t shortcut_len, uint8_t *out, size_t out_len);
+uint64_t herringnet_to_bytes(const uint8_t *shortcut, size_t shortcut_len, uint8_t *out, size_t out_len,
+                             uint32_t profile);
 
 /* Says where a section stands, all of it as listed: HERRINGNET_START and HERRINGNET_LENGTH of the answer. block is the
- * number of a block, from 0, and looked at for that name alone. Never refuses: what is absent, stands in a refused
- * shortcut or has no such name has start 0 and length 0. */
-uint64_t herringnet_section(const uint8_t *shortcut, size_t shortcut_len, uint32_t name, size_t block);
+ * number of a block, from 0, and looked at for that name alone. What is absent, stands in a refused shortcut or has no
+ * such name has start 0 and length 0. Refusals: PROFILE alone. */
+uint64_t herringnet_section(const uint8_t *shortcut, size_t shortcut_len, uint32_t name, size_t block, uint32_t profile);
 
 /* Puts the record of a shortcut into fields, a slice of HERRINGNET_FIELD_COUNT numbers; its body buffer is the
  * shortcut. Success: the shortcut's length. Refusals: FIELDS, then as herringnet_check. */
-uint64_t herringnet_read(const uint8_t *shortcut, size_t shortcut_len, uint64_t *fields, size_t fields_len);
+uint64_t herringnet_read(const uint8_t *shortcut, size_t shortcut_len, uint64_t *fields, size_t fields_len,
+                         uint32_t profile);
 
 /* Writes the shortest shortcut that reads as the record in fields, with its bodies in body, into out. Success: its
  * length. Refusals: FIELDS, VALUES, PLACE, UNWRITABLE, ROOM, in this order. */
 uint64_t herringnet_write(const uint64_t *fields, size_t fields_len, const uint8_t *body, size_t body_len,
-                          uint8_t *out, size_t out_len);
+                          uint8_t *out, size_t out_len, uint32_t profile);
 
 /* The numbers of a row of a property store's list (FORMAT: Store list). A name and raw bytes are a place (AT) and a
  * length (LEN), both in bytes. Numbers that a row does not use are 0 when listed, and count for nothing when written. */
@@ -238,7 +253,8 @@ enum herringnet_row_kind {
 /* Lists the property store of a shortcut: a row of HERRINGNET_ROW_COUNT numbers for each storage and each value, in
  * order, with places in the shortcut. Success: how many rows; their numbers stand at the front of rows, the others are
  * as they were. A shortcut without the block A0000009 has none. Refusals: as herringnet_check, then ROOM. */
-uint64_t herringnet_store_list(const uint8_t *shortcut, size_t shortcut_len, uint64_t *rows, size_t rows_len);
+uint64_t herringnet_store_list(const uint8_t *shortcut, size_t shortcut_len, uint64_t *rows, size_t rows_len,
+                               uint32_t profile);
 
 /* Writes the property store that rows list, with places in body, into out: the store alone, without the eight bytes of
  * a block. Success: its length. Refusals: FIELDS if rows_len is no multiple of HERRINGNET_ROW_COUNT, PLACE, UNWRITABLE
@@ -259,7 +275,7 @@ uint64_t herringnet_store_write(const uint64_t *rows, size_t rows_len, const uin
  * (FORMAT: Path block call). */
 uint64_t herringnet_path_block(const uint64_t *fields, size_t fields_len, const uint8_t *body, size_t body_len,
                                uint32_t signature, const uint8_t *text, size_t text_len, const uint8_t *unicode,
-                               size_t unicode_len, uint8_t *out, size_t out_len);
+                               size_t unicode_len, uint8_t *out, size_t out_len, uint32_t profile);
 
 #ifdef __cplusplus
 }

@@ -8,7 +8,7 @@ mod independent;
 mod shapes;
 
 use herringnet::boundary as proved;
-use independent::{FIELDS, LIMIT};
+use independent::{Profile, FIELDS, LIMIT};
 use std::time::{Duration, Instant};
 
 const REPEATS: usize = 11;
@@ -44,54 +44,54 @@ struct Call {
 const CALLS: [Call; 9] = [
     Call {
         name: "check",
-        proved: |case| proved::check(&case.shortcut),
-        independent: |case| independent::boundary_check(&case.shortcut),
+        proved: |case| proved::check(&case.shortcut, 0),
+        independent: |case| independent::boundary_check(&case.shortcut, 0),
     },
     Call {
         name: "read",
-        proved: |case| proved::read(&case.shortcut, &mut case.fields),
-        independent: |case| independent::boundary_read(&case.shortcut, &mut case.fields),
+        proved: |case| proved::read(&case.shortcut, &mut case.fields, 0),
+        independent: |case| independent::boundary_read(&case.shortcut, &mut case.fields, 0),
     },
     Call {
         name: "target",
-        proved: |case| proved::target(&case.shortcut, &mut case.out),
-        independent: |case| independent::boundary_target(&case.shortcut, &mut case.out),
+        proved: |case| proved::target(&case.shortcut, &mut case.out, 0),
+        independent: |case| independent::boundary_target(&case.shortcut, &mut case.out, 0),
     },
     Call {
         name: "key",
-        proved: |case| proved::key(&case.shortcut, &mut case.out),
-        independent: |case| independent::boundary_key(&case.shortcut, &mut case.out),
+        proved: |case| proved::key(&case.shortcut, &mut case.out, 0),
+        independent: |case| independent::boundary_key(&case.shortcut, &mut case.out, 0),
     },
     // What a scheduler does with each shortcut.
     Call {
         name: "check+key",
-        proved: |case| proved::check(&case.shortcut) + proved::key(&case.shortcut, &mut case.out),
+        proved: |case| proved::check(&case.shortcut, 0) + proved::key(&case.shortcut, &mut case.out, 0),
         independent: |case| {
-            independent::boundary_check(&case.shortcut) + independent::boundary_key(&case.shortcut, &mut case.out)
+            independent::boundary_check(&case.shortcut, 0) + independent::boundary_key(&case.shortcut, &mut case.out, 0)
         },
     },
     Call {
         name: "write",
-        proved: |case| proved::write(&case.record, &case.shortcut, &mut case.out),
-        independent: |case| independent::boundary_write(&case.record, &case.shortcut, &mut case.out),
+        proved: |case| proved::write(&case.record, &case.shortcut, &mut case.out, 0),
+        independent: |case| independent::boundary_write(&case.record, &case.shortcut, &mut case.out, 0),
     },
     // A shortcut of nearly 64 KiB has no space for one more block, unless it replaces one.
     Call {
         name: "path_block",
-        proved: |case| proved::path_block(&case.record, &case.shortcut, ENVIRONMENT, TEXT, UNICODE, &mut case.out),
+        proved: |case| proved::path_block(&case.record, &case.shortcut, ENVIRONMENT, TEXT, UNICODE, &mut case.out, 0),
         independent: |case| {
-            independent::boundary_path_block(&case.record, &case.shortcut, ENVIRONMENT, TEXT, UNICODE, &mut case.out)
+            independent::boundary_path_block(&case.record, &case.shortcut, ENVIRONMENT, TEXT, UNICODE, &mut case.out, 0)
         },
     },
     Call {
         name: "to_unicode",
-        proved: |case| proved::to_unicode(&case.in_bytes, &mut case.out),
-        independent: |case| independent::boundary_to_unicode(&case.in_bytes, &mut case.out),
+        proved: |case| proved::to_unicode(&case.in_bytes, &mut case.out, 0),
+        independent: |case| independent::boundary_to_unicode(&case.in_bytes, &mut case.out, 0),
     },
     Call {
         name: "to_bytes",
-        proved: |case| proved::to_bytes(&case.in_unicode, &mut case.out),
-        independent: |case| independent::boundary_to_bytes(&case.in_unicode, &mut case.out),
+        proved: |case| proved::to_bytes(&case.in_unicode, &mut case.out, 0),
+        independent: |case| independent::boundary_to_bytes(&case.in_unicode, &mut case.out, 0),
     },
 ];
 
@@ -104,7 +104,7 @@ impl Case {
     fn new(shape: &str) -> Case {
         let shortcut = shapes::shape(shape).unwrap_or_else(|| stop("no such shape"));
         let mut record = [0; FIELDS];
-        independent::boundary_read(&shortcut, &mut record);
+        independent::boundary_read(&shortcut, &mut record, 0);
         let [in_bytes, in_unicode] = both_kinds(&shortcut);
         Case { shortcut, in_bytes, in_unicode, record, fields: [0; FIELDS], out: vec![0; LIMIT] }
     }
@@ -112,7 +112,7 @@ impl Case {
     /// A refused shortcut has no record to write, and not all can be moved.
     fn can(&self, call: &Call) -> bool {
         match call.name {
-            "write" | "path_block" => independent::check(&self.shortcut).is_ok(),
+            "write" | "path_block" => independent::check(&self.shortcut, Profile::Strict).is_ok(),
             "to_unicode" | "to_bytes" => !self.in_unicode.is_empty(),
             _ => true,
         }
@@ -121,9 +121,9 @@ impl Case {
 
 /// A shortcut with strings of bytes and what it is in Unicode, if it can be moved.
 fn both_kinds(shortcut: &[u8]) -> [Vec<u8>; 2] {
-    let moved = |to: fn(&[u8], &mut [u8]) -> u64, shortcut: &[u8]| {
+    let moved = |to: fn(&[u8], &mut [u8], u32) -> u64, shortcut: &[u8]| {
         let mut out = vec![0; LIMIT];
-        let answer = to(shortcut, &mut out);
+        let answer = to(shortcut, &mut out, 0);
         out.truncate((answer >> 8) as usize);
         (answer & 0xFF == 0).then_some(out)
     };

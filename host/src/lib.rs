@@ -16,6 +16,7 @@ pub mod boundary;
 pub mod fields;
 pub mod json;
 mod path;
+mod profile;
 pub mod record;
 mod refusal;
 mod section;
@@ -27,19 +28,22 @@ mod unmapped;
 mod unwritable;
 
 pub use path::{PathKind, PathTexts};
+pub use profile::Profile;
 pub use record::Record;
 pub use refusal::{Fault, Refusal};
-pub use section::{listed, listing, section, sections, Section, SectionName};
+pub use section::{
+    listed, listing, listing_under, section, section_under, sections, sections_under, Section, SectionName,
+};
 pub use spot::{Spot, WrongField};
 pub use store::Store;
 pub use text::{StringName, Text};
-pub use unmapped::{unmapped, Unmapped};
+pub use unmapped::{unmapped, unmapped_under, Unmapped};
 pub use unwritable::Cause;
 
 use refusal::answer;
 
 /// The requests whose rules this package and its archive follow; docs/requests of the repository has a note of each.
-pub const REQUESTS: [&str; 9] = ["01", "02", "03", "04", "05", "06", "07", "08", "09"];
+pub const REQUESTS: [&str; 10] = ["01", "02", "03", "04", "05", "06", "07", "08", "09", "10"];
 
 /// The SHA-256 of the archive that is linked, in hex.
 pub const ARCHIVE_DIGEST: &str = env!("HERRINGNET_DIGEST");
@@ -57,7 +61,16 @@ pub const LONGEST: usize = 65_536;
 #[doc = include_str!("../examples/check.rs")]
 /// ```
 pub fn check(shortcut: &[u8]) -> Result<usize, Refusal> {
-    answer(boundary::check(shortcut))
+    check_under(shortcut, Profile::Strict)
+}
+
+/// The same under a profile.
+///
+/// # Errors
+///
+/// As [`check`]; 95 refuses fewer with 4 and 6.
+pub fn check_under(shortcut: &[u8], profile: Profile) -> Result<usize, Refusal> {
+    answer(boundary::check(shortcut, profile.number()))
 }
 
 /// Where and why a shortcut is refused: the verdict of [`check`] with the section at fault, which can name the field;
@@ -67,7 +80,12 @@ pub fn check(shortcut: &[u8]) -> Result<usize, Refusal> {
 #[doc = include_str!("../examples/fault.rs")]
 /// ```
 pub fn fault(shortcut: &[u8]) -> Option<Spot> {
-    spot::spot(boundary::fault(shortcut))
+    fault_under(shortcut, Profile::Strict)
+}
+
+/// The same under a profile.
+pub fn fault_under(shortcut: &[u8], profile: Profile) -> Option<Spot> {
+    spot::spot(boundary::fault(shortcut, profile.number()), profile)
 }
 
 /// The target text of a shortcut: local path or net name, and then the suffix, as bytes; a backslash between them if
@@ -81,9 +99,18 @@ pub fn fault(shortcut: &[u8]) -> Option<Spot> {
 #[doc = include_str!("../examples/target.rs")]
 /// ```
 pub fn target(shortcut: &[u8]) -> Result<Vec<u8>, Refusal> {
+    target_under(shortcut, Profile::Strict)
+}
+
+/// The same under a profile.
+///
+/// # Errors
+///
+/// As [`check_under`], then [`Fault::NoTarget`].
+pub fn target_under(shortcut: &[u8], profile: Profile) -> Result<Vec<u8>, Refusal> {
     // A target text is never longer than its shortcut, nor that than the longest.
     let mut text = vec![0; shortcut.len().min(LONGEST)];
-    let length = target_into(shortcut, &mut text)?;
+    let length = target_into_under(shortcut, &mut text, profile)?;
     text.truncate(length);
     Ok(text)
 }
@@ -94,7 +121,16 @@ pub fn target(shortcut: &[u8]) -> Result<Vec<u8>, Refusal> {
 ///
 /// As [`target`], then [`Fault::Room`]. A refusal changes no byte of `out`.
 pub fn target_into(shortcut: &[u8], out: &mut [u8]) -> Result<usize, Refusal> {
-    answer(boundary::target(shortcut, out))
+    target_into_under(shortcut, out, Profile::Strict)
+}
+
+/// The same under a profile.
+///
+/// # Errors
+///
+/// As [`target_under`], then [`Fault::Room`]. A refusal changes no byte of `out`.
+pub fn target_into_under(shortcut: &[u8], out: &mut [u8], profile: Profile) -> Result<usize, Refusal> {
+    answer(boundary::target(shortcut, out, profile.number()))
 }
 
 /// The cache key of a shortcut: equal for two accepted shortcuts exactly if all that it is made of is equal.
@@ -112,9 +148,18 @@ pub fn target_into(shortcut: &[u8], out: &mut [u8]) -> Result<usize, Refusal> {
 #[doc = include_str!("../examples/key.rs")]
 /// ```
 pub fn key(shortcut: &[u8]) -> Result<Vec<u8>, Refusal> {
+    key_under(shortcut, Profile::Strict)
+}
+
+/// The same under a profile.
+///
+/// # Errors
+///
+/// As [`check_under`].
+pub fn key_under(shortcut: &[u8], profile: Profile) -> Result<Vec<u8>, Refusal> {
     // A key is never longer than its shortcut, nor that than the longest.
     let mut key = vec![0; shortcut.len().min(LONGEST)];
-    let length = key_into(shortcut, &mut key)?;
+    let length = key_into_under(shortcut, &mut key, profile)?;
     key.truncate(length);
     Ok(key)
 }
@@ -126,7 +171,16 @@ pub fn key(shortcut: &[u8]) -> Result<Vec<u8>, Refusal> {
 /// As [`key`], then [`Fault::Room`], which a buffer as long as the shortcut never meets. A refusal changes no byte of
 /// `out`.
 pub fn key_into(shortcut: &[u8], out: &mut [u8]) -> Result<usize, Refusal> {
-    answer(boundary::key(shortcut, out))
+    key_into_under(shortcut, out, Profile::Strict)
+}
+
+/// The same under a profile.
+///
+/// # Errors
+///
+/// As [`key_under`], then [`Fault::Room`]. A refusal changes no byte of `out`.
+pub fn key_into_under(shortcut: &[u8], out: &mut [u8], profile: Profile) -> Result<usize, Refusal> {
+    answer(boundary::key(shortcut, out, profile.number()))
 }
 
 /// Moves a shortcut without LinkFlags bit 7 to one with it: its strings are translated by windows-1252, and a
@@ -141,7 +195,16 @@ pub fn key_into(shortcut: &[u8], out: &mut [u8]) -> Result<usize, Refusal> {
 #[doc = include_str!("../examples/moves.rs")]
 /// ```
 pub fn to_unicode(shortcut: &[u8]) -> Result<Vec<u8>, Refusal> {
-    moved(shortcut, to_unicode_into)
+    to_unicode_under(shortcut, Profile::Strict)
+}
+
+/// The same under a profile.
+///
+/// # Errors
+///
+/// As [`check_under`], then as [`to_unicode`].
+pub fn to_unicode_under(shortcut: &[u8], profile: Profile) -> Result<Vec<u8>, Refusal> {
+    moved(|out| to_unicode_into_under(shortcut, out, profile))
 }
 
 /// Puts the shortcut that [`to_unicode`] makes at the front of `out`, and gives its length. The rest of `out` stays as
@@ -151,7 +214,16 @@ pub fn to_unicode(shortcut: &[u8]) -> Result<Vec<u8>, Refusal> {
 ///
 /// As [`to_unicode`], then [`Fault::Room`]. A refusal changes no byte of `out`.
 pub fn to_unicode_into(shortcut: &[u8], out: &mut [u8]) -> Result<usize, Refusal> {
-    answer(boundary::to_unicode(shortcut, out))
+    to_unicode_into_under(shortcut, out, Profile::Strict)
+}
+
+/// The same under a profile.
+///
+/// # Errors
+///
+/// As [`to_unicode_under`], then [`Fault::Room`]. A refusal changes no byte of `out`.
+pub fn to_unicode_into_under(shortcut: &[u8], out: &mut [u8], profile: Profile) -> Result<usize, Refusal> {
+    answer(boundary::to_unicode(shortcut, out, profile.number()))
 }
 
 /// Moves a shortcut with LinkFlags bit 7 home to one without it: its strings are translated back by windows-1252, and
@@ -162,7 +234,16 @@ pub fn to_unicode_into(shortcut: &[u8], out: &mut [u8]) -> Result<usize, Refusal
 /// As [`check`], then [`Fault::NoMap`] for a unit that is not in the table, a Unicode text that differs or a shortcut
 /// without the bit. The example of [`to_unicode`] has both ways.
 pub fn to_bytes(shortcut: &[u8]) -> Result<Vec<u8>, Refusal> {
-    moved(shortcut, to_bytes_into)
+    to_bytes_under(shortcut, Profile::Strict)
+}
+
+/// The same under a profile.
+///
+/// # Errors
+///
+/// As [`check_under`], then as [`to_bytes`].
+pub fn to_bytes_under(shortcut: &[u8], profile: Profile) -> Result<Vec<u8>, Refusal> {
+    moved(|out| to_bytes_into_under(shortcut, out, profile))
 }
 
 /// Puts the shortcut that [`to_bytes`] makes at the front of `out`, and gives its length. The rest of `out` stays as it
@@ -172,13 +253,22 @@ pub fn to_bytes(shortcut: &[u8]) -> Result<Vec<u8>, Refusal> {
 ///
 /// As [`to_bytes`], then [`Fault::Room`]. A refusal changes no byte of `out`.
 pub fn to_bytes_into(shortcut: &[u8], out: &mut [u8]) -> Result<usize, Refusal> {
-    answer(boundary::to_bytes(shortcut, out))
+    to_bytes_into_under(shortcut, out, Profile::Strict)
+}
+
+/// The same under a profile.
+///
+/// # Errors
+///
+/// As [`to_bytes_under`], then [`Fault::Room`]. A refusal changes no byte of `out`.
+pub fn to_bytes_into_under(shortcut: &[u8], out: &mut [u8], profile: Profile) -> Result<usize, Refusal> {
+    answer(boundary::to_bytes(shortcut, out, profile.number()))
 }
 
 /// What a move makes: never longer than the longest shortcut, and so never short of room there.
-fn moved(shortcut: &[u8], into: fn(&[u8], &mut [u8]) -> Result<usize, Refusal>) -> Result<Vec<u8>, Refusal> {
+fn moved(into: impl Fn(&mut [u8]) -> Result<usize, Refusal>) -> Result<Vec<u8>, Refusal> {
     let mut out = vec![0; LONGEST];
-    let length = into(shortcut, &mut out)?;
+    let length = into(&mut out)?;
     out.truncate(length);
     Ok(out)
 }

@@ -8,7 +8,7 @@ use crate::path::{PathKind, PathTexts};
 use crate::refusal::{answer, Fault, Refusal};
 use crate::text::{Misfit, StringName, Text};
 use crate::unwritable::{cause, other_kind};
-use crate::LONGEST;
+use crate::{Profile, LONGEST};
 
 /// The record of a shortcut. Its bodies are slices: after reading, parts of the shortcut.
 ///
@@ -194,8 +194,17 @@ impl<'a> Record<'a> {
     ///
     /// As [`check`](crate::check).
     pub fn read(shortcut: &'a [u8]) -> Result<Record<'a>, Refusal> {
+        Record::read_under(shortcut, Profile::Strict)
+    }
+
+    /// The same under a profile.
+    ///
+    /// # Errors
+    ///
+    /// As [`check_under`](crate::check_under).
+    pub fn read_under(shortcut: &'a [u8], profile: Profile) -> Result<Record<'a>, Refusal> {
         let mut numbers = [0; FIELDS];
-        answer(boundary::read(shortcut, &mut numbers))?;
+        answer(boundary::read(shortcut, &mut numbers, profile.number()))?;
         Ok(Taken { shortcut, numbers }.record())
     }
 
@@ -234,9 +243,19 @@ impl<'a> Record<'a> {
     /// [`Fault::Unwritable`] if no shortcut reads as it, with the field at fault, then [`Fault::Room`]. A refusal
     /// changes no byte of `out`.
     pub fn write(&self, out: &mut [u8]) -> Result<usize, Refusal> {
+        self.write_under(out, Profile::Strict)
+    }
+
+    /// The same under a profile: the shortest shortcut that reads so under it.
+    ///
+    /// # Errors
+    ///
+    /// As [`write`](Record::write).
+    pub fn write_under(&self, out: &mut [u8], profile: Profile) -> Result<usize, Refusal> {
         self.one_kind()?;
         let put = Put::of(self);
-        answer(boundary::write(&put.numbers, &put.body, out)).map_err(|refusal| self.explained(refusal))
+        answer(boundary::write(&put.numbers, &put.body, out, profile.number()))
+            .map_err(|refusal| self.explained(refusal, profile))
     }
 
     /// The shortest shortcut that reads as this record.
@@ -245,8 +264,17 @@ impl<'a> Record<'a> {
     ///
     /// [`Fault::Unwritable`], with the field at fault.
     pub fn to_vec(&self) -> Result<Vec<u8>, Refusal> {
+        self.to_vec_under(Profile::Strict)
+    }
+
+    /// The same under a profile.
+    ///
+    /// # Errors
+    ///
+    /// [`Fault::Unwritable`], with the field at fault.
+    pub fn to_vec_under(&self, profile: Profile) -> Result<Vec<u8>, Refusal> {
         self.one_kind()?;
-        self.written().map_err(|refusal| self.explained(refusal))
+        self.written(profile).map_err(|refusal| self.explained(refusal, profile))
     }
 
     /// The shortest shortcut that reads as this record with a path block put in: in the stead of the one of its kind,
@@ -261,24 +289,40 @@ impl<'a> Record<'a> {
     #[doc = include_str!("../examples/path.rs")]
     /// ```
     pub fn with_path_block(&self, kind: PathKind, texts: &PathTexts) -> Result<Vec<u8>, Refusal> {
+        self.with_path_block_under(kind, texts, Profile::Strict)
+    }
+
+    /// The same under a profile.
+    ///
+    /// # Errors
+    ///
+    /// As [`with_path_block`](Record::with_path_block).
+    pub fn with_path_block_under(
+        &self,
+        kind: PathKind,
+        texts: &PathTexts,
+        profile: Profile,
+    ) -> Result<Vec<u8>, Refusal> {
         self.one_kind()?;
         let put = Put::of(self);
         let mut out = vec![0; LONGEST.min(put.body.len().saturating_add(FRAME + BLOCK))];
         let PathTexts { bytes, unicode } = texts;
-        let answered = boundary::path_block(&put.numbers, &put.body, kind.signature(), bytes, unicode, &mut out);
+        let (signature, profile_number) = (kind.signature(), profile.number());
+        let answered =
+            boundary::path_block(&put.numbers, &put.body, signature, bytes, unicode, &mut out, profile_number);
         let length = answer(answered).map_err(|refusal| match kind.cause(texts) {
             Some(cause) => Refusal { cause: Some(cause), ..refusal },
-            None => self.explained(refusal),
+            None => self.explained(refusal, profile),
         })?;
         out.truncate(length);
         Ok(out)
     }
 
     /// The writer's own answer.
-    pub(crate) fn written(&self) -> Result<Vec<u8>, Refusal> {
+    pub(crate) fn written(&self, profile: Profile) -> Result<Vec<u8>, Refusal> {
         let put = Put::of(self);
         let mut out = vec![0; LONGEST.min(put.body.len().saturating_add(FRAME))];
-        let length = answer(boundary::write(&put.numbers, &put.body, &mut out))?;
+        let length = answer(boundary::write(&put.numbers, &put.body, &mut out, profile.number()))?;
         out.truncate(length);
         Ok(out)
     }
@@ -297,9 +341,9 @@ impl<'a> Record<'a> {
     }
 
     /// The refusal with the field at fault, where there is one.
-    fn explained(&self, refusal: Refusal) -> Refusal {
+    fn explained(&self, refusal: Refusal, profile: Profile) -> Refusal {
         match refusal.fault {
-            Fault::Unwritable => Refusal { cause: cause(self), ..refusal },
+            Fault::Unwritable => Refusal { cause: cause(self, profile), ..refusal },
             _ => refusal,
         }
     }

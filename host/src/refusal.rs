@@ -43,12 +43,14 @@ pub enum Fault {
     Fields,
     /// 202, of the boundary alone: a field's number does not fit its field.
     Values,
+    /// 203, of the boundary alone: the number of the profile is none.
+    Profile,
     /// A number that this package does not know.
     Other(u8),
 }
 
 /// Number, name and reason of every fault that has a name.
-const TABLE: [(Fault, u8, &str, &str); 18] = [
+const TABLE: [(Fault, u8, &str, &str); 19] = [
     (Fault::Long, 1, "LONG", "it has more than 65,536 bytes"),
     (Fault::Cut, 2, "CUT", "it is cut off inside a field or a part"),
     (Fault::Magic, 3, "MAGIC", "header size or class identifier is not that of a shortcut"),
@@ -67,6 +69,7 @@ const TABLE: [(Fault, u8, &str, &str); 18] = [
     (Fault::NoMap, 16, "NOMAP", "a text cannot be moved, or it is already as asked"),
     (Fault::Fields, 201, "FIELDS", "a record has 49 numbers"),
     (Fault::Values, 202, "VALUES", "a number does not fit its field"),
+    (Fault::Profile, 203, "PROFILE", "there is no such profile"),
 ];
 
 impl Fault {

@@ -1,6 +1,6 @@
 //! The sections of a shortcut, as the listing has them.
 use crate::refusal::{answer, Refusal};
-use crate::{boundary, check};
+use crate::{boundary, check_under, Profile};
 use std::fmt;
 
 /// How many bytes the terminal block has.
@@ -87,7 +87,12 @@ impl fmt::Display for Section<'_> {
 #[doc = include_str!("../examples/sections.rs")]
 /// ```
 pub fn section(shortcut: &[u8], name: SectionName, block: usize) -> Option<Section<'_>> {
-    let place = answer(boundary::section(shortcut, name.number(), block)).ok()?;
+    section_under(shortcut, name, block, Profile::Strict)
+}
+
+/// The same under a profile.
+pub fn section_under(shortcut: &[u8], name: SectionName, block: usize, profile: Profile) -> Option<Section<'_>> {
+    let place = answer(boundary::section(shortcut, name.number(), block, profile.number())).ok()?;
     let (start, length) = (place % 65_537, place / 65_537);
     let bytes = shortcut.get(start..start + length)?;
     // No section is empty, so an empty one is one that is not there.
@@ -98,14 +103,23 @@ pub fn section(shortcut: &[u8], name: SectionName, block: usize) -> Option<Secti
 ///
 /// # Errors
 ///
-/// The verdict of [`check`], where that is a refusal.
+/// The verdict of [`check`](crate::check), where that is a refusal.
 pub fn sections(shortcut: &[u8]) -> Result<Vec<Section<'_>>, Refusal> {
-    let length = check(shortcut)?;
+    sections_under(shortcut, Profile::Strict)
+}
+
+/// The same under a profile.
+///
+/// # Errors
+///
+/// The verdict of [`check_under`], where that is a refusal.
+pub fn sections_under(shortcut: &[u8], profile: Profile) -> Result<Vec<Section<'_>>, Refusal> {
+    let length = check_under(shortcut, profile)?;
     let mut found = Vec::new();
     for name in SectionName::ALL {
         match name {
             Block => found.extend(blocks(shortcut, found.iter().map(Section::length).sum(), length - TERMINAL)),
-            _ => found.extend(section(shortcut, name, 0)),
+            _ => found.extend(section_under(shortcut, name, 0, profile)),
         }
     }
     Ok(found)
@@ -129,9 +143,18 @@ fn blocks(shortcut: &[u8], from: usize, to: usize) -> impl Iterator<Item = Secti
 ///
 /// # Errors
 ///
-/// The verdict of [`check`], where that is a refusal.
+/// The verdict of [`check`](crate::check), where that is a refusal.
 pub fn listing(shortcut: &[u8]) -> Result<String, Refusal> {
-    Ok(listed(&sections(shortcut)?))
+    listing_under(shortcut, Profile::Strict)
+}
+
+/// The same under a profile.
+///
+/// # Errors
+///
+/// The verdict of [`check_under`], where that is a refusal.
+pub fn listing_under(shortcut: &[u8], profile: Profile) -> Result<String, Refusal> {
+    Ok(listed(&sections_under(shortcut, profile)?))
 }
 
 /// The listing of all sections of a shortcut.

@@ -1,7 +1,7 @@
 //! The property store of a shortcut: storages, and the values in each (FORMAT: Property store).
 use crate::boundary;
 use crate::refusal::{answer, Refusal};
-use crate::LONGEST;
+use crate::{Profile, LONGEST};
 
 /// The numbers of a row of the boundary's list (FORMAT: Store list).
 const ROW: usize = 6;
@@ -61,8 +61,17 @@ impl<'a> Store<'a> {
     ///
     /// As [`check`](crate::check).
     pub fn read(shortcut: &'a [u8]) -> Result<Store<'a>, Refusal> {
+        Store::read_under(shortcut, Profile::Strict)
+    }
+
+    /// The same under a profile.
+    ///
+    /// # Errors
+    ///
+    /// As [`check_under`](crate::check_under).
+    pub fn read_under(shortcut: &'a [u8], profile: Profile) -> Result<Store<'a>, Refusal> {
         let mut rows = vec![0; ROW * (shortcut.len().min(LONGEST) / VALUE)];
-        let count = answer(boundary::store_list(shortcut, &mut rows))?;
+        let count = answer(boundary::store_list(shortcut, &mut rows, profile.number()))?;
         let mut store = Store::default();
         for row in rows.chunks_exact(ROW).take(count) {
             store.add(row, shortcut);

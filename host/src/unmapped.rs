@@ -2,6 +2,7 @@
 use crate::boundary;
 use crate::fields::{FIELDS, LINK_FLAGS, LOCAL_AT, LOCAL_UNICODE_AT, LONG, NAME_AT, SUFFIX_AT, SUFFIX_UNICODE_AT};
 use crate::text::{byte_of_unit, two_bytes_each, unit_of_byte, StringName};
+use crate::Profile;
 use std::fmt;
 
 /// LinkFlags bit 1.
@@ -44,8 +45,13 @@ impl fmt::Display for Unmapped {
 
 /// The first thing that stands against moving an accepted shortcut, to Unicode or to bytes; `None` where nothing does.
 pub fn unmapped(shortcut: &[u8], unicode: bool) -> Option<Unmapped> {
+    unmapped_under(shortcut, unicode, Profile::Strict)
+}
+
+/// The same under a profile.
+pub fn unmapped_under(shortcut: &[u8], unicode: bool, profile: Profile) -> Option<Unmapped> {
     let mut fields = [0; FIELDS];
-    if boundary::read(shortcut, &mut fields) % 256 != 0 {
+    if boundary::read(shortcut, &mut fields, profile.number()) % 256 != 0 {
         return None;
     }
     let found = Found { shortcut, fields: &fields };

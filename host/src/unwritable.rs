@@ -2,10 +2,10 @@
 //!
 //! The proved writer says that no shortcut reads as a record, and not why. So it is asked again, for records that
 //! have one part of the first alone: what is refused alone is at fault.
-use crate::check;
 use crate::record::{Header, Info, InfoUnicode, Label, Local, Network, NetworkUnicode, Record};
 use crate::refusal::Fault;
 use crate::text::StringName;
+use crate::{check, Profile};
 use std::fmt;
 
 /// A field that makes a record unwritable.
@@ -36,9 +36,9 @@ pub fn other_kind(record: &Record) -> Option<Cause> {
 }
 
 /// The cause, for a record that the writer refuses. If every part passes alone, they can be too long together.
-pub fn cause(record: &Record) -> Option<Cause> {
-    let alone = header(record).into_iter().chain(info(record)).chain(strings(record)).chain(blocks(record));
-    let mut refused = alone.filter(|(_, _, part)| part.written().is_err());
+pub fn cause(record: &Record, profile: Profile) -> Option<Cause> {
+    let alone = header(record, profile).into_iter().chain(info(record)).chain(strings(record)).chain(blocks(record));
+    let mut refused = alone.filter(|(_, _, part)| part.written(profile).is_err());
     let first = refused.next().map(|(field, why, _)| Cause { field, why });
     let long = Cause { field: "length", why: "the shortcut would have more than 65,536 bytes" };
     first.or_else(|| record.may_be_long().then_some(long))
@@ -47,7 +47,7 @@ pub fn cause(record: &Record) -> Option<Cause> {
 /// A field, what must be wrong with it if it is refused alone, and the record that has it alone.
 type Part<'a> = (&'static str, &'static str, Record<'a>);
 
-fn header<'a>(record: &Record<'a>) -> Vec<Part<'a>> {
+fn header<'a>(record: &Record<'a>, profile: Profile) -> Vec<Part<'a>> {
     let whole = &record.header;
     let with = |header| Record { header, ..Record::default() };
     let items = Record { items: record.items, ..Record::default() };
@@ -55,7 +55,10 @@ fn header<'a>(record: &Record<'a>) -> Vec<Part<'a>> {
         ("link flags", "a bit above 26 is set", with(Header { flags: whole.flags, ..Header::default() })),
         (
             "file attributes",
-            "bit 3, bit 6 or one above 14 is set",
+            match profile {
+                Profile::Strict => "bit 3, bit 6 or one above 14 is set",
+                Profile::NinetyFive => "bit 3, bit 6 or one above 15 is set",
+            },
             with(Header { attributes: whole.attributes, ..Header::default() }),
         ),
         ("hot key", "it is no key of the format's tables", with(Header { hotkey: whole.hotkey, ..Header::default() })),

@@ -2,7 +2,7 @@
 mod common;
 
 use common::{folder, program, run_on, text, SAMPLE};
-use herringnet::{fields, Fault, SectionName};
+use herringnet::{fields, Fault, Profile, SectionName};
 use std::env;
 use std::fs;
 use std::path::{Path, PathBuf};
@@ -88,12 +88,20 @@ fn sections_have_the_numbers_of_the_rust_side() {
 }
 
 #[test]
+fn profiles_have_the_numbers_of_the_rust_side() {
+    let rust = Profile::ALL.map(|profile| (profile.word().to_uppercase(), profile.number() as usize));
+    assert_eq!(enumerators("HERRINGNET_PROFILE_"), rust);
+}
+
+#[test]
 fn numbers_have_the_names_of_the_rust_side() {
     let all = enumerators("HERRINGNET_");
-    let numbers = all.iter().filter(|(name, _)| !["FIELD_", "SECTION_", "ROW_"].iter().any(|part| name.contains(part)));
+    let numbers = all
+        .iter()
+        .filter(|(name, _)| !["FIELD_", "SECTION_", "ROW_", "PROFILE_"].iter().any(|part| name.contains(part)));
     let numbers: Vec<(&str, usize)> = numbers.map(|(name, number)| (name.as_str(), *number)).collect();
     assert_eq!(numbers[0], ("OK", 0));
-    assert_eq!(numbers.len(), 19);
+    assert_eq!(numbers.len(), 20);
     for (name, number) in &numbers[1..] {
         assert_eq!(Fault::of(*number as u8).name(), *name);
     }

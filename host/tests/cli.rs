@@ -106,6 +106,55 @@ fn check_names_the_field() {
     }
 }
 
+/// A shortcut as Windows 95 left it: bit 15, and offsets of a volume and a network link that are not there.
+fn leftovers() -> Vec<u8> {
+    let mut shortcut = with_info(0x1C, 0x1C);
+    shortcut[25] = 0x80;
+    (shortcut[76 + 12], shortcut[76 + 20]) = (0x1C, 0xFF);
+    shortcut
+}
+
+#[test]
+fn every_command_takes_a_profile() {
+    let s = Shortcuts::none("profile");
+    s.put("x.lnk", &leftovers());
+    let head = "refused 4 HEAD at 24: header (at 0), FileAttributes is 0x8000, where bit 15 has to be clear\n";
+    s.run(&["check", "x.lnk"]).is(1, &format!("x.lnk: {}", head), "");
+    s.run(&["check", "--profile", "strict", "x.lnk"]).is(1, &format!("x.lnk: {}", head), "");
+    s.run(&["check", "--profile=95", "x.lnk"]).is(0, "x.lnk: ok 109\n", "");
+    s.run(&["list", "--profile", "95", "x.lnk"]).is(0, "ok 109\nheader 0 76\ninfo 76 29\nend 105 4\n", "");
+    let none = "herringnet: x.lnk: refused 13 NOTARGET at 0: it has no target text\n";
+    s.run(&["target", "--profile", "95", "x.lnk"]).is(1, "", none);
+    s.run(&["key", "--profile", "95", "x.lnk"]).is(0, &format!("{} x.lnk\n", Z_KEY), "");
+    assert!(text(&s.run(&["show", "--profile", "95", "x.lnk"]).out).contains("0x00008000"));
+    assert_eq!(s.run(&["store", "--profile", "95", "x.lnk"]).status, 0);
+    let wrong = "herringnet: x.lnk: refused 4 HEAD at 24: the header breaks another rule of its fields\n";
+    s.run(&["set", "--darwin", "x", "x.lnk"]).is(1, "", wrong);
+    s.run(&["move", "--to-unicode", "x.lnk"]).is(1, "", wrong);
+    s.run(&["set", "--profile", "95", "--darwin", "x", "-o", "y.lnk", "x.lnk"]).is(
+        0,
+        "y.lnk: 897 bytes, from 109\n",
+        "",
+    );
+    s.run(&["move", "--profile", "95", "--to-unicode", "-o", "z.lnk", "x.lnk"]).is(
+        0,
+        "z.lnk: 119 bytes, from 109\n",
+        "",
+    );
+    s.run(&["check", "--profile", "95", "y.lnk", "z.lnk"]).is(0, "y.lnk: ok 897\nz.lnk: ok 119\n", "");
+    let already = "herringnet: z.lnk: refused 16 NOMAP at 0: a text cannot be moved, or it is already as asked; \
+                   LinkFlags bit 7 is set already\n";
+    s.run(&["move", "--profile", "95", "--to-unicode", "z.lnk"]).is(1, "", already);
+    s.run(&["rewrite", "--in-place", "--profile", "95", "x.lnk"]).is(0, "x.lnk: 109 bytes, from 109\n", "");
+    let mut form = with_info(0x1C, 0x1C);
+    form[25] = 0x80;
+    assert_eq!(fs::read(s.folder.join("x.lnk")).unwrap(), form);
+    form[24] = 8;
+    s.put("x.lnk", &form);
+    let bit_3 = "x.lnk: refused 4 HEAD at 24: header (at 0), FileAttributes is 0x8008, where bit 3 has to be clear\n";
+    s.run(&["check", "--profile", "95", "x.lnk"]).is(1, bit_3, "");
+}
+
 #[test]
 fn check_shows_the_field_in_hex() {
     let s = Shortcuts::new("check_hex");
@@ -474,7 +523,7 @@ fn words_that_make_no_sense() {
     let see = "herringnet: see herringnet --help\n";
     let once = "an option for a text may stand once, and its bytes only beside it";
     let one_of = "-o, --in-place and --suffix exclude each other, and each may stand once";
-    let wrong: [(&[&str], &str); 32] = [
+    let wrong: [(&[&str], &str); 35] = [
         (&[], "a command is missing"),
         (&["frobnicate"], "there is no command frobnicate"),
         (&["two\nlines"], "there is no command two<U+000A>lines"),
@@ -511,6 +560,9 @@ fn words_that_make_no_sense() {
             "--icon-environment: '\u{3A9}' (U+03A9), character 2 of the text, is not in windows-1252; \
              --icon-environment-bytes gives the bytes",
         ),
+        (&["check", "--profile", "98", "a.lnk"], "there is no profile 98: it is strict or 95"),
+        (&["key", "--profile", "95", "--profile=95", "a.lnk"], "--profile may stand once"),
+        (&["list", "--profile"], "--profile needs a value"),
     ];
     for (words, why) in wrong {
         s.run(words).is(2, "", &format!("herringnet: {}\n{}", why, see));

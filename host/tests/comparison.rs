@@ -6,7 +6,7 @@ mod independent;
 mod inputs;
 
 use herringnet::boundary as proved;
-use independent::{FIELDS, LIMIT};
+use independent::{Profile, FIELDS, LIMIT};
 use inputs::{Random, Tally};
 
 /// Bytes at each side of an output buffer that no call may touch.
@@ -22,9 +22,10 @@ fn proved_and_independent_agree() {
     }
     let (verdicts, tally) = (&comparison.verdicts, &comparison.tally);
     println!(
-        "{} inputs, {} accepted, refused by number {}; {} calls, refused by number {}",
+        "{} inputs, {} accepted, {} more as 95, refused by number {}; {} calls, refused by number {}",
         count,
         verdicts.counts[0],
+        comparison.forgiven,
         verdicts.refused(),
         tally.calls,
         tally.refused()
@@ -79,13 +80,39 @@ fn both_agree_on_shortcuts_made_for_moving() {
         comparison.compare(number, &shortcut);
         let moves: [Putting; 2] = [independent::boundary_to_unicode, independent::boundary_to_bytes];
         for (count, to) in moved.iter_mut().zip(moves) {
-            *count += u64::from(to(&shortcut, &mut out) & 0xFF == 0);
+            *count += u64::from(to(&shortcut, &mut out, 0) & 0xFF == 0);
         }
     }
     println!("of {} moved to Unicode {}, to bytes {}", count, moved[0], moved[1]);
     assert_eq!(comparison.verdicts.counts[0], count, "all are accepted");
+    assert_eq!(comparison.forgiven, 0);
     assert!(moved.iter().all(|&moved| moved > count * 2 / 5));
     assert!(moved.iter().sum::<u64>() < count * 19 / 20, "some cannot be moved");
+}
+
+/// The same as Windows 95 left them: strict refuses each, and 95 moves it as the other, with attribute bit 15.
+#[test]
+fn moves_forgive_as_95_and_keep_bit_15() {
+    let (page, count) = (independent::code_page(), 2_000);
+    let (mut comparison, mut moved) = (Comparison::new(), 0);
+    for number in 0..count {
+        let shortcut = inputs::movable(number, &page);
+        let left = inputs::left_over(&shortcut, &mut inputs::random_of(number));
+        comparison.compare(number, &left);
+        let moves: [Putting; 2] = [proved::to_unicode, proved::to_bytes];
+        for to in moves {
+            let (mut out, mut out_95) = (vec![0; LIMIT], vec![0; LIMIT]);
+            let answer = to(&shortcut, &mut out, 0);
+            assert_eq!(to(&left, &mut out_95, 1), answer, "input {}", number);
+            if answer & 0xFF == 0 {
+                out[25] |= 0x80;
+                moved += 1;
+            }
+            assert!(out == out_95, "input {}", number);
+        }
+    }
+    assert_eq!((comparison.verdicts.counts[4], comparison.forgiven), (count, count));
+    assert!(moved > count * 4 / 5);
 }
 
 #[test]
@@ -93,7 +120,7 @@ fn both_agree_on_moves_at_the_limit() {
     let mut comparison = Comparison::new();
     for (number, (shortcut, length)) in (0..).zip(inputs::at_the_limit()) {
         comparison.compare(number, &shortcut);
-        let answer = proved::to_unicode(&shortcut, &mut vec![0; LIMIT + 2]);
+        let answer = proved::to_unicode(&shortcut, &mut vec![0; LIMIT + 2], 0);
         assert_eq!(answer, if length <= LIMIT { 256 * length as u64 } else { 11 }, "{}", length);
     }
 }
@@ -120,15 +147,19 @@ fn number_from(variable: &str, otherwise: u64) -> u64 {
     }
 }
 
-/// A call from a shortcut into a buffer.
-type Putting = fn(&[u8], &mut [u8]) -> u64;
+/// A call from a shortcut into a buffer, under a profile.
+type Putting = fn(&[u8], &mut [u8], u32) -> u64;
 
 struct Comparison {
     number: u64,
+    /// The number of the profile that calls are made under.
+    profile: u32,
     /// Of all calls.
     tally: Tally,
     /// Of the first check of each input.
     verdicts: Tally,
+    /// Inputs that 95 accepts and strict does not.
+    forgiven: u64,
     proved_out: Vec<u8>,
     independent_out: Vec<u8>,
 }
@@ -144,8 +175,10 @@ impl Comparison {
         let room = LIMIT + 1000;
         Comparison {
             number: 0,
+            profile: 0,
             tally: Tally::default(),
             verdicts: Tally::default(),
+            forgiven: 0,
             proved_out: vec![0; room],
             independent_out: vec![0; room],
         }
@@ -156,12 +189,25 @@ impl Comparison {
         self.compare(number, &shortcut);
     }
 
-    /// All calls on one shortcut; its number decides which rooms and disturbances it gets.
+    /// All calls on one shortcut under both profiles, and sometimes under a number that is none.
     fn compare(&mut self, number: u64, shortcut: &[u8]) {
         self.number = number;
-        let mut random = inputs::random_of(!number);
+        let answers = [0, 1].map(|profile| self.under(profile, shortcut));
+        self.verdicts.add(answers[0]);
+        self.forgiven += u64::from(answers[0] & 0xFF != 0 && answers[1] & 0xFF == 0);
+        if answers[0] & 0xFF == 0 && answers[1] != answers[0] {
+            self.differ("check", "accepted as strict and not as 95", &|| hex(shortcut));
+        }
+        if number % 64 == 0 {
+            self.under(inputs::random_of(number).pick(&[2, 3, 256, u32::MAX]), shortcut);
+        }
+    }
+
+    /// All calls on one shortcut; its number decides which rooms and disturbances it gets.
+    fn under(&mut self, profile: u32, shortcut: &[u8]) -> u64 {
+        self.profile = profile;
+        let mut random = inputs::random_of(!self.number);
         let answer = self.check(shortcut);
-        self.verdicts.add(answer);
         self.fault(shortcut);
         self.read(shortcut, &mut random);
         self.sections(shortcut, &mut random);
@@ -169,15 +215,18 @@ impl Comparison {
         self.putting("key", [proved::key, independent::boundary_key], shortcut, &mut random);
         self.moves(shortcut, &mut random);
         let rows = self.store_list(shortcut, &mut random);
+        if profile > 1 {
+            self.nothing_written(shortcut, &mut random);
+        }
         if answer & 0xFF != 0 {
-            return;
+            return answer;
         }
         self.stores(&rows, shortcut, &mut random);
-        let record = independent::read(shortcut).unwrap();
+        let record = independent::read(shortcut, Profile::ALL[profile as usize]).unwrap();
         let fields = record.to_fields();
         self.write(&Writing { fields: &fields, body: shortcut }, &mut random);
         // One in four is enough: such a call writes 788 bytes and more, into several rooms, on both sides.
-        if number % 4 == 0 {
+        if self.number % 4 == 0 {
             self.paths(&fields, shortcut, &mut random);
         }
         let long = shortcut.len() > 20_000;
@@ -189,17 +238,27 @@ impl Comparison {
                 self.path_block(&call, &mut random);
             }
         }
+        answer
+    }
+
+    /// Under a number that is no profile, what writes looks at neither fields nor bodies.
+    fn nothing_written(&mut self, body: &[u8], random: &mut Random) {
+        let fields = random.pick(&[&[][..], &[0; FIELDS], &[u64::MAX; FIELDS]]);
+        self.write(&Writing { fields, body }, random);
+        let call = disturb::path_call(fields, body, 0, random);
+        self.path_block(&call, random);
     }
 
     /// Path blocks put into an accepted shortcut's record: once, and into what was made of it.
     fn paths(&mut self, fields: &[u64], shortcut: &[u8], random: &mut Random) {
-        let length = (independent::boundary_write(fields, shortcut, &mut self.independent_out) >> 8) as usize;
+        let answer = independent::boundary_write(fields, shortcut, &mut self.independent_out, self.profile);
+        let length = (answer >> 8) as usize;
         let call = disturb::path_call(fields, shortcut, length, random);
         let made = match self.path_block(&call, random) {
             Some(made) => made,
             None => return,
         };
-        let fields = independent::read(&made).unwrap().to_fields();
+        let fields = independent::read(&made, Profile::ALL[self.profile as usize]).unwrap().to_fields();
         let again = disturb::PathCall { fields: fields.to_vec(), body: made.clone(), ..call };
         if self.path_block(&again, random).as_ref() != Some(&made) {
             self.differ("path block", "twice is not once", &|| hex(&made));
@@ -211,13 +270,13 @@ impl Comparison {
     /// Both sides of a call, and what is written where it is.
     fn path_block(&mut self, call: &disturb::PathCall, random: &mut Random) -> Option<Vec<u8>> {
         let disturb::PathCall { fields, body, kind, text, unicode } = call;
-        let mut whole = vec![0; LIMIT];
-        let answer = independent::boundary_path_block(fields, body, *kind, text, unicode, &mut whole);
+        let (mut whole, profile) = (vec![0; LIMIT], self.profile);
+        let answer = independent::boundary_path_block(fields, body, *kind, text, unicode, &mut whole, profile);
         let given = || format!("{:?}\n{:08X} {} {}\n{}", fields, kind, hex(text), hex(unicode), hex(body));
         for room in rooms_about(answer, random) {
             self.with_room("path block", room, &given, &|out| {
-                let proved = proved::path_block(fields, body, *kind, text, unicode, &mut *out.0);
-                (proved, independent::boundary_path_block(fields, body, *kind, text, unicode, out.1))
+                let proved = proved::path_block(fields, body, *kind, text, unicode, &mut *out.0, profile);
+                (proved, independent::boundary_path_block(fields, body, *kind, text, unicode, out.1, profile))
             });
         }
         whole.truncate((answer >> 8) as usize);
@@ -232,18 +291,18 @@ impl Comparison {
     }
 
     fn differ(&self, call: &str, what: &str, given: &dyn Fn() -> String) -> ! {
-        panic!("input {}: {}: {}\n{}", self.number, call, what, given());
+        panic!("input {} under profile {}: {}: {}\n{}", self.number, self.profile, call, what, given());
     }
 
     fn check(&mut self, shortcut: &[u8]) -> u64 {
-        let independent = independent::boundary_check(shortcut);
-        self.agree("check", proved::check(shortcut), independent, &|| hex(shortcut));
+        let independent = independent::boundary_check(shortcut, self.profile);
+        self.agree("check", proved::check(shortcut, self.profile), independent, &|| hex(shortcut));
         independent
     }
 
     fn fault(&mut self, shortcut: &[u8]) {
-        let independent = independent::boundary_fault(shortcut);
-        self.agree("fault", proved::fault(shortcut), independent, &|| hex(shortcut));
+        let independent = independent::boundary_fault(shortcut, self.profile);
+        self.agree("fault", proved::fault(shortcut, self.profile), independent, &|| hex(shortcut));
     }
 
     fn read(&mut self, shortcut: &[u8], random: &mut Random) {
@@ -253,8 +312,8 @@ impl Comparison {
         };
         let mut proved_fields = [0x5EED_0000_0000_0000 | self.number; FIELDS + 1];
         let mut independent_fields = proved_fields;
-        let proved = proved::read(shortcut, &mut proved_fields[..count]);
-        let independent = independent::boundary_read(shortcut, &mut independent_fields[..count]);
+        let proved = proved::read(shortcut, &mut proved_fields[..count], self.profile);
+        let independent = independent::boundary_read(shortcut, &mut independent_fields[..count], self.profile);
         self.agree("read", proved, independent, &|| hex(shortcut));
         if proved_fields != independent_fields {
             let what = format!("{:?}\n{:?}", proved_fields, independent_fields);
@@ -263,7 +322,10 @@ impl Comparison {
     }
 
     fn sections(&mut self, shortcut: &[u8], random: &mut Random) {
-        let listed = independent::sections(shortcut).unwrap_or_default();
+        let listed = match Profile::ALL.get(self.profile as usize) {
+            Some(&profile) => independent::sections(shortcut, profile).unwrap_or_default(),
+            None => Vec::new(),
+        };
         self.listed_end_to_end(&listed, shortcut);
         let blocks = listed.iter().filter(|section| section.0 == 8).count();
         if random.chance(20) && shortcut.len() < 20_000 && !listed.is_empty() {
@@ -283,8 +345,8 @@ impl Comparison {
     }
 
     fn section(&mut self, shortcut: &[u8], name: u32, block: usize) {
-        let proved = proved::section(shortcut, name, block);
-        let independent = independent::boundary_section(shortcut, name, block);
+        let proved = proved::section(shortcut, name, block, self.profile);
+        let independent = independent::boundary_section(shortcut, name, block, self.profile);
         let given = || format!("name {} block {}\n{}", name, block, hex(shortcut));
         self.agree("section", proved, independent, &given);
     }
@@ -301,10 +363,11 @@ impl Comparison {
     /// A call that puts something of a shortcut into a buffer: both sides of it, in rooms about the length.
     fn putting(&mut self, call: &str, sides: [Putting; 2], shortcut: &[u8], random: &mut Random) {
         let [proved, independent] = sides;
-        let answer = independent(shortcut, &mut self.independent_out);
+        let profile = self.profile;
+        let answer = independent(shortcut, &mut self.independent_out, profile);
         for room in rooms_about(answer, random) {
             self.with_room(call, room, &|| hex(shortcut), &|out| {
-                (proved(shortcut, &mut *out.0), independent(shortcut, out.1))
+                (proved(shortcut, &mut *out.0, profile), independent(shortcut, out.1, profile))
             });
             if answer & 0xFF != 0 {
                 break;
@@ -319,7 +382,7 @@ impl Comparison {
         self.putting("to unicode", there, shortcut, random);
         self.putting("to bytes", home, shortcut, random);
         let mut moved = vec![0; LIMIT];
-        let answer = independent::boundary_to_unicode(shortcut, &mut moved);
+        let answer = independent::boundary_to_unicode(shortcut, &mut moved, self.profile);
         if answer & 0xFF == 0 {
             moved.truncate((answer >> 8) as usize);
             self.putting("home again", home, &moved, random);
@@ -329,14 +392,14 @@ impl Comparison {
     /// The list of the store, into slices about its length; the list itself.
     fn store_list(&mut self, shortcut: &[u8], random: &mut Random) -> Vec<u64> {
         let mut whole = vec![0; shortcut.len()];
-        let answer = independent::boundary_store_list(shortcut, &mut whole);
+        let answer = independent::boundary_store_list(shortcut, &mut whole, self.profile);
         whole.truncate(if answer & 0xFF == 0 { 6 * (answer >> 8) as usize } else { 0 });
         let length = whole.len();
         for room in [length, random.pick(&[length.saturating_sub(1), length / 2, length + 1, length + 7])] {
             let fill = 0x5EED_0000_0000_0000 | self.number;
             let (mut proved_rows, mut independent_rows) = (vec![fill; room + 1], vec![fill; room + 1]);
-            let proved = proved::store_list(shortcut, &mut proved_rows[..room]);
-            let independent = independent::boundary_store_list(shortcut, &mut independent_rows[..room]);
+            let proved = proved::store_list(shortcut, &mut proved_rows[..room], self.profile);
+            let independent = independent::boundary_store_list(shortcut, &mut independent_rows[..room], self.profile);
             self.agree("store list", proved, independent, &|| hex(shortcut));
             if proved_rows != independent_rows {
                 self.differ("rows", &format!("{:?}\n{:?}", proved_rows, independent_rows), &|| hex(shortcut));
@@ -351,7 +414,7 @@ impl Comparison {
             return;
         }
         self.store_write(rows, shortcut, random);
-        if let Some((start, _)) = independent::store(shortcut) {
+        if let Some((start, _)) = independent::store(shortcut, Profile::ALL[self.profile as usize]) {
             let mut out = vec![0; shortcut.len()];
             let length = (proved::store_write(rows, shortcut, &mut out) >> 8) as usize;
             if out[..length] != shortcut[start + 8..start + 8 + length] {
@@ -377,13 +440,14 @@ impl Comparison {
 
     fn write(&mut self, writing: &Writing, random: &mut Random) {
         let mut scratch = std::mem::take(&mut self.independent_out);
-        let answer = independent::boundary_write(writing.fields, writing.body, &mut scratch);
+        let answer = independent::boundary_write(writing.fields, writing.body, &mut scratch, self.profile);
         self.independent_out = scratch;
         let given = || format!("{:?}\n{}", writing.fields, hex(writing.body));
+        let profile = self.profile;
         for room in rooms_about(answer, random) {
             let answer = self.with_room("write", room, &given, &|out| {
-                let proved = proved::write(writing.fields, writing.body, &mut *out.0);
-                (proved, independent::boundary_write(writing.fields, writing.body, out.1))
+                let proved = proved::write(writing.fields, writing.body, &mut *out.0, profile);
+                (proved, independent::boundary_write(writing.fields, writing.body, out.1, profile))
             });
             if answer & 0xFF == 0 {
                 self.reads_back(writing, (answer >> 8) as usize, &given);
@@ -398,14 +462,14 @@ impl Comparison {
     fn reads_back(&mut self, writing: &Writing, length: usize, given: &dyn Fn() -> String) {
         let written = self.independent_out[GUARD..GUARD + length].to_vec();
         let record = independent::Record::from_fields(writing.fields).unwrap();
-        match independent::read(&written) {
+        match independent::read(&written, Profile::ALL[self.profile as usize]) {
             Ok(again) if record.same(writing.body, &again, &written) => {}
             _ => self.differ("write", "reads back otherwise", given),
         }
         let mut fields = [0; FIELDS];
-        let proved = proved::read(&written, &mut fields);
+        let proved = proved::read(&written, &mut fields, self.profile);
         let mut expected = [0; FIELDS];
-        let independent = independent::boundary_read(&written, &mut expected);
+        let independent = independent::boundary_read(&written, &mut expected, self.profile);
         self.agree("read of written", proved, independent, given);
         if fields != expected {
             self.differ("read of written", &format!("{:?}\n{:?}", fields, expected), given);

@@ -4,8 +4,8 @@
 mod independent;
 mod inputs;
 
-use herringnet::fault;
-use independent::{Part, Refusal, Why};
+use herringnet::fault_under;
+use independent::{Part, Profile, Refusal, Why};
 use std::collections::{BTreeMap, BTreeSet};
 
 const INPUTS: u64 = 100_000;
@@ -130,8 +130,8 @@ fn first_item(part: Part, field: usize, why: Why) -> usize {
 }
 
 /// What the library says of a refused shortcut: the name of the field, and all the words.
-fn said(shortcut: &[u8], refusal: &Refusal) -> (&'static str, String) {
-    let spot = fault(shortcut).unwrap();
+fn said(shortcut: &[u8], profile: Profile, refusal: &Refusal) -> (&'static str, String) {
+    let spot = fault_under(shortcut, herringnet::Profile::ALL[profile as usize]).unwrap();
     let place = (spot.refusal.number(), spot.refusal.position, spot.section.number(), spot.start);
     assert_eq!(place, (refusal.number, refusal.position, refusal.section.into(), refusal.start));
     let field = spot.field(shortcut);
@@ -160,8 +160,8 @@ fn key(row: &Row) -> Key {
 
 impl Seen {
     /// Adds a refused shortcut, if what the library says of it fits.
-    fn add(&mut self, shortcut: &[u8], refusal: &Refusal) -> Result<(), String> {
-        let (name, words) = said(shortcut, refusal);
+    fn add(&mut self, shortcut: &[u8], profile: Profile, refusal: &Refusal) -> Result<(), String> {
+        let (name, words) = said(shortcut, profile, refusal);
         let wrong = match refusal.wrong {
             Some(wrong) => wrong,
             None => {
@@ -188,9 +188,11 @@ fn every_field_is_reached_and_named() {
     let mut seen = Seen::default();
     for number in 0..INPUTS {
         let shortcut = inputs::input(number);
-        if let Err(refusal) = independent::check(&shortcut) {
-            let added = seen.add(&shortcut, &refusal);
-            assert_eq!(added, Ok(()), "input {}", number);
+        for profile in Profile::ALL {
+            if let Err(refusal) = independent::check(&shortcut, profile) {
+                let added = seen.add(&shortcut, profile, &refusal);
+                assert_eq!(added, Ok(()), "input {} under {:?}", number, profile);
+            }
         }
     }
     for ((number, part, field, why, name), count) in &seen.counts {

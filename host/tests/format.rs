@@ -2,7 +2,7 @@
 use herringnet::fields::{BLOCKS_AT, FIELDS};
 use herringnet::record::{Header, Info, InfoUnicode, Label, Local, Record};
 use herringnet::show::text::Hex;
-use herringnet::{boundary, key, listing, target};
+use herringnet::{boundary, key, listing, target, Profile};
 
 const PAGE: &str = include_str!("../../docs/FORMAT.md");
 
@@ -71,14 +71,14 @@ fn a_shortcut_on_a_share() {
         }
     }
     let mut fields = [0; FIELDS];
-    assert_eq!(boundary::read(&shortcut, &mut fields), 256 * shortcut.len() as u64);
+    assert_eq!(boundary::read(&shortcut, &mut fields, 0), 256 * shortcut.len() as u64);
     assert_eq!(fields, expected);
 
     let said = format!("Its target text is `{}`, 16 bytes", String::from_utf8(target(&shortcut).unwrap()).unwrap());
     assert!(text.contains(&said) && text.contains("Its key has 43 bytes"));
     let parts = blocks[2].iter().map(|line| line.split("   ").next().unwrap().replace(' ', ""));
     assert_eq!(Hex(&key(&shortcut).unwrap()).to_string(), parts.collect::<String>());
-    assert!(text.contains("= 134,257,152.") && boundary::section(&shortcut, 6, 0) == 134_257_152);
+    assert!(text.contains("= 134,257,152.") && boundary::section(&shortcut, 6, 0, 0) == 134_257_152);
 
     let canonical = Record::read(&shortcut).unwrap().to_vec().unwrap();
     assert!(text.contains("The canonical form has 163 bytes"));
@@ -120,12 +120,42 @@ fn refusal(answer: &str) -> [u64; 4] {
 #[track_caller]
 fn is_answered(shortcut: &[u8], answer: &str) {
     if let Some(length) = answer.strip_prefix("0, length ") {
-        return assert_eq!(boundary::check(shortcut), 256 * number(length));
+        return assert_eq!(boundary::check(shortcut, 0), 256 * number(length));
     }
     let [fault, position, section, start] = refusal(answer);
-    assert_eq!(boundary::check(shortcut), fault + 256 * position);
+    assert_eq!(boundary::check(shortcut, 0), fault + 256 * position);
     let value = position + 65_537 * (start + 65_537 * section);
-    assert_eq!(boundary::fault(shortcut), fault + 256 * value);
+    assert_eq!(boundary::fault(shortcut, 0), fault + 256 * value);
+}
+
+/// The answers of each row under both profiles, and what is left of a leftover in the canonical form: nothing.
+#[test]
+fn leftovers_and_bit_15() {
+    let rows = table(under("Leftovers and bit 15"));
+    assert_eq!(rows.len(), 7);
+    let form = Record::read(&on_a_share()).unwrap().to_vec().unwrap();
+    for row in rows {
+        println!("{}", row[0]);
+        let shortcut = changed(on_a_share(), row[0]);
+        for (profile, answer) in Profile::ALL.iter().zip(&row[1..]) {
+            assert_eq!(boundary::check(&shortcut, profile.number()), code(answer));
+        }
+        if let Ok(record) = Record::read_under(&shortcut, Profile::NinetyFive) {
+            let mut written = record.to_vec_under(Profile::NinetyFive).unwrap();
+            assert_eq!(written[25] & 0x80, shortcut[25] & 0x80);
+            written[25] &= 0x7F;
+            assert_eq!(written, form);
+        }
+    }
+}
+
+/// `0, length 80`, or a number and a position.
+fn code(answer: &str) -> u64 {
+    match (answer.strip_prefix("0, length "), answer.split_once(" at ")) {
+        (Some(length), _) => 256 * number(length),
+        (None, Some((fault, position))) => number(fault) + 256 * number(position),
+        (None, None) => panic!("{}", answer),
+    }
 }
 
 #[test]
@@ -148,7 +178,7 @@ fn a_block_with_a_store() {
     is_answered(&shortcut, "0, length 192");
     let list: Vec<u64> = blocks(text)[1].iter().flat_map(|line| line.split(' ').map(number)).collect();
     let (mut rows, mut store) = (vec![0; list.len()], [0; 104]);
-    assert_eq!(boundary::store_list(&shortcut, &mut rows), 256 * 4);
+    assert_eq!(boundary::store_list(&shortcut, &mut rows, 0), 256 * 4);
     assert_eq!(rows, list);
     assert_eq!(boundary::store_write(&list, &shortcut, &mut store), 256 * 104);
     assert_eq!(store, shortcut[84..188]);
@@ -194,7 +224,7 @@ fn a_path_block_put_in() {
         };
         let (body, mut fields, mut out) = (named(row[0]), [0; FIELDS], vec![0xEE; number(row[3]) as usize]);
         fields[BLOCKS_AT + 1] = body.len() as u64;
-        let answer = boundary::path_block(&fields, &body, number(row[1]) as u32, &narrow, &wide, &mut out);
+        let answer = boundary::path_block(&fields, &body, number(row[1]) as u32, &narrow, &wide, &mut out, 0);
         match row[4].strip_prefix("0, length ") {
             Some(length) => {
                 let end = answer as usize / 256 - 4;
@@ -230,7 +260,7 @@ fn a_shortcut_moved_to_unicode() {
         };
         let call = if row[1] == "to_unicode" { boundary::to_unicode } else { boundary::to_bytes };
         let mut out = vec![0xEE; number(row[2]) as usize];
-        let answer = call(&shortcut, &mut out);
+        let answer = call(&shortcut, &mut out, 0);
         match (row[3], row[3].strip_prefix("0, length ")) {
             (name @ ("S" | "M"), _) => assert_eq!((answer, out), (256 * named(name).len() as u64, named(name))),
             (_, Some(length)) => assert_eq!(answer, 256 * number(length)),
@@ -263,7 +293,7 @@ fn records_that_no_reader_made() {
             }
         }
         let body = from_hex(row[1].trim_matches('`').trim_matches(|c: char| c.is_ascii_lowercase()));
-        let answer = boundary::write(&fields, &body, &mut vec![0; room]);
+        let answer = boundary::write(&fields, &body, &mut vec![0; room], 0);
         let expected = row[2].strip_prefix("0, length ").map_or_else(|| number(row[2]), |length| 256 * number(length));
         assert_eq!(answer, expected, "{}", row[0]);
     }

@@ -170,8 +170,12 @@ fn completed(prefix: &Path, words: &[&str]) -> Vec<String> {
 #[test]
 fn bash_completes_words() {
     let prefix = installed("install_bash");
-    let all = ["check", "list", "target", "key", "show", "store", "rewrite", "set", "help", "--help", "--version"];
+    let commands = ["check", "list", "target", "key", "show", "store", "rewrite", "set", "move"];
+    let all = [&commands[..], &["help", "--help", "--version"]].concat();
     assert_eq!(completed(&prefix, &["herringnet", ""]), all);
+    for command in commands {
+        assert_eq!(completed(&prefix, &["herringnet", command, "--pro"]), ["--profile"]);
+    }
     assert_eq!(completed(&prefix, &["herringnet", "re"]), ["rewrite"]);
     assert_eq!(completed(&prefix, &["herringnet", "help", "k"]), ["key"]);
     assert_eq!(completed(&prefix, &["herringnet", "check", "--j"]), ["--json"]);
@@ -186,7 +190,7 @@ fn the_manual_has_every_command_and_option() {
     let prefix = installed("install_man");
     let page = fs::read_to_string(prefix.join("share/man/man1/herringnet.1")).unwrap();
     let herringnet = |words: &[&str]| program(prefix.join("bin/herringnet")).args(words).output().unwrap();
-    for command in ["check", "list", "target", "key", "show", "store", "rewrite", "set"] {
+    for command in ["check", "list", "target", "key", "show", "store", "rewrite", "set", "move"] {
         assert!(page.contains(&format!("\n.SS {}\n", command)));
         let help = herringnet(&["help", command]);
         for line in text(&help.stdout).lines().filter(|line| line.starts_with("  -")) {

@@ -228,7 +228,7 @@ fn every_room(shortcut: &[u8]) {
     assert!(length <= shortcut.len());
     for room in 0..length + 2 {
         let mut out = vec![0xEE; room];
-        let answer = boundary::key(shortcut, &mut out);
+        let answer = boundary::key(shortcut, &mut out, 0);
         if room < length {
             assert_eq!((answer, out), (12, vec![0xEE; room]));
         } else {
@@ -255,8 +255,8 @@ fn every_proper_beginning_is_refused() {
         for length in 0..shortcut.len() {
             let mut out = [0xEE; 2000];
             let beginning = &shortcut[..length];
-            let answer = boundary::key(beginning, &mut out);
-            assert_eq!((answer % 256, answer), (2, boundary::check(beginning)));
+            let answer = boundary::key(beginning, &mut out, 0);
+            assert_eq!((answer % 256, answer), (2, boundary::check(beginning, 0)));
             assert!(out.iter().all(|&byte| byte == 0xEE));
         }
     }

@@ -4,8 +4,8 @@ mod repository;
 use repository::{files, root, words};
 use std::fs;
 
-/// No answer: the two kinds of a label, which a record holds.
-const HELD: &[&str] = &["Label"];
+/// No answers: the two kinds of a label, which a record holds, and the profile, which a call is given.
+const HELD: &[&str] = &["Label", "Profile"];
 
 /// The enums that a file of code declares.
 fn enums(source: &str) -> impl Iterator<Item = &str> {

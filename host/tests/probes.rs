@@ -2,7 +2,7 @@
 
 mod independent;
 
-use independent::{boundary_fault, read, section, sections, window, Body, Record, Refusal};
+use independent::{boundary_fault, read, section, sections, window, Body, Profile, Record, Refusal};
 
 fn z() -> Vec<u8> {
     let mut bytes = vec![0; 80];
@@ -34,19 +34,19 @@ fn short(answer: Result<usize, Refusal>) -> Result<usize, (u8, usize)> {
 }
 
 fn check(shortcut: &[u8]) -> Result<usize, (u8, usize)> {
-    short(independent::check(shortcut))
+    short(independent::check(shortcut, Profile::Strict))
 }
 
 fn target(shortcut: &[u8], out: &mut [u8]) -> Result<usize, (u8, usize)> {
-    short(independent::target(shortcut, out))
+    short(independent::target(shortcut, out, Profile::Strict))
 }
 
 fn key(shortcut: &[u8], out: &mut [u8]) -> Result<usize, (u8, usize)> {
-    short(independent::key(shortcut, out))
+    short(independent::key(shortcut, out, Profile::Strict))
 }
 
 fn write(record: &Record, body: &[u8], out: &mut [u8]) -> Result<usize, (u8, usize)> {
-    short(independent::write(record, body, out))
+    short(independent::write(record, body, out, Profile::Strict))
 }
 
 #[test]
@@ -74,7 +74,7 @@ fn p6_header() {
 fn p7_p8_items() {
     let shortcut = z_with(1, &[2, 0, 0, 0]);
     assert_eq!(check(&shortcut), Ok(84));
-    assert_eq!(read(&shortcut).unwrap().items, Body::new(78, 0));
+    assert_eq!(read(&shortcut, Profile::Strict).unwrap().items, Body::new(78, 0));
     assert_eq!(check(&z_with(1, &[3, 0, 1, 0, 0])), refused(5, 78));
 }
 
@@ -83,7 +83,7 @@ fn p9_arguments() {
     let section_bytes = [3, 0, 0x2D, 0, 0x67, 0, 0x31, 0];
     let shortcut = z_with(0xA0, &section_bytes);
     assert_eq!(check(&shortcut), Ok(88));
-    assert_eq!(section(&shortcut, 6, 0), (76, 8));
+    assert_eq!(section(&shortcut, 6, 0, Profile::Strict), (76, 8));
     assert_eq!(check(&z_with(0x20, &section_bytes)), refused(2, 81));
 }
 
@@ -105,7 +105,7 @@ fn p10_info() {
 
 #[test]
 fn p11_room() {
-    let record = read(&z()).unwrap();
+    let record = read(&z(), Profile::Strict).unwrap();
     let mut out = [0xEE; 81];
     assert_eq!(write(&record, &z(), &mut out[..79]), refused(12, 0));
     assert_eq!(out, [0xEE; 81]);
@@ -150,15 +150,15 @@ fn windows() {
 
 /// The section at fault, by its number in the listing, and its start.
 fn at_fault(shortcut: &[u8]) -> (u8, usize) {
-    let refusal = independent::check(shortcut).unwrap_err();
+    let refusal = independent::check(shortcut, Profile::Strict).unwrap_err();
     let value = refusal.position + 65_537 * (refusal.start + 65_537 * usize::from(refusal.section));
-    assert_eq!(boundary_fault(shortcut), u64::from(refusal.number) + 256 * value as u64);
+    assert_eq!(boundary_fault(shortcut, 0), u64::from(refusal.number) + 256 * value as u64);
     (refusal.section, refusal.start)
 }
 
 #[test]
 fn sections_at_fault() {
-    assert_eq!(boundary_fault(&z()), 0);
+    assert_eq!(boundary_fault(&z(), 0), 0);
     assert_eq!(at_fault(&[0; 65_537]), (0, 0));
     assert_eq!(at_fault(&z()[..75]), (0, 0));
     assert_eq!(at_fault(&with_u32(z(), 64, 0x0600)), (0, 0));
@@ -191,11 +191,11 @@ fn example_to_a_file() {
         (8, 0x167, 0x60),
         (9, 0x1C7, 4),
     ];
-    assert_eq!(sections(&shortcut).unwrap(), expected);
+    assert_eq!(sections(&shortcut, Profile::Strict).unwrap(), expected);
     let mut out = [0; 13];
     assert_eq!(target(&shortcut, &mut out), Ok(13));
     assert_eq!(&out, b"C:\\test\\a.txt");
-    let record = read(&shortcut).unwrap();
+    let record = read(&shortcut, Profile::Strict).unwrap();
     let mut again = vec![0; 0x1CB];
     assert_eq!(write(&record, &shortcut, &mut again), Ok(0x1CB));
     assert_eq!(again, shortcut);

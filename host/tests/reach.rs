@@ -1,9 +1,9 @@
-//! The comparison's inputs often have what a cache key depends on, and property stores of every shape.
+//! The comparison's inputs often have what a cache key depends on, property stores of every shape, and what 95 forgives.
 
 mod independent;
 mod inputs;
 
-use independent::Entry;
+use independent::{Entry, Profile};
 
 const INPUTS: u64 = 20_000;
 
@@ -23,10 +23,10 @@ struct Shortcut<'a> {
 
 impl<'a> Shortcut<'a> {
     fn of(bytes: &'a [u8]) -> Option<Shortcut<'a>> {
-        let record = independent::read(bytes).ok()?;
+        let record = independent::read(bytes, Profile::Strict).ok()?;
         let flags = record.header.link_flags;
         let string = |bit: usize| (flags >> bit & 1 != 0).then(|| record.strings[bit - 2].of(bytes).unwrap());
-        let sections = independent::sections(bytes).ok()?;
+        let sections = independent::sections(bytes, Profile::Strict).ok()?;
         let blocks =
             sections.iter().filter(|section| section.0 == 8).map(|&(_, start, size)| &bytes[start..start + size]);
         let text = |block: &'a [u8]| block[8..].split(|&byte| byte == 0).next().unwrap();
@@ -125,12 +125,85 @@ fn inputs_have_stores_of_every_shape() {
     let mut counts = [0; STORES.len()];
     let mut accepted = 0;
     for bytes in (0..INPUTS).map(inputs::input) {
-        accepted += u64::from(independent::check(&bytes).is_ok());
-        if let Some((_, store)) = independent::store(&bytes) {
+        accepted += u64::from(independent::check(&bytes, Profile::Strict).is_ok());
+        if let Some((_, store)) = independent::store(&bytes, Profile::Strict) {
             counts.iter_mut().zip(STORES).for_each(|(count, row)| *count += u64::from(row.1(&store)));
         }
     }
     are_often(accepted, counts, STORES.map(|row| row.0));
+}
+
+/// What 95 forgives in a shortcut that strict refuses.
+struct Forgiven {
+    attributes: u32,
+    /// The offset fields of absent parts that are not 0, each with what it holds.
+    left: Vec<(usize, usize)>,
+    /// LinkInfo's head and size, and where its suffix starts.
+    head: usize,
+    size: usize,
+    suffix: usize,
+}
+
+impl Forgiven {
+    fn of(bytes: &[u8]) -> Option<Forgiven> {
+        let sections = independent::sections(bytes, Profile::NinetyFive).ok()?;
+        if independent::check(bytes, Profile::Strict).is_ok() {
+            return None;
+        }
+        let number = |at: usize| u32::from_le_bytes(bytes[at..at + 4].try_into().unwrap()) as usize;
+        let attributes = number(24) as u32;
+        let start = match sections.iter().find(|section| section.0 == 2) {
+            Some(&(_, start, _)) => start,
+            None => return Some(Forgiven { attributes, left: Vec::new(), head: 0, size: 0, suffix: 0 }),
+        };
+        let [size, head, flags, suffix] = [0, 4, 8, 24].map(|field| number(start + field));
+        let fields = [(12, 1), (16, 1), (20, 2), (28, 1)];
+        let absent = fields.into_iter().filter(|&(field, bit)| flags & bit == 0 && field < head);
+        let left = absent.map(|(field, _)| (field, number(start + field))).filter(|&(_, value)| value != 0);
+        Some(Forgiven { attributes, left: left.collect(), head, size, suffix })
+    }
+
+    fn has_bit_15(&self) -> bool {
+        self.attributes & 0x8000 != 0
+    }
+
+    fn holds(&self, field: usize) -> bool {
+        self.left.iter().any(|&(other, _)| other == field)
+    }
+
+    fn leads(&self, to: impl Fn(usize) -> bool) -> bool {
+        self.left.iter().any(|&(_, value)| to(value))
+    }
+}
+
+type ForgivenTrait = (&'static str, fn(&Forgiven) -> bool);
+
+const FORGIVEN: [ForgivenTrait; 13] = [
+    ("bit 15 alone", |f| f.attributes == 0x8000),
+    ("bit 15 beside others", |f| f.has_bit_15() && f.attributes != 0x8000),
+    ("bit 15 and no leftover", |f| f.has_bit_15() && f.left.is_empty()),
+    ("leftovers and no bit 15", |f| !f.has_bit_15()),
+    ("both", |f| f.has_bit_15() && !f.left.is_empty()),
+    ("a leftover at 12", |f| f.holds(12)),
+    ("a leftover at 16", |f| f.holds(16)),
+    ("a leftover at 20", |f| f.holds(20)),
+    ("a leftover at 28", |f| f.holds(28)),
+    ("several leftovers", |f| f.left.len() > 1),
+    ("one that leads into the head", |f| f.leads(|value| value < f.head)),
+    ("one that leads past LinkInfo", |f| f.leads(|value| value >= f.size)),
+    ("one that leads to the suffix", |f| f.leads(|value| value == f.suffix)),
+];
+
+#[test]
+fn inputs_have_what_95_forgives() {
+    let mut counts = [0; FORGIVEN.len()];
+    let mut forgiven = 0;
+    for found in (0..INPUTS).map(inputs::input).filter_map(|bytes| Forgiven::of(&bytes)) {
+        forgiven += 1;
+        counts.iter_mut().zip(FORGIVEN).for_each(|(count, row)| *count += u64::from(row.1(&found)));
+    }
+    assert!(forgiven > INPUTS / 50);
+    are_often(forgiven, counts, FORGIVEN.map(|row| row.0));
 }
 
 /// Each count, of a trait with this name, is no small share of the accepted inputs.

@@ -56,8 +56,8 @@ fn info(choice: u32) -> Info<'static> {
 fn rewritten(shortcut: &[u8]) -> Vec<u8> {
     // The form that is written is never longer.
     let (mut numbers, mut out) = ([0; FIELDS], vec![0; shortcut.len()]);
-    assert_eq!(boundary::read(shortcut, &mut numbers), 256 * shortcut.len() as u64);
-    let code = boundary::write(&numbers, shortcut, &mut out);
+    assert_eq!(boundary::read(shortcut, &mut numbers, 0), 256 * shortcut.len() as u64);
+    let code = boundary::write(&numbers, shortcut, &mut out, 0);
     assert_eq!(code % 256, 0);
     out.truncate(code as usize / 256);
     out

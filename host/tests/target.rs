@@ -52,7 +52,7 @@ fn the_room_counts_the_separator() {
         for shortcut in shortcuts(first, suffix) {
             for room in 0..length + 2 {
                 let mut out = vec![0xEE; room];
-                let answer = boundary::target(&shortcut, &mut out);
+                let answer = boundary::target(&shortcut, &mut out, 0);
                 if room < length {
                     assert_eq!((answer, out), (12, vec![0xEE; room]));
                 } else {

@@ -6,6 +6,7 @@ mod inputs;
 use common::rows;
 use herringnet::show::text::Hex;
 use herringnet::{key, listing, section, sections, Record, Refusal, SectionName};
+use independent::Profile;
 use std::fs;
 use std::path::Path;
 
@@ -57,10 +58,10 @@ fn rows_are_listed_keyed_and_rewritten_as_expected() {
 fn expected(rows: &[&[u8]]) -> Vec<u8> {
     let mut out = Vec::new();
     for shortcut in rows {
-        out.extend(independent::listing_text(shortcut));
-        out.extend(independent::key_text(shortcut));
-        if let Ok(form) = independent::canonical(shortcut) {
-            out.extend(independent::listing_text(&form));
+        out.extend(independent::listing_text(shortcut, Profile::Strict));
+        out.extend(independent::key_text(shortcut, Profile::Strict));
+        if let Ok(form) = independent::canonical(shortcut, Profile::Strict) {
+            out.extend(independent::listing_text(&form, Profile::Strict));
             out.extend(form);
         }
     }

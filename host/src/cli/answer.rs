@@ -5,8 +5,9 @@ use herringnet::json::Json;
 use herringnet::show::field::{members, text_json, Field};
 use herringnet::show::stores::storages;
 use herringnet::show::text::{Bytes, Hex, Spaced};
-use herringnet::show::{lines, shown};
-use herringnet::{check, fault, key, listed, sections, target, Refusal, Section, Spot, Store, Text, WrongField};
+use herringnet::show::{lines, shown_under};
+use herringnet::{check_under, fault_under, key_under, listed, sections_under, target_under};
+use herringnet::{Profile, Refusal, Section, Spot, Store, Text, WrongField};
 use std::ops::Range;
 
 /// The answer to a command.
@@ -22,17 +23,17 @@ pub enum Answer<'a> {
 
 impl<'a> Answer<'a> {
     /// Asks the library; `None` for a command that prints no answer.
-    pub fn to(command: Command, shortcut: &'a [u8]) -> Option<Result<Answer<'a>, Refused<'a>>> {
+    pub fn to(command: Command, shortcut: &'a [u8], profile: Profile) -> Option<Result<Answer<'a>, Refused<'a>>> {
         let answer = match command {
-            Command::Check => check(shortcut).map(Answer::Accepted),
-            Command::List => sections(shortcut).map(Answer::Listing),
-            Command::Target => target(shortcut).map(Answer::Target),
-            Command::Key => key(shortcut).map(Answer::Key),
-            Command::Show => shown(shortcut).map(Answer::Fields),
-            Command::Store => Store::read(shortcut).map(|store| Answer::Fields(vec![storages(&store)])),
+            Command::Check => check_under(shortcut, profile).map(Answer::Accepted),
+            Command::List => sections_under(shortcut, profile).map(Answer::Listing),
+            Command::Target => target_under(shortcut, profile).map(Answer::Target),
+            Command::Key => key_under(shortcut, profile).map(Answer::Key),
+            Command::Show => shown_under(shortcut, profile).map(Answer::Fields),
+            Command::Store => Store::read_under(shortcut, profile).map(|store| Answer::Fields(vec![storages(&store)])),
             Command::Rewrite | Command::Set | Command::Move => return None,
         };
-        Some(answer.map_err(|refusal| Refused::new(command, shortcut, refusal)))
+        Some(answer.map_err(|refusal| Refused::new(command, (shortcut, profile), refusal)))
     }
 
     /// The lines, without the last line feed.
@@ -99,8 +100,8 @@ pub struct Refused<'a> {
 }
 
 impl<'a> Refused<'a> {
-    fn new(command: Command, shortcut: &'a [u8], refusal: Refusal) -> Refused<'a> {
-        let spot = if command == Command::Check { fault(shortcut) } else { None };
+    fn new(command: Command, (shortcut, profile): (&'a [u8], Profile), refusal: Refusal) -> Refused<'a> {
+        let spot = if command == Command::Check { fault_under(shortcut, profile) } else { None };
         Refused { refusal, shortcut, spot }
     }
 

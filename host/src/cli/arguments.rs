@@ -5,7 +5,7 @@ use super::options::{choices, Asks, Choice};
 use super::run::{Output, Run};
 use super::{help, manual};
 use herringnet::show::text::Name;
-use herringnet::{PathKind, PathTexts};
+use herringnet::{PathKind, PathTexts, Profile};
 use std::ffi::{OsStr, OsString};
 use std::os::unix::ffi::OsStrExt;
 use std::path::PathBuf;
@@ -79,6 +79,7 @@ struct Given {
     inputs: Vec<Input>,
     lists: Vec<Input>,
     outputs: Vec<Output>,
+    profiles: Vec<Profile>,
     recursive: bool,
     all_files: bool,
     zero: bool,
@@ -116,6 +117,7 @@ impl Given {
     fn option(&mut self, asks: Asks, value: OsString) -> Result<bool, String> {
         match asks {
             Asks::Help => return Ok(true),
+            Asks::Profile => self.profiles.push(profile(&value)?),
             Asks::Recursive => self.recursive = true,
             Asks::AllFiles => self.all_files = true,
             Asks::FilesFrom => self.lists.push(Input::of(value)),
@@ -151,6 +153,7 @@ impl Given {
             command,
             inputs: self.inputs,
             list: self.lists.pop(),
+            profile: self.profiles.pop().unwrap_or_default(),
             recursive: self.recursive,
             all_files: self.all_files,
             zero: self.zero,
@@ -196,6 +199,7 @@ impl Given {
             (from_standard.count() > 1, "standard input can be read only once"),
             (self.outputs.len() > 1, "-o, --in-place and --suffix exclude each other, and each may stand once"),
             (self.lists.len() > 1, "--files-from may stand once"),
+            (self.profiles.len() > 1, "--profile may stand once"),
             (self.recursive && self.inputs.is_empty() && self.lists.is_empty(), "-r needs a FILE to go through"),
             (self.all_files && !self.recursive, "--all-files goes with -r"),
             (self.raw && (self.json || self.zero), "--raw excludes --json and -0"),
@@ -252,6 +256,11 @@ fn split(word: &[u8]) -> (&[u8], Option<&[u8]>) {
 fn path_word(kind: PathKind) -> &'static str {
     let is_it = |choice: &&Choice| choice.asks == Asks::Path(kind);
     choices(Command::Set).find(is_it).map_or("", |choice| choice.words[0])
+}
+
+fn profile(word: &OsStr) -> Result<Profile, String> {
+    let profile = word.to_str().and_then(Profile::of);
+    profile.ok_or_else(|| format!("there is no profile {}: it is strict or 95", shown(word)))
 }
 
 /// A suffix stays in the file's own folder, and makes another name.

@@ -6,6 +6,7 @@ use herringnet::PathKind;
 #[derive(Clone, Copy, PartialEq, Eq)]
 pub enum Asks {
     Recursive,
+    Profile,
     AllFiles,
     FilesFrom,
     Zero,
@@ -48,7 +49,7 @@ const SET: &[Command] = &[Command::Set];
 const MOVE: &[Command] = &[Command::Move];
 
 /// All options, in the order of help.
-pub const CHOICES: [Choice; 19] = [
+pub const CHOICES: [Choice; 20] = [
     Choice {
         asks: Asks::Recursive,
         words: &["-r", "--recursive"],
@@ -85,6 +86,16 @@ pub const CHOICES: [Choice; 19] = [
         lines: &[
             "end what is printed for a file with a zero byte in the place of its",
             "last line feed, and print names as they are; names in LIST end so too",
+        ],
+    },
+    Choice {
+        asks: Asks::Profile,
+        words: &["--profile"],
+        value: Some("PROFILE"),
+        commands: &Command::ALL,
+        lines: &[
+            "strict, or 95 for shortcuts of Windows 95: attribute bit 15 is kept, and",
+            "unused offsets in LinkInfo's own head may hold anything; else strict",
         ],
     },
     Choice {

@@ -5,7 +5,8 @@ use super::console::{Console, Outcome};
 use super::files::{replace, with_suffix, write_new};
 use super::input::{reason, Input};
 use super::walk::Walk;
-use herringnet::{to_bytes, to_unicode, unmapped, Fault, PathKind, PathTexts, Record, Refusal};
+use herringnet::{to_bytes_under, to_unicode_under, unmapped_under};
+use herringnet::{Fault, PathKind, PathTexts, Profile, Record, Refusal};
 use std::ffi::OsString;
 use std::io;
 use std::path::PathBuf;
@@ -24,6 +25,7 @@ pub struct Run {
     pub inputs: Vec<Input>,
     /// A file with the names of further inputs.
     pub list: Option<Input>,
+    pub profile: Profile,
     pub recursive: bool,
     pub all_files: bool,
     pub zero: bool,
@@ -101,7 +103,7 @@ impl Run {
             Ok(bytes) => bytes,
             Err(error) => return self.unread(input, &error, console),
         };
-        match Answer::to(self.command, &bytes) {
+        match Answer::to(self.command, &bytes, self.profile) {
             Some(answer) => self.answer(input, answer, console),
             None => self.write(&Read { input, bytes: &bytes }, console),
         }
@@ -160,11 +162,11 @@ impl Run {
 
     /// The canonical form of the shortcut, with all that is to be set.
     fn form(&self, shortcut: &[u8]) -> Result<Vec<u8>, Refusal> {
-        let mut form = Record::read(shortcut)?.to_vec()?;
+        let mut form = Record::read_under(shortcut, self.profile)?.to_vec_under(self.profile)?;
         for (kind, texts) in &self.paths {
-            let mut record = Record::read(&form)?;
+            let mut record = Record::read_under(&form, self.profile)?;
             record.header.flags |= kind.flag();
-            form = record.with_path_block(*kind, texts)?;
+            form = record.with_path_block_under(*kind, texts, self.profile)?;
         }
         Ok(form)
     }
@@ -172,13 +174,14 @@ impl Run {
     /// What `rewrite`, `set` or `move` makes, or the words of its refusal.
     fn made(&self, shortcut: &[u8]) -> Result<Vec<u8>, String> {
         let made = match (self.command, self.to_unicode) {
-            (Command::Move, true) => to_unicode(shortcut),
-            (Command::Move, false) => to_bytes(shortcut),
+            (Command::Move, true) => to_unicode_under(shortcut, self.profile),
+            (Command::Move, false) => to_bytes_under(shortcut, self.profile),
             _ => self.form(shortcut),
         };
         made.map_err(|refusal| match refusal.fault {
             Fault::NoMap => {
-                let why = unmapped(shortcut, self.to_unicode).map_or(String::new(), |why| format!("; {}", why));
+                let why = unmapped_under(shortcut, self.to_unicode, self.profile);
+                let why = why.map_or(String::new(), |why| format!("; {}", why));
                 format!("{}{}", refusal, why)
             }
             _ => refusal.to_string(),

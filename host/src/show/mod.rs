@@ -11,7 +11,7 @@ use crate::json::Json;
 use crate::record::{Header, Info, Label, Local, Network, Window};
 use crate::store::Store;
 use crate::text::StringName;
-use crate::{section, sections, target, Record, Refusal, SectionName};
+use crate::{section_under, sections_under, target_under, Profile, Record, Refusal, SectionName};
 use field::Field;
 
 /// Everything in a shortcut, as lines of a name and a value.
@@ -36,15 +36,24 @@ pub fn lines(fields: &[Field]) -> String {
 ///
 /// As [`check`](crate::check).
 pub fn shown(shortcut: &[u8]) -> Result<Vec<Field>, Refusal> {
-    let record = Record::read(shortcut)?;
+    shown_under(shortcut, Profile::Strict)
+}
+
+/// The same under a profile.
+///
+/// # Errors
+///
+/// As [`check_under`](crate::check_under).
+pub fn shown_under(shortcut: &[u8], profile: Profile) -> Result<Vec<Field>, Refusal> {
+    let record = Record::read_under(shortcut, profile)?;
     let mut fields =
         vec![Field::new("length", format!("{} bytes", shortcut.len()), Json::number(shortcut.len() as u64))];
-    fields.push(match target(shortcut) {
+    fields.push(match target_under(shortcut, profile) {
         Ok(text) => Field::bytes("target", &text),
         Err(refusal) => Field::new("target", format!("none ({})", refusal.fault), Json::Null),
     });
     header(&record.header, &mut fields);
-    fields.push(match section(shortcut, SectionName::Items, 0) {
+    fields.push(match section_under(shortcut, SectionName::Items, 0, profile) {
         Some(list) => blocks::item_list(list.start + 2, record.items.unwrap_or_default()),
         None => Field::absent("items"),
     });
@@ -52,7 +61,7 @@ pub fn shown(shortcut: &[u8]) -> Result<Vec<Field>, Refusal> {
     for name in StringName::ALL {
         fields.push(record.string(name).map_or(Field::absent(name.words()), |text| Field::text(name.words(), text)));
     }
-    fields.push(blocks::blocks(&sections(shortcut)?, &Store::read(shortcut)?));
+    fields.push(blocks::blocks(&sections_under(shortcut, profile)?, &Store::read_under(shortcut, profile)?));
     Ok(fields)
 }
 

@@ -41,8 +41,8 @@ enum Where {
 }
 
 use Rule::{
-    Apart, AtLeast, AtMost, Bytes, Clear, Ended, Fits, Head, HotKey, Is, Label, Name, Once, Present, Signature,
-    Structure, Text, Walked,
+    Apart, AtLeast, AtMost, Attributes, Bytes, Clear, Ended, Fits, Head, HotKey, Is, Label, Name, Once, Present,
+    Signature, Structure, Text, Walked,
 };
 use Where::{Everywhere, In, LongHead, Within};
 
@@ -61,7 +61,7 @@ const ROWS: [Row; 40] = [
     Row(Kind::Header, 0, 4, "HeaderSize", Everywhere, &[Is(0x4C)]),
     Row(Kind::Header, 4, 16, "LinkCLSID", Everywhere, &[Bytes(&CLASS)]),
     Row(Kind::Header, 20, 4, "LinkFlags", Everywhere, &[Clear(0xF800_0000)]),
-    Row(Kind::Header, 24, 4, "FileAttributes", Everywhere, &[Clear(0xFFFF_8048)]),
+    Row(Kind::Header, 24, 4, "FileAttributes", Everywhere, &[Attributes]),
     Row(Kind::Header, 64, 2, "HotKey", Everywhere, &[HotKey]),
     Row(Kind::Header, 66, 10, "Reserved1 to Reserved3", Everywhere, &[Bytes(&[0; 10])]),
     Row(Kind::List, 0, 2, "IDListSize", Everywhere, &[Fits]),

@@ -8,7 +8,7 @@ pub use field::WrongField;
 use crate::refusal::{Fault, Refusal};
 use crate::section::SectionName;
 use crate::show::names;
-use crate::LONGEST;
+use crate::{Profile, LONGEST};
 use std::fmt;
 
 /// One more than the longest shortcut: position, start and name of a section are digits to this base (FORMAT: C numbers).
@@ -24,14 +24,16 @@ pub struct Spot {
     pub section: SectionName,
     /// Where that section starts, or was due.
     pub start: usize,
+    /// The profile that the shortcut was read under.
+    pub profile: Profile,
 }
 
 /// Takes an answer of the boundary's `fault` apart.
-pub(crate) fn spot(answer: u64) -> Option<Spot> {
+pub(crate) fn spot(answer: u64, profile: Profile) -> Option<Spot> {
     let (number, value) = ((answer % 256) as u8, answer / 256);
     let section = SectionName::ALL.get((value / BASE / BASE) as usize).copied()?;
     let refusal = Refusal::new(Fault::of(number), (value % BASE) as usize);
-    (number != 0).then_some(Spot { refusal, section, start: (value / BASE % BASE) as usize })
+    (number != 0).then_some(Spot { refusal, section, start: (value / BASE % BASE) as usize, profile })
 }
 
 impl Spot {

@@ -1,7 +1,8 @@
 //! The structures of a shortcut, each as a part of it, as far as fields are looked for in them.
 use super::Spot;
 use crate::refusal::Fault;
-use crate::section::{sections, SectionName};
+use crate::section::{sections_under, SectionName};
+use crate::Profile;
 
 /// The kinds of structures that have fields of their own.
 #[derive(Clone, Copy, Debug, PartialEq, Eq)]
@@ -37,6 +38,7 @@ pub struct Part<'a> {
     pub wide: bool,
     /// Where the first block stands that has this one's signature, if that is what is wrong with it.
     pub twin: Option<usize>,
+    pub profile: Profile,
 }
 
 impl<'a> Part<'a> {
@@ -132,8 +134,8 @@ impl<'a> Part<'a> {
 pub fn parts<'a>(spot: &Spot, shortcut: &'a [u8]) -> Vec<Part<'a>> {
     let rest = shortcut.get(spot.start..).unwrap_or(&[]);
     let wide = shortcut.get(20).map_or(false, |flags| flags & 0x80 != 0);
-    let twin = if spot.refusal.fault == Fault::Twice { twin(spot.start, shortcut) } else { None };
-    let whole = |kind, bytes| Part { kind, start: spot.start, bytes, wide, twin };
+    let twin = if spot.refusal.fault == Fault::Twice { twin(spot, shortcut) } else { None };
+    let whole = |kind, bytes| Part { kind, start: spot.start, bytes, wide, twin, profile: spot.profile };
     match spot.section {
         SectionName::Header => vec![whole(Kind::Header, rest)],
         SectionName::Items => vec![whole(Kind::List, rest), items(whole(Kind::List, rest), 2)],
@@ -194,11 +196,13 @@ fn run<'a>(part: Part<'a>, from: usize, kind: Kind) -> Vec<Part<'a>> {
     found
 }
 
-/// The first block with the signature of that at a start. All that stands before it is accepted if a terminal follows.
-fn twin(start: usize, shortcut: &[u8]) -> Option<usize> {
+/// The first block with the signature of that at fault. All that stands before it is accepted if a terminal follows.
+fn twin(spot: &Spot, shortcut: &[u8]) -> Option<usize> {
+    let start = spot.start;
     let before = [shortcut.get(..start)?, &[0; SIZE]].concat();
     let signature = shortcut.get(start + 4..start + 8)?;
-    let mut blocks = sections(&before).ok()?.into_iter().filter(|section| section.name == SectionName::Block);
+    let sections = sections_under(&before, spot.profile).ok()?;
+    let mut blocks = sections.into_iter().filter(|section| section.name == SectionName::Block);
     blocks.find(|block| block.bytes.get(4..8) == Some(signature)).map(|block| block.start)
 }
 

@@ -3,6 +3,7 @@ use super::field::pieces;
 use super::part::{bytes, Kind, Part};
 use crate::show::names;
 use crate::show::text::Spaced;
+use crate::Profile;
 
 /// The class identifier of shortcuts.
 pub const CLASS: [u8; 16] = [0x01, 0x14, 0x02, 0, 0, 0, 0, 0, 0xC0, 0, 0, 0, 0, 0, 0, 0x46];
@@ -15,6 +16,8 @@ pub enum Rule {
     Bytes(&'static [u8]),
     /// These bits are clear.
     Clear(u32),
+    /// The attribute bits that the profile does not keep are clear.
+    Attributes,
     HotKey,
     AtLeast(u64),
     AtMost(u64),
@@ -53,6 +56,7 @@ impl Rule {
             Rule::Is(wanted) if value != wanted => is(format!(", not 0x{:X}", wanted)),
             Rule::Bytes(wanted) => other_bytes(&part.bytes[at..at + width], wanted),
             Rule::Clear(mask) => set_bits(value as u32 & mask).and_then(is),
+            Rule::Attributes => set_bits(value as u32 & unkept(part.profile)).and_then(is),
             Rule::HotKey => no_hot_key(value as u16).and_then(is),
             Rule::AtLeast(least) if value < least => is(format!(", less than 0x{:X}", least)),
             Rule::AtMost(most) if value > most => is(format!(", more than 0x{:X}", most)),
@@ -60,7 +64,7 @@ impl Rule {
             Rule::Walked(least) => wrong_size(part, at, (width, least), value as usize).and_then(is),
             Rule::Name => wrong_name(part, value as usize).and_then(is),
             Rule::Head => wrong_head(part, value as usize).and_then(is),
-            Rule::Present(bit) if !self.is_present(part) && value != 0 => {
+            Rule::Present(bit) if !self.is_present(part) && value != 0 && !is_leftover(part) => {
                 is(format!(", not 0, though bit {} of the flags is clear", bit))
             }
             Rule::Text(width) => wrong_text(part, value as usize, width).and_then(is),
@@ -94,6 +98,19 @@ impl Rule {
             _ => None,
         }
     }
+}
+
+/// The attribute bits that no shortcut may have.
+fn unkept(profile: Profile) -> u32 {
+    match profile {
+        Profile::Strict => 0xFFFF_8048,
+        Profile::NinetyFive => 0xFFFF_0048,
+    }
+}
+
+/// Whether what stands in the offset field of an absent part is ignored: under 95, in LinkInfo's own head.
+fn is_leftover(part: &Part) -> bool {
+    part.kind == Kind::Info && part.profile == Profile::NinetyFive
 }
 
 fn other_bytes(found: &[u8], wanted: &[u8]) -> Option<String> {

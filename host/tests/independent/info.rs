@@ -1,6 +1,6 @@
 //! LinkInfo, given as a part of the file.
 
-use super::{u32_at, Body, Info, LabelKind, Network, Part, Volume, Why, Wrong, CUT, INFO, PIECE};
+use super::{u32_at, Body, Info, LabelKind, Network, Part, Profile, Volume, Why, Wrong, CUT, INFO, PIECE};
 
 /// Bytes of the file: offsets count from their start, places from the file's.
 #[derive(Clone, Copy)]
@@ -76,7 +76,7 @@ struct Head {
 }
 
 /// LinkInfo at the start of the rest, which stands at this place; with its length.
-pub(super) fn read(rest: &[u8], place: usize) -> Result<(Info, usize), Wrong> {
+pub(super) fn read(rest: &[u8], place: usize, profile: Profile) -> Result<(Info, usize), Wrong> {
     let size_is = |number, why| Wrong::new(number, Part::Info, 0, why);
     let size = u32_at(rest.get(..4).ok_or(size_is(CUT, Why::Cut))?, 0) as usize;
     if size < 0x1C {
@@ -84,11 +84,11 @@ pub(super) fn read(rest: &[u8], place: usize) -> Result<(Info, usize), Wrong> {
     }
     let bytes = rest.get(..size).ok_or(size_is(CUT, Why::Past))?;
     let info = Stretch { bytes, place };
-    let head = read_head(info)?;
+    let head = read_head(info, profile)?;
     Ok((read_pieces(info, &head)?, size))
 }
 
-fn read_head(part: Stretch) -> Result<Head, Wrong> {
+fn read_head(part: Stretch, profile: Profile) -> Result<Head, Wrong> {
     let wrong = |field, why| Err(Wrong::new(INFO, Part::Info, field, why));
     let size = part.number(4);
     let long = size != 0x1C;
@@ -117,8 +117,8 @@ fn read_head(part: Stretch) -> Result<Head, Wrong> {
         (28, local, head.unicode_local_path),
     ];
     match offsets.iter().find(|(_, present, offset)| !present && *offset != 0) {
-        Some(&(field, ..)) => wrong(field, Why::Absent),
-        None => Ok(head),
+        Some(&(field, ..)) if !profile.forgives_leftovers() => wrong(field, Why::Absent),
+        _ => Ok(head),
     }
 }
 

@@ -1,6 +1,8 @@
 //! The cache key, made from the words of request 02 alone.
 
-use super::{walk, Body, Header, Info, Refusal, Target, Texts, Visit, ROOM, SECTION_ARGUMENTS, SECTION_WORKDIR};
+use super::{
+    walk, Body, Header, Info, Profile, Refusal, Target, Texts, Visit, ROOM, SECTION_ARGUMENTS, SECTION_WORKDIR,
+};
 
 const ENVIRONMENT: u32 = 0xA000_0001;
 
@@ -48,9 +50,9 @@ fn byte_text(shortcut: &[u8], start: usize) -> &[u8] {
     &field[..length]
 }
 
-pub fn key(shortcut: &[u8], out: &mut [u8]) -> Result<usize, Refusal> {
+pub fn key(shortcut: &[u8], out: &mut [u8], profile: Profile) -> Result<usize, Refusal> {
     let mut parts = Parts::default();
-    walk(shortcut, &mut parts)?;
+    walk(shortcut, profile, &mut parts)?;
     let target = parts.texts.found.map(|texts| Target::of(shortcut, texts));
     let bytes_of = |body: Body| &shortcut[body.place..body.place + body.length];
     let environment = parts.environment.map(|start| byte_text(shortcut, start));

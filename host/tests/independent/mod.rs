@@ -8,6 +8,7 @@ mod info;
 mod key;
 mod moving;
 mod path;
+mod profile;
 mod record;
 mod store;
 mod texts;
@@ -21,6 +22,7 @@ pub use key::key;
 #[allow(unused_imports)]
 pub use moving::{code_page, to_bytes, to_unicode};
 pub use path::path_block;
+pub use profile::Profile;
 pub use record::*;
 #[allow(unused_imports)]
 pub use store::{store, store_list, store_write, Entry};
@@ -99,13 +101,13 @@ impl Visit for Record {
     }
 }
 
-pub fn check(shortcut: &[u8]) -> Result<usize, Refusal> {
-    walk(shortcut, &mut Nothing)
+pub fn check(shortcut: &[u8], profile: Profile) -> Result<usize, Refusal> {
+    walk(shortcut, profile, &mut Nothing)
 }
 
-pub fn read(shortcut: &[u8]) -> Result<Record, Refusal> {
+pub fn read(shortcut: &[u8], profile: Profile) -> Result<Record, Refusal> {
     let mut record = Record::default();
-    walk(shortcut, &mut record)?;
+    walk(shortcut, profile, &mut record)?;
     Ok(record)
 }
 
@@ -118,9 +120,9 @@ impl Visit for Listing {
 }
 
 /// Name, start and length of every section, as the listing shows them.
-pub fn sections(shortcut: &[u8]) -> Result<Vec<(u8, usize, usize)>, Refusal> {
+pub fn sections(shortcut: &[u8], profile: Profile) -> Result<Vec<(u8, usize, usize)>, Refusal> {
     let mut listing = Listing(Vec::new());
-    walk(shortcut, &mut listing)?;
+    walk(shortcut, profile, &mut listing)?;
     Ok(listing.0)
 }
 
@@ -144,9 +146,9 @@ impl Visit for Wanted {
 }
 
 /// Place and length of a section; (0, 0) for an empty one.
-pub fn section(shortcut: &[u8], name: u32, block: usize) -> (usize, usize) {
+pub fn section(shortcut: &[u8], name: u32, block: usize, profile: Profile) -> (usize, usize) {
     let mut wanted = Wanted { name, block, passed: 0, found: (0, 0) };
-    match walk(shortcut, &mut wanted) {
+    match walk(shortcut, profile, &mut wanted) {
         Ok(_) => wanted.found,
         Err(_) => (0, 0),
     }
@@ -209,9 +211,9 @@ fn is_parted(first: &[u8], suffix: &[u8]) -> bool {
     !suffix.is_empty() && matches!(first.last(), Some(&last) if last != b'\\')
 }
 
-pub fn target(shortcut: &[u8], out: &mut [u8]) -> Result<usize, Refusal> {
+pub fn target(shortcut: &[u8], out: &mut [u8], profile: Profile) -> Result<usize, Refusal> {
     let mut texts = Texts::default();
-    walk(shortcut, &mut texts)?;
+    walk(shortcut, profile, &mut texts)?;
     let texts = texts.found.ok_or_else(|| Refusal::nowhere(NOTARGET))?;
     let target = Target::of(shortcut, texts);
     let length = target.length();
@@ -228,11 +230,11 @@ pub fn window(show_command: u32) -> u32 {
     }
 }
 
-fn walk<V: Visit>(shortcut: &[u8], visit: &mut V) -> Result<usize, Refusal> {
+fn walk<V: Visit>(shortcut: &[u8], profile: Profile, visit: &mut V) -> Result<usize, Refusal> {
     if shortcut.len() > LIMIT {
         return Err(Refusal { position: LIMIT, ..Refusal::nowhere(LONG) });
     }
-    let header = read_header(shortcut).map_err(Refusal::in_section(SECTION_HEADER, 0))?;
+    let header = read_header(shortcut, profile).map_err(Refusal::in_section(SECTION_HEADER, 0))?;
     visit.header(&header);
     visit.section(SECTION_HEADER, 0, HEADER_LENGTH);
     let flags = header.link_flags;
@@ -243,7 +245,7 @@ fn walk<V: Visit>(shortcut: &[u8], visit: &mut V) -> Result<usize, Refusal> {
         at += length;
     }
     if flags & 2 != 0 {
-        let (info, length) = info::read(&shortcut[at..], at).map_err(Refusal::in_section(SECTION_INFO, at))?;
+        let (info, length) = info::read(&shortcut[at..], at, profile).map_err(Refusal::in_section(SECTION_INFO, at))?;
         visit.section(SECTION_INFO, at, length);
         visit.info(&info);
         at += length;
@@ -259,7 +261,7 @@ fn walk<V: Visit>(shortcut: &[u8], visit: &mut V) -> Result<usize, Refusal> {
     walk_blocks(shortcut, at, visit)
 }
 
-fn read_header(shortcut: &[u8]) -> Result<Header, Wrong> {
+fn read_header(shortcut: &[u8], profile: Profile) -> Result<Header, Wrong> {
     let wrong = |number| move |field| Wrong::new(number, Part::Header, field, Why::Value);
     let bytes = shortcut.get(..HEADER_LENGTH).ok_or(Wrong::new(CUT, Part::Header, 0, Why::Cut))?;
     if bytes[..4] != MAGIC_BYTES[..4] {
@@ -280,7 +282,7 @@ fn read_header(shortcut: &[u8]) -> Result<Header, Wrong> {
         hot_key: u16_at(bytes, 64),
     };
     let reserved = (bytes[66..] != [0; 10]).then_some(66);
-    header.wrong_field().or(reserved).map_or(Ok(header), |field| Err(wrong(HEAD)(field)))
+    header.wrong_field(profile).or(reserved).map_or(Ok(header), |field| Err(wrong(HEAD)(field)))
 }
 
 /// The length of an item list with its size field.

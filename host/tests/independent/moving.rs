@@ -1,7 +1,7 @@
 //! The two moves, made from the words of request 09 alone: the texts are translated into a longer body buffer, and the
 //! writer makes the result.
 
-use super::{read, write, Body, Record, Refusal, NOMAP};
+use super::{read, write, Body, Profile, Record, Refusal, NOMAP};
 
 /// What windows-1252 has from 0x80 to 0x9F; 0 stands where it has nothing.
 const HIGH: [u16; 32] = [
@@ -51,13 +51,14 @@ fn narrowed(text: &[u8]) -> Option<Vec<u8>> {
 /// A record whose translated texts stand behind the shortcut that it was read from.
 struct Move<'a> {
     shortcut: &'a [u8],
+    profile: Profile,
     record: Record,
     body: Vec<u8>,
 }
 
 impl<'a> Move<'a> {
-    fn of(shortcut: &'a [u8]) -> Result<Move<'a>, Refusal> {
-        Ok(Move { shortcut, record: read(shortcut)?, body: shortcut.to_vec() })
+    fn of(shortcut: &'a [u8], profile: Profile) -> Result<Move<'a>, Refusal> {
+        Ok(Move { shortcut, profile, record: read(shortcut, profile)?, body: shortcut.to_vec() })
     }
 
     fn text(&self, text: Body) -> &'a [u8] {
@@ -114,18 +115,18 @@ impl<'a> Move<'a> {
     }
 
     fn written(&self, out: &mut [u8]) -> Result<usize, Refusal> {
-        write(&self.record, &self.body, out)
+        write(&self.record, &self.body, out, self.profile)
     }
 }
 
-pub fn to_unicode(shortcut: &[u8], out: &mut [u8]) -> Result<usize, Refusal> {
-    let mut moving = Move::of(shortcut)?;
+pub fn to_unicode(shortcut: &[u8], out: &mut [u8], profile: Profile) -> Result<usize, Refusal> {
+    let mut moving = Move::of(shortcut, profile)?;
     moving.to_unicode().ok_or_else(|| Refusal::nowhere(NOMAP))?;
     moving.written(out)
 }
 
-pub fn to_bytes(shortcut: &[u8], out: &mut [u8]) -> Result<usize, Refusal> {
-    let mut moving = Move::of(shortcut)?;
+pub fn to_bytes(shortcut: &[u8], out: &mut [u8], profile: Profile) -> Result<usize, Refusal> {
+    let mut moving = Move::of(shortcut, profile)?;
     moving.to_bytes().ok_or_else(|| Refusal::nowhere(NOMAP))?;
     moving.written(out)
 }

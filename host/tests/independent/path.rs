@@ -1,6 +1,6 @@
 //! A path block put into a record: the three kinds by one rule.
 
-use super::{write, Body, Record, Refusal, LIMIT, UNWRITABLE};
+use super::{write, Body, Profile, Record, Refusal, LIMIT, UNWRITABLE};
 
 const KINDS: [u32; 3] = [0xA000_0001, 0xA000_0006, 0xA000_0007];
 const LENGTH: usize = 788;
@@ -42,13 +42,12 @@ fn number(bytes: &[u8]) -> u32 {
 pub fn path_block(
     record: &Record,
     body: &[u8],
-    kind: u32,
-    text: &[u8],
-    unicode: &[u8],
+    (kind, text, unicode): (u32, &[u8], &[u8]),
     out: &mut [u8],
+    profile: Profile,
 ) -> Result<usize, Refusal> {
     // Where room is enough, a record is refused only for itself.
-    write(record, body, &mut vec![0; LIMIT])?;
+    write(record, body, &mut vec![0; LIMIT], profile)?;
     let block = block(kind, text, unicode).ok_or_else(|| Refusal::nowhere(UNWRITABLE))?;
     let mut blocks = one_by_one(record.blocks.of(body).unwrap());
     match blocks.iter().position(|old| number(&old[4..8]) == kind) {
@@ -57,5 +56,5 @@ pub fn path_block(
     }
     let blocks = blocks.concat();
     let changed = Record { blocks: Body::new(body.len(), blocks.len()), ..record.clone() };
-    write(&changed, &[body, &blocks].concat(), out)
+    write(&changed, &[body, &blocks].concat(), out, profile)
 }

@@ -1,5 +1,7 @@
 //! The record: header fields, LinkInfo's fields, and a place and length for each body.
 
+use super::Profile;
+
 /// The count of numbers that a record has at the boundary.
 pub const FIELDS: usize = 49;
 
@@ -34,15 +36,15 @@ pub struct Header {
 }
 
 impl Header {
-    pub fn follows_rules(&self) -> bool {
-        self.wrong_field().is_none()
+    pub fn follows_rules(&self, profile: Profile) -> bool {
+        self.wrong_field(profile).is_none()
     }
 
     /// The first field against its rule, by its place in the header.
-    pub fn wrong_field(&self) -> Option<usize> {
+    pub fn wrong_field(&self, profile: Profile) -> Option<usize> {
         let rules = [
             (self.link_flags & 0xF800_0000 == 0, 20),
-            (self.file_attributes & 0xFFFF_8048 == 0, 24),
+            (self.file_attributes & profile.forbidden_attributes() == 0, 24),
             (is_hot_key(self.hot_key), 64),
         ];
         rules.iter().find(|(holds, _)| !holds).map(|&(_, field)| field)

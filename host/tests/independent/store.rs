@@ -1,6 +1,6 @@
 //! The property store of a block A0000009, by the words of request 06.
 
-use super::{u32_at, Body, Part, Refusal, Visit, Why, Wrong, PLACE, ROOM, STORE, UNWRITABLE};
+use super::{u32_at, Body, Part, Profile, Refusal, Visit, Why, Wrong, PLACE, ROOM, STORE, UNWRITABLE};
 
 /// Where the storages begin in their block.
 const STORAGES: usize = 8;
@@ -41,9 +41,9 @@ impl Visit for Holder {
 }
 
 /// The store of an accepted shortcut, if there is one, and where its block starts.
-pub fn store(shortcut: &[u8]) -> Option<(usize, Vec<Entry>)> {
+pub fn store(shortcut: &[u8], profile: Profile) -> Option<(usize, Vec<Entry>)> {
     let mut holder = Holder::default();
-    super::walk(shortcut, &mut holder).ok()?;
+    super::walk(shortcut, profile, &mut holder).ok()?;
     let block = holder.found?;
     let mut entries = Vec::new();
     walk(block.of(shortcut)?, |entry| entries.push(entry)).ok()?;
@@ -115,9 +115,9 @@ const ROW: usize = 6;
 const MOST: u128 = 65_448;
 
 /// The rows of a shortcut's store; the answer is how many they are.
-pub fn store_list(shortcut: &[u8], rows: &mut [u64]) -> Result<usize, Refusal> {
-    super::check(shortcut)?;
-    let (start, entries) = store(shortcut).unwrap_or_default();
+pub fn store_list(shortcut: &[u8], rows: &mut [u64], profile: Profile) -> Result<usize, Refusal> {
+    super::check(shortcut, profile)?;
+    let (start, entries) = store(shortcut, profile).unwrap_or_default();
     let numbers: Vec<u64> = entries.iter().flat_map(|entry| entry.row(start)).collect();
     let room = rows.get_mut(..numbers.len()).ok_or_else(|| Refusal::nowhere(ROOM))?;
     room.copy_from_slice(&numbers);

@@ -1,7 +1,7 @@
 //! The writer: what a record holds is gathered, judged and laid out end to end.
 
 use super::{
-    are_blocks, are_items, Header, Info, LabelKind, Network, Record, Refusal, Volume, HEADER_LENGTH, LIMIT,
+    are_blocks, are_items, Header, Info, LabelKind, Network, Profile, Record, Refusal, Volume, HEADER_LENGTH, LIMIT,
     MAGIC_BYTES, PLACE, ROOM, UNWRITABLE,
 };
 
@@ -47,12 +47,12 @@ struct NetworkContents<'a> {
     unicode_device_name: &'a [u8],
 }
 
-pub fn write(record: &Record, body: &[u8], out: &mut [u8]) -> Result<usize, Refusal> {
+pub fn write(record: &Record, body: &[u8], out: &mut [u8], profile: Profile) -> Result<usize, Refusal> {
     let refuse = Refusal::nowhere;
     let mut contents = Contents::default();
     contents.gather(record, body).ok_or_else(|| refuse(PLACE))?;
     let length = contents.length();
-    if length > LIMIT || !contents.follow_rules() {
+    if length > LIMIT || !contents.follow_rules(profile) {
         return Err(refuse(UNWRITABLE));
     }
     let room = out.get_mut(..length).ok_or_else(|| refuse(ROOM))?;
@@ -100,8 +100,8 @@ impl<'a> Contents<'a> {
         HEADER_LENGTH + items + info + strings + capped(self.blocks) + 4
     }
 
-    fn follow_rules(&self) -> bool {
-        self.header.follows_rules()
+    fn follow_rules(&self, profile: Profile) -> bool {
+        self.header.follows_rules(profile)
             && self.items.map_or(true, are_items)
             && (!self.has_info || self.info.follow_rules())
             && self.strings.iter().flatten().all(|s| !self.is_unicode() || s.len() % 2 == 0)

@@ -6,6 +6,7 @@
 mod build;
 mod damage;
 mod large;
+mod leftovers;
 mod moving;
 mod pairs;
 mod random;
@@ -16,6 +17,8 @@ pub use build::Draft;
 #[allow(unused_imports)]
 pub use large::large;
 #[allow(unused_imports)]
+pub use leftovers::left_over;
+#[allow(unused_imports)]
 pub use moving::{at_the_limit, movable};
 #[allow(unused_imports)]
 pub use pairs::pairs;
@@ -24,6 +27,7 @@ pub use random::Random;
 pub use stores::stores;
 
 const SEED: u64 = 0x4C4E_4B20_6865_7272;
+const LEFTOVERS: u64 = 0x3935;
 
 /// The random numbers of one input, for its bytes and for the calls made on it.
 pub fn random_of(number: u64) -> Random {
@@ -33,6 +37,11 @@ pub fn random_of(number: u64) -> Random {
 pub fn input(number: u64) -> Vec<u8> {
     let mut random = random_of(number);
     let mut draft = Draft::build(&mut random);
+    // Of numbers of its own, so that all else is as it was.
+    let mut other = random_of(number ^ LEFTOVERS);
+    if other.chance(12) {
+        leftovers::leave(&mut draft, &mut other);
+    }
     let percent = if draft.bytes.len() > 60_000 { 25 } else { 60 };
     if random.chance(percent) {
         if random.chance(15) {
