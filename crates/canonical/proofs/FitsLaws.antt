@@ -16,7 +16,7 @@ use Rattle.format.specs.Presence.{itemsThere, infoThere}
 use Rattle.format.specs.Volume.{labelLeast}
 use Rattle.format.specs.Network.{networkHead}
 use Rattle.format.specs.Shortcut.{most}
-use Rattle.format.specs.Bodies.{BodyRow, bodyRow, itemsKind, textKind, stringKind, itemsSlot, labelSlot, blocksSlot, placeIn, tableOf, along, kept, zeroed, placed}
+use Rattle.format.specs.Bodies.{BodyRow, bodyRow, itemsKind, textKind, stringKind, itemsSlot, labelSlot, blocksSlot, furtherSlot, placeIn, tableOf, along, kept, zeroed, placed}
 use Rattle.format.specs.Contents.{contents}
 use Rattle.format.specs.Writing.{canonical}
 use Rattle.format.specs.Steps.Lengths.{volumePart, networkPart, writtenRow, writtenLength}
@@ -52,9 +52,20 @@ module _ (q : Record) {s : Shape} (e : s ≡ shapeOf (q .header .flags) (q .link
   pub info-parts : {sizes : List ℕ} → sizes ≡ writtenRow q
       → infoTo (q .link) sizes
       ≡ 28 + cond (q .link .long) 8 0
-      + (volumePart (q .link) + (slotsSize (q .places) 1 (rowsFrom (rowAs textKind s) 1 2) + (networkPart (q .link) + slotsSize (q .places) 3 (rowsFrom (rowAs textKind s) 3 7))))
+      + (getD sizes furtherSlot 0
+      + (volumePart (q .link) + (slotsSize (q .places) 1 (rowsFrom (rowAs textKind s) 1 2) + (networkPart (q .link) + slotsSize (q .places) 3 (rowsFrom (rowAs textKind s) 3 7)))))
   unfolding slotsSize shapeOf
   info-parts f = rw (e, f) (omega (arith, info-head-is (q .link .long)))
+
+  -- where LinkInfo is there, its further bytes have their own size
+  pub info-put : infoThere (q .header .flags) ≡ true → {sizes : List ℕ} → sizes ≡ writtenRow q
+      → infoTo (q .link) sizes
+      ≡ 28 + cond (q .link .long) 8 0
+      + (placeIn q furtherSlot .len
+      + (volumePart (q .link) + (slotsSize (q .places) 1 (rowsFrom (rowAs textKind s) 1 2) + (networkPart (q .link) + slotsSize (q .places) 3 (rowsFrom (rowAs textKind s) 3 7)))))
+  info-put i {sizes} f =
+      let size : getD sizes furtherSlot 0 ≡ placeIn q furtherSlot .len = rw (f, i) (omega arith) in
+      info-parts f ∙ rw size
 
   -- ---- the whole
 
@@ -73,7 +84,7 @@ module _ (q : Record) {s : Shape} (e : s ≡ shapeOf (q .header .flags) (q .link
   unfolding placed shapeOf
   row-inside d h = record {
     slot = λ k t.
-        by-order 16 k
+        by-order 17 k
         (λ o. clash t (ap (λ (z : Shape). getD (z .there) k false) e ∙ beyond (map (λ b. b .there) (tableOf q)) k false o))
         (λ o.
         let none : BodyRow = bodyRow false itemsKind in
@@ -91,6 +102,10 @@ module _ (q : Record) {s : Shape} (e : s ≡ shapeOf (q .header .flags) (q .link
     pub blocks-inside : InBuffer d (placeIn q blocksSlot)
     unfolding shapeOf
     blocks-inside = r .slot blocksSlot (ap (λ (z : Shape). getD (z .there) blocksSlot false) e)
+
+    pub further-inside : infoThere (q .header .flags) ≡ true → InBuffer d (placeIn q furtherSlot)
+    unfolding shapeOf
+    further-inside t = r .slot furtherSlot (ap (λ (z : Shape). getD (z .there) furtherSlot false) e ∙ t)
 
   module _ {d out : List ℕ} (f : RoomFor d out q) where
     -- no size was clipped

@@ -13,7 +13,7 @@ use Rattle.format.specs.declared.Link.{Link}
 use Rattle.format.specs.Presence.{localThere, networkThere, deviceThere, providerThere}
 use Rattle.format.specs.Volume.{labelLeast}
 use Rattle.format.specs.Network.{networkHead}
-use Rattle.format.specs.Bodies.{labelSlot, localSlot, netSlot, deviceSlot, netUnicodeSlot, deviceUnicodeSlot, suffixSlot, localUnicodeSlot, suffixUnicodeSlot, writtenHead}
+use Rattle.format.specs.Bodies.{labelSlot, localSlot, netSlot, deviceSlot, netUnicodeSlot, deviceUnicodeSlot, suffixSlot, localUnicodeSlot, suffixUnicodeSlot, furtherSlot, writtenHead}
 use Rattle.format.specs.Contents.{bytesAt}
 use Rattle.format.specs.Writing.{bits, headerBytes, itemsBytes, twoFields, labelFields, stringBytes}
 use Rattle.format.specs.Steps.Lengths.{volumePart, networkPart}
@@ -94,18 +94,18 @@ module _ (l : Link) (sizes : List ℕ) where
   network-head-bytes t p h x y z = rw (x, y, z, t, p, h)
 
   pub info-head-bytes : {t n : Bool} {h v m a b c e : ℕ} → t ≡ localThere (l .flags) → n ≡ networkThere (l .flags) → h ≡ writtenHead (l .long) → v ≡ volumePart l → m ≡ networkPart l
-      → a ≡ cond t h 0
-      → b ≡ cond t (h + (v + getD sizes labelSlot 0)) 0
-      → c ≡ cond n (h + (v + getD sizes labelSlot 0) + getD sizes localSlot 0) 0
-      → e ≡ cond t (h + (v + getD sizes labelSlot 0) + getD sizes localSlot 0 + (m + getD sizes netSlot 0 + getD sizes deviceSlot 0 + getD sizes netUnicodeSlot 0 + getD sizes deviceUnicodeSlot 0) + getD sizes suffixSlot 0) 0
-      → little 4 (h + (v + getD sizes labelSlot 0) + getD sizes localSlot 0 + (m + getD sizes netSlot 0 + getD sizes deviceSlot 0 + getD sizes netUnicodeSlot 0 + getD sizes deviceUnicodeSlot 0) + getD sizes suffixSlot 0 + getD sizes localUnicodeSlot 0 + getD sizes suffixUnicodeSlot 0)
-      ++ (little 4 h
+      → a ≡ cond t (h + getD sizes furtherSlot 0) 0
+      → b ≡ cond t (h + getD sizes furtherSlot 0 + (v + getD sizes labelSlot 0)) 0
+      → c ≡ cond n (h + getD sizes furtherSlot 0 + (v + getD sizes labelSlot 0) + getD sizes localSlot 0) 0
+      → e ≡ cond t (h + getD sizes furtherSlot 0 + (v + getD sizes labelSlot 0) + getD sizes localSlot 0 + (m + getD sizes netSlot 0 + getD sizes deviceSlot 0 + getD sizes netUnicodeSlot 0 + getD sizes deviceUnicodeSlot 0) + getD sizes suffixSlot 0) 0
+      → little 4 (h + getD sizes furtherSlot 0 + (v + getD sizes labelSlot 0) + getD sizes localSlot 0 + (m + getD sizes netSlot 0 + getD sizes deviceSlot 0 + getD sizes netUnicodeSlot 0 + getD sizes deviceUnicodeSlot 0) + getD sizes suffixSlot 0 + getD sizes localUnicodeSlot 0 + getD sizes suffixUnicodeSlot 0)
+      ++ (little 4 (h + getD sizes furtherSlot 0)
       ++ (little 4 (l .flags)
       ++ (little 4 a
       ++ (little 4 b
       ++ (little 4 c
-      ++ (little 4 (h + (v + getD sizes labelSlot 0) + getD sizes localSlot 0 + (m + getD sizes netSlot 0 + getD sizes deviceSlot 0 + getD sizes netUnicodeSlot 0 + getD sizes deviceUnicodeSlot 0))
-      ++ (twoFields (l .long) e (h + (v + getD sizes labelSlot 0) + getD sizes localSlot 0 + (m + getD sizes netSlot 0 + getD sizes deviceSlot 0 + getD sizes netUnicodeSlot 0 + getD sizes deviceUnicodeSlot 0) + getD sizes suffixSlot 0 + getD sizes localUnicodeSlot 0) ++ [])))))))
+      ++ (little 4 (h + getD sizes furtherSlot 0 + (v + getD sizes labelSlot 0) + getD sizes localSlot 0 + (m + getD sizes netSlot 0 + getD sizes deviceSlot 0 + getD sizes netUnicodeSlot 0 + getD sizes deviceUnicodeSlot 0))
+      ++ (twoFields (l .long) e (h + getD sizes furtherSlot 0 + (v + getD sizes labelSlot 0) + getD sizes localSlot 0 + (m + getD sizes netSlot 0 + getD sizes deviceSlot 0 + getD sizes netUnicodeSlot 0 + getD sizes deviceUnicodeSlot 0) + getD sizes suffixSlot 0 + getD sizes localUnicodeSlot 0) ++ [])))))))
       ≡ infoHeadBytes l sizes
   unfolding infoHeadBytes
   info-head-bytes t n h v m a b c e = rw (a, b, c, e, t, n, h, v, m)

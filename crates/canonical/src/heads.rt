@@ -28,7 +28,7 @@ fn put_label_fields(out: &mut [u8], at: usize, unicode: bool) -> usize
 }
 
 // VolumeID's: size, drive type, serial, and where the label starts.
-fn put_volume_fields(out: &mut [u8], at: usize, l: Link, sizes: [u32; 16]) -> usize
+fn put_volume_fields(out: &mut [u8], at: usize, l: Link, sizes: [u32; 17]) -> usize
     requires room { ⌜ at + (12 + cond (l .«label_unicode») 8 4) ≤ length (now out) ⌝ }
     requires few { ⌜ labelLeast (l .«label_unicode») + getD sizes labelSlot 0 ≤ 131072 ⌝ }
     ensures written { λ r. ⌜ Wrote (now (out .entry)) at
@@ -42,7 +42,7 @@ fn put_volume_fields(out: &mut [u8], at: usize, l: Link, sizes: [u32; 16]) -> us
     put_label_fields(out, p, l.label_unicode)
 }
 
-pub fn put_volume_head(out: &mut [u8], at: usize, l: Link, sizes: [u32; 16]) -> usize
+pub fn put_volume_head(out: &mut [u8], at: usize, l: Link, sizes: [u32; 17]) -> usize
     requires room { ⌜ at + volumePart l ≤ length (now out) ⌝ }
     requires few { ⌜ labelLeast (l .«label_unicode») + getD sizes labelSlot 0 ≤ 131072 ⌝ }
     ensures written { λ r. ⌜ Wrote (now (out .entry)) at
@@ -56,7 +56,7 @@ pub fn put_volume_head(out: &mut [u8], at: usize, l: Link, sizes: [u32; 16]) -> 
 }
 
 // The network link's: size, flags, offsets and provider.
-fn put_network_fields(out: &mut [u8], at: usize, l: Link, sizes: [u32; 16]) -> usize
+fn put_network_fields(out: &mut [u8], at: usize, l: Link, sizes: [u32; 17]) -> usize
     requires room { ⌜ at + (20 + cond (l .«network_unicode») 8 0) ≤ length (now out) ⌝ }
     requires few { ⌜ networkTo l sizes ≤ 131072 ⌝ }
     ensures written { λ r. ⌜ Wrote (now (out .entry)) at
@@ -80,7 +80,7 @@ fn put_network_fields(out: &mut [u8], at: usize, l: Link, sizes: [u32; 16]) -> u
     add_fields(out, p, l.network_unicode, net_unicode, second)
 }
 
-pub fn put_network_head(out: &mut [u8], at: usize, l: Link, sizes: [u32; 16]) -> usize
+pub fn put_network_head(out: &mut [u8], at: usize, l: Link, sizes: [u32; 17]) -> usize
     requires room { ⌜ at + networkPart l ≤ length (now out) ⌝ }
     requires few { ⌜ networkTo l sizes ≤ 131072 ⌝ }
     ensures written { λ r. ⌜ Wrote (now (out .entry)) at
@@ -93,8 +93,8 @@ pub fn put_network_head(out: &mut [u8], at: usize, l: Link, sizes: [u32; 16]) ->
     at
 }
 
-// LinkInfo's: size, head size, flags and offsets.
-pub fn put_info_head(out: &mut [u8], at: usize, l: Link, sizes: [u32; 16]) -> usize
+// LinkInfo's: size, head size, flags and offsets, which lead past its further bytes.
+pub fn put_info_head(out: &mut [u8], at: usize, l: Link, sizes: [u32; 17]) -> usize
     requires room { ⌜ at + (28 + cond (l .long) 8 0) ≤ length (now out) ⌝ }
     requires few { ⌜ infoTo l sizes ≤ most ⌝ }
     ensures written { λ r. ⌜ Wrote (now (out .entry)) at
@@ -103,7 +103,7 @@ pub fn put_info_head(out: &mut [u8], at: usize, l: Link, sizes: [u32; 16]) -> us
 {
     let here = format::local_there(l.flags);
     let away = format::network_there(l.flags);
-    let head = sizes::info_head(l.long);
+    let head = sizes::info_head(l.long) + sizes[format::FURTHER];
     let local = head + (sizes::volume_part(l) + sizes[format::LABEL]);
     let network = local + sizes[format::LOCAL];
     let names = sizes::network_part(l)

@@ -22,6 +22,7 @@ ghost use Prim.Native.Nat.{_+_, _-_, _≤_};
 ghost use lib.ListN.{length};
 ghost use Rattle.octets.specs.Parts.{put};
 ghost use Rattle.octets.specs.Steps.Puts.{Wrote};
+ghost use Rattle.format.specs.Presence.{infoThere};
 ghost use Rattle.format.specs.Contents.{bytesAt, contents};
 ghost use Rattle.format.specs.Writing.{ifThere, headerBytes, itemsBytes, stringBytes, blocksBytes, canonical};
 ghost use Rattle.format.specs.Steps.Lengths.{beside, writtenRow};
@@ -164,14 +165,14 @@ fn put_slot(k: usize, out: &mut [u8], at: usize, d: &[u8], unicode: bool, b: Pla
 pub fn put_slots(
     out: &mut [u8],
     at: usize,
-    row: [Place; 16],
+    row: [Place; 17],
     s: Shape,
     d: &[u8],
     from: usize,
     to: usize,
 ) -> usize
     requires inside { ⌜ RowInBuffer (now d) row s ⌝ }
-    requires span { ⌜ (from ≤ to) × (to ≤ 16) ⌝ }
+    requires span { ⌜ (from ≤ to) × (to ≤ 17) ⌝ }
     requires room { ⌜ Room (now out) at (slotsSize row from (rowsFrom (charactersRow s) from (to - from))) ⌝ }
     ensures written { λ r. ⌜ Wrote (now (out .entry)) at
         (slotsBytes (now (d .entry)) row from (rowsFrom (charactersRow s) from (to - from)))
@@ -192,20 +193,21 @@ pub fn put_slots(
 
 // ---- the whole
 
-// LinkInfo: each head before the bodies that it leads to.
+// LinkInfo: each head before the bodies that it leads to, its own with the further bytes.
 fn put_info(
     there: bool,
     out: &mut [u8],
     at: usize,
     q: Record,
     s: Shape,
-    sizes: [u32; 16],
+    sizes: [u32; 17],
     d: &[u8],
 ) -> usize
     requires shape { ⌜ s ≡ shapeOf (q .header .flags) (q .link) ⌝ }
     requires sized { ⌜ sizes ≡ writtenRow q ⌝ }
     requires inside { ⌜ RowInBuffer (now d) (q .places) s ⌝ }
     requires room { ⌜ Room (now out) at (cond there (infoTo (q .link) sizes) 0) ⌝ }
+    requires present { ⌜ there ≡ infoThere (q .header .flags) ⌝ }
     ensures written { λ r. ⌜ Wrote (now (out .entry)) at
         (cond there (infoFlat (now (d .entry)) q s sizes) [])
         (cond there (infoTo (q .link) sizes) 0) (now (out .exit)) r ⌝ }
@@ -216,6 +218,7 @@ fn put_info(
     let l = q.link;
     let row = q.places;
     let p = put_info_head(out, at, l, sizes);
+    let p = put_body(out, p, d, row[format::FURTHER]);
     let p = put_volume_head(out, p, l, sizes);
     let p = put_slots(out, p, row, s, d, format::LABEL, format::NET);
     let p = put_network_head(out, p, l, sizes);
@@ -223,7 +226,7 @@ fn put_info(
 }
 
 // The sections in file order, from the buffer's start on. Answers their length.
-pub fn put_canonical(out: &mut [u8], q: Record, s: Shape, sizes: [u32; 16], d: &[u8]) -> usize
+pub fn put_canonical(out: &mut [u8], q: Record, s: Shape, sizes: [u32; 17], d: &[u8]) -> usize
     requires fits { ⌜ RoomFor (now d) (now out) q ⌝ }
     requires shape { ⌜ s ≡ shapeOf (q .header .flags) (q .link) ⌝ }
     requires sized { ⌜ sizes ≡ sizesOf q ⌝ }

@@ -116,11 +116,11 @@ module _ (f : List ℕ) where
       rw i at (row-at (k + 1) n j (omega arith))
 
   -- a row that has them all
-  pub row-whole : (row : List Place) → length row ≡ 16 → ((j : ℕ) → j < 16 → getD row j noPlace ≡ slotAt f j) → row ≡ placesFrom f
+  pub row-whole : (row : List Place) → length row ≡ 17 → ((j : ℕ) → j < 17 → getD row j noPlace ≡ slotAt f j) → row ≡ placesFrom f
   unfolding placesFrom
   row-whole row l h =
-      ext-getD noPlace row (rowFrom f 0 16) l
-      (λ j k. let b : j < 16 = omega arith in h j b ∙ sym (rw zero-add at (row-at 0 16 j b)))
+      ext-getD noPlace row (rowFrom f 0 17) l
+      (λ j k. let b : j < 17 = omega arith in h j b ∙ sym (rw zero-add at (row-at 0 17 j b)))
 
 -- the numbers of a record from those that are computed
 pub numbers-are : (q : Record) {x u v w : ℕ} → x ≡ bits (q .header .«icon_index») → u ≡ oneOr0 (q .link .long) → v ≡ oneOr0 (q .link .«label_unicode»)
@@ -178,8 +178,8 @@ put-over : (d w : List ℕ) → length d ≡ length w → put d 0 w ≡ w
 unfolding put
 put-over d w e = ap (λ (t : List ℕ). w ++ t) (drop-of-length-le d {i = 0 + length w} (omega arith)) ∙ append-nil w
 
--- all 49 numbers, put one after another
-pub filled : (d : List ℕ) (q : Record) {x y n : List ℕ} → length d ≡ fieldCount → length (q .places) ≡ 16 → n ≡ numbersOf q → x ≡ put d 0 n → y ≡ put x 17 (pairs (q .places)) → y ≡ fieldsOf q
+-- all 51 numbers, put one after another
+pub filled : (d : List ℕ) (q : Record) {x y n : List ℕ} → length d ≡ fieldCount → length (q .places) ≡ 17 → n ≡ numbersOf q → x ≡ put d 0 n → y ≡ put x 17 (pairs (q .places)) → y ≡ fieldsOf q
 unfolding fieldsOf numbersOf
 filled d q size row numbers h k =
     let m = length-pairs (q .places) in

@@ -1,4 +1,3 @@
 pub mod Laws
 pub mod RoundTrip
-pub mod NamedLaws
 pub mod OneOutcome

@@ -58,12 +58,12 @@ slot-back q k =
     let n = rw (← i) at (getD-append-add (numbersOf q) (pairs ps) (2 * k + 1) 0 ∙ pairs-len ps k) in
     sym (rw (a, n))
 
-pub record-back : (q : Record) → FitsRecord q → length (q .places) ≡ 16 → recordFrom (fieldsOf q) ≡ q
+pub record-back : (q : Record) → FitsRecord q → length (q .places) ≡ 17 → recordFrom (fieldsOf q) ≡ q
 record-back q t row =
     sym (record-is (fieldsOf q) (header-back q (t .header)) (link-back q) (row-whole (fieldsOf q) (q .places) row (λ j h. slot-back q j)))
 
 -- its numbers are as many as there are fields, and are a record
-pub fields-counted : (q : Record) → length (q .places) ≡ 16 → length (fieldsOf q) ≡ fieldCount
+pub fields-counted : (q : Record) → length (q .places) ≡ 17 → length (fieldsOf q) ≡ fieldCount
 unfolding fieldsOf numbersOf
 fields-counted q row = omega (arith, length-pairs (q .places))
 
@@ -95,7 +95,7 @@ fields-record q t =
     )
 
 -- what filled the fields with them has both, of a record that fits
-pub round-trip : (q : Record) → FitsRecord q → length (q .places) ≡ 16 → {x : List ℕ} → x ≡ fieldsOf q → (x ≡ fieldsOf q) × ((areRecord x ≡ true) × (recordFrom x ≡ q))
+pub round-trip : (q : Record) → FitsRecord q → length (q .places) ≡ 17 → {x : List ℕ} → x ≡ fieldsOf q → (x ≡ fieldsOf q) × ((areRecord x ≡ true) × (recordFrom x ≡ q))
 round-trip q t row e = (e, (rw e (fields-record q t), rw e (record-back q t row)))
 
 -- ---- the numbers

@@ -1,4 +1,4 @@
--- FORMAT: The record as numbers. 49 of them, in one fixed order.
+-- FORMAT: The record as numbers. 51 of them, in one fixed order.
 use Prim.Native.Nat.{ℕ, zero, suc, _+_, _*_}
 use mathlib.Core.List.{List, [], _∷_, _++_}
 use mathlib.Core.Bool.{Bool, _&&_}
@@ -13,7 +13,7 @@ use Rattle.format.specs.Header.{signed}
 use Rattle.format.specs.Writing.{bits, every}
 
 abbrev pub fieldCount : ℕ
-fieldCount = 49
+fieldCount = 51
 
 -- ---- from the record
 
@@ -108,7 +108,7 @@ module _ (f : List ℕ) where
   rowFrom k (suc n) = slotAt k ∷ rowFrom (k + 1) n
 
   unfoldable pub placesFrom : List Place
-  placesFrom = rowFrom 0 16
+  placesFrom = rowFrom 0 17
 
   unfoldable pub recordFrom : Record
   unfolding headerFrom linkFrom placesFrom

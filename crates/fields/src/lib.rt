@@ -1,4 +1,4 @@
-// The record as 49 numbers, in the order of specs/Fields.
+// The record as 51 numbers, in the order of specs/Fields.
 use format::Header;
 use format::Link;
 use format::Place;
@@ -55,7 +55,7 @@ fn header_numbers(f: &[u64]) -> bool
 // The place in slot k.
 fn slot_at(f: &[u64], k: usize) -> Place
     requires size { ⌜ length (now f) ≡ fieldCount ⌝ }
-    requires slot { ⌜ k < 16 ⌝ }
+    requires slot { ⌜ k < 17 ⌝ }
     ensures { λ r. ⌜ r ≡ slotAt (now (f .entry)) k ⌝ }
 {
     let i = 17 + 2 * k;
@@ -109,12 +109,12 @@ fn put_numbers(f: &mut [u64], at: usize, src: &[u64])
 }
 
 // Place and length of each slot.
-fn put_places(f: &mut [u64], row: [Place; 16])
+fn put_places(f: &mut [u64], row: [Place; 17])
     requires { ⌜ length (now f) ≡ fieldCount ⌝ }
     ensures { λ _. ⌜ now (f .exit) ≡ put (now (f .entry)) 17 (pairs row) ⌝ }
 {
     let mut k: usize = 0;
-    while k < 16 {
+    while k < 17 {
         let b = row[k];
         let i = 17 + 2 * k;
         f[i] = b.at as u64;
@@ -152,13 +152,13 @@ fn link_from(f: &[u64]) -> Link
     }
 }
 
-fn places_from(f: &[u64]) -> [Place; 16]
+fn places_from(f: &[u64]) -> [Place; 17]
     requires { ⌜ length (now f) ≡ fieldCount ⌝ }
     ensures { λ r. ⌜ r ≡ placesFrom (now (f .entry)) ⌝ }
 {
-    let mut row = [format::NO_PLACE; 16];
+    let mut row = [format::NO_PLACE; 17];
     let mut k: usize = 0;
-    while k < 16 {
+    while k < 17 {
         row[k] = slot_at(f, k);
         k += 1;
     }

@@ -2,8 +2,9 @@
 use mathlib.Core.Path.{_≡_, refl, sym}
 use mathlib.Core.List.{List, [], _∷_}
 use mathlib.Core.Bool.{Bool, true, false, not, _&&_, _||_, cond}
-use Prim.Native.Nat.{ℕ, _≤_, _<_}
+use Prim.Native.Nat.{ℕ, zero, suc, _≤_, _<_}
 use native.Mathlib.Omega.{arith}
+use lib.ListN.{getD}
 use lib.Dec.{leb}
 use borrow.Author.Tests.{leb-true, leb-false}
 pub use Rattle.octets.proofs.AndLaws.{and-true, and-assoc, and-yes, and-no}
@@ -58,6 +59,11 @@ every-out (b ∷ bs) e = let i = and-true b (every bs) e in (i .0, every-out bs 
 pub every-in : (bs : List Bool) → Every bs → every bs ≡ true
 every-in [] h = refl
 every-in (b ∷ bs) h = and-both b (every bs) (h .0) (every-in bs (h .1))
+
+pub every-at : (bs : List Bool) → every bs ≡ true → (k : ℕ) → getD bs k true ≡ true
+every-at [] e k = refl
+every-at (b ∷ bs) e zero = and-true b (every bs) e .0
+every-at (b ∷ bs) e (suc k) = every-at bs (and-true b (every bs) e .1) k
 
 -- tests as the code joins them, one after another
 abbrev pub joined : Bool → List Bool → Bool

@@ -13,7 +13,7 @@ use Rattle.format.specs.Tests.{noPlace}
 use Rattle.format.specs.Presence.{infoThere, nameBit, relativeBit, workdirBit, argumentsBit, iconBit, localThere, networkThere, localUnicodeThere, deviceThere, providerThere, deviceUnicodeThere}
 use Rattle.format.specs.Volume.{labelLeast}
 use Rattle.format.specs.Network.{networkHead}
-use Rattle.format.specs.Bodies.{textKind, itemsSlot, stringSlot, labelSlot, localSlot, netSlot, deviceSlot, netUnicodeSlot, deviceUnicodeSlot, suffixSlot, localUnicodeSlot, suffixUnicodeSlot, bodyTable, tableOf, along, writtenHead}
+use Rattle.format.specs.Bodies.{textKind, itemsSlot, stringSlot, labelSlot, localSlot, netSlot, deviceSlot, netUnicodeSlot, deviceUnicodeSlot, suffixSlot, localUnicodeSlot, suffixUnicodeSlot, furtherSlot, bodyTable, tableOf, along, writtenHead}
 use Rattle.format.specs.Contents.{presentLink, present, Contents, bodyIn, infoIn, contents}
 use Rattle.format.specs.Writing.{endToEnd, ifThere, textBytes, twoFields, offsetField, labelFields, volumeBytes, networkBytes, networkLength, infoBytes, canonical}
 use Rattle.format.specs.Steps.Lengths.{volumePart, networkPart}
@@ -40,6 +40,7 @@ pub record TextSizes (c : Contents) (sizes : List ℕ) : Type 0 where
   pub suffix : getD sizes suffixSlot 0 ≡ length (textBytes false (bodyIn c suffixSlot))
   pub localUnicode : getD sizes localUnicodeSlot 0 ≡ length (ifThere (localUnicodeThere (c .link .long) (c .link .flags)) (textBytes true) (bodyIn c localUnicodeSlot))
   pub suffixUnicode : getD sizes suffixUnicodeSlot 0 ≡ length (ifThere (c .link .long) (textBytes true) (bodyIn c suffixUnicodeSlot))
+  pub further : getD sizes furtherSlot 0 ≡ length (bodyIn c furtherSlot)
 
 module _ (c : Contents) (sizes : List ℕ) where
   -- ---- VolumeID
@@ -85,10 +86,11 @@ module _ (c : Contents) (sizes : List ℕ) where
   names : TextSizes c sizes → Names (networkThere (c .link .flags))
   names t = record { net = t .net; device = t .device; netUnicode = t .netUnicode; deviceUnicode = t .deviceUnicode }
 
-  -- what follows the head
+  -- what follows the head's fields
   abbrev pub piecesFlat : List ℕ
   piecesFlat =
-      headIf (localThere (c .link .flags)) (volumeHeadBytes (c .link) sizes)
+      bodyIn c furtherSlot
+      ++ (headIf (localThere (c .link .flags)) (volumeHeadBytes (c .link) sizes)
       ++ (ifThere (localThere (c .link .flags)) (textBytes (c .link .«label_unicode»)) (bodyIn c labelSlot)
       ++ (ifThere (localThere (c .link .flags)) (textBytes false) (bodyIn c localSlot)
       ++ (headIf (networkThere (c .link .flags)) (networkHeadBytes (c .link) sizes)
@@ -98,7 +100,7 @@ module _ (c : Contents) (sizes : List ℕ) where
       ++ (ifThere (networkThere (c .link .flags) && deviceUnicodeThere (c .link .«network_unicode») (c .link .«network_flags»)) (textBytes true) (bodyIn c deviceUnicodeSlot)
       ++ (textBytes false (bodyIn c suffixSlot)
       ++ (ifThere (localUnicodeThere (c .link .long) (c .link .flags)) (textBytes true) (bodyIn c localUnicodeSlot)
-      ++ ifThere (c .link .long) (textBytes true) (bodyIn c suffixUnicodeSlot))))))))))
+      ++ ifThere (c .link .long) (textBytes true) (bodyIn c suffixUnicodeSlot)))))))))))
 
   info-flat : TextSizes c sizes → infoBytes (infoIn c) ≡ infoHeadBytes (c .link) sizes ++ piecesFlat
   unfolding infoBytes infoHeadBytes
@@ -107,13 +109,13 @@ module _ (c : Contents) (sizes : List ℕ) where
       let n = network-flat (networkThere (c .link .flags)) (names t) in
       let lv = volume-long (localThere (c .link .flags)) (t .label) in
       let ln = network-long (networkThere (c .link .flags)) (names t) in
-      rw (lv, ln, ← t .local, ← t .suffix, ← t .localUnicode, ← t .suffixUnicode, v, n) (simp (append-assoc, append-nil))
+      rw (lv, ln, ← t .local, ← t .suffix, ← t .localUnicode, ← t .suffixUnicode, ← t .further, v, n) (simp (append-assoc, append-nil))
 
   -- ---- the whole
 
   -- the size of each slot is that of its body as written
   abbrev pub SizedOf : Type 0
-  SizedOf = (k : ℕ) → k < 16 → getD sizes k 0 ≡ length (getD (along [] rowBytes 0 (bodyTable (c .header .flags) (c .link)) (c .bodies)) k [])
+  SizedOf = (k : ℕ) → k < 17 → getD sizes k 0 ≡ length (getD (along [] rowBytes 0 (bodyTable (c .header .flags) (c .link)) (c .bodies)) k [])
 
   sizes-there : infoThere (c .header .flags) ≡ true → SizedOf → TextSizes c sizes
   sizes-there e m = record {
@@ -126,15 +128,17 @@ module _ (c : Contents) (sizes : List ℕ) where
     suffix = rw e at (m suffixSlot (omega arith));
     localUnicode = rw e at (m localUnicodeSlot (omega arith));
     suffixUnicode = rw e at (m suffixUnicodeSlot (omega arith));
+    further = rw e at (m furtherSlot (omega arith));
   }
 
   -- LinkInfo's bodies by their slots
   abbrev infoRows : List ℕ
   infoRows =
       infoHeadBytes (c .link) sizes
+      ++ (bodyIn c furtherSlot
       ++ (cond (localThere (c .link .flags)) (volumeHeadBytes (c .link) sizes) []
       ++ (bodiesBytes (c .bodies) 1 (rowsFrom (rowAs textKind (shapeOf (c .header .flags) (c .link))) 1 2)
-      ++ (cond (networkThere (c .link .flags)) (networkHeadBytes (c .link) sizes) [] ++ bodiesBytes (c .bodies) 3 (rowsFrom (rowAs textKind (shapeOf (c .header .flags) (c .link))) 3 7))))
+      ++ (cond (networkThere (c .link .flags)) (networkHeadBytes (c .link) sizes) [] ++ bodiesBytes (c .bodies) 3 (rowsFrom (rowAs textKind (shapeOf (c .header .flags) (c .link))) 3 7)))))
 
   contents-info : (i : Bool) → infoThere (c .header .flags) ≡ i → SizedOf → ifThere i infoBytes (infoIn c) ≡ cond i infoRows []
   unfolding bodiesBytes shapeOf
@@ -175,12 +179,12 @@ module _ (l : Link) (sizes : List ℕ) where
 
 module _ (d : List ℕ) (q : Record) (sizes : List ℕ) where
   abbrev pub Sized : Type 0
-  Sized = (k : ℕ) → k < 16 → getD sizes k 0 ≡ length (getD (along noPlace (slotBytes d) 0 (tableOf q) (q .places)) k [])
+  Sized = (k : ℕ) → k < 17 → getD sizes k 0 ≡ length (getD (along noPlace (slotBytes d) 0 (tableOf q) (q .places)) k [])
 
   slot-same : (k : ℕ) → getD (along [] rowBytes 0 (tableOf (present q)) (contents d q .bodies)) k [] ≡ getD (along noPlace (slotBytes d) 0 (tableOf q) (q .places)) k []
   slot-same k = ap (λ (l : List (List ℕ)). getD l k []) (along-contents rowBytes [] (λ k x. refl) d q)
 
-  slot-sized : Sized → (k : ℕ) → k < 16 → getD sizes k 0 ≡ length (getD (along [] rowBytes 0 (tableOf (present q)) (contents d q .bodies)) k [])
+  slot-sized : Sized → (k : ℕ) → k < 17 → getD sizes k 0 ≡ length (getD (along [] rowBytes 0 (tableOf (present q)) (contents d q .bodies)) k [])
   slot-sized m k h = m k h ∙ ap length (sym (slot-same k))
 
   -- where LinkInfo is there
@@ -204,6 +208,7 @@ module _ (d : List ℕ) (q : Record) (sizes : List ℕ) where
       suffix = rw e at (slot-sized m suffixSlot (omega arith));
       localUnicode = rw e at (slot-sized m localUnicodeSlot (omega arith));
       suffixUnicode = rw e at (slot-sized m suffixUnicodeSlot (omega arith));
+      further = rw e at (slot-sized m furtherSlot (omega arith));
     }
 
     info-there : Sized → infoBytes (infoIn (contents d q)) ≡ infoFlat d q (shapeOf (q .header .flags) (q .link)) sizes
@@ -227,6 +232,7 @@ module _ (d : List ℕ) (q : Record) (sizes : List ℕ) where
           rw e at (slot-same suffixSlot),
           rw e at (slot-same localUnicodeSlot),
           rw e at (slot-same suffixUnicodeSlot),
+          rw e at (slot-same furtherSlot),
         ) (simp (append-assoc, append-nil))
 
   info-part : (i : Bool) → infoThere (q .header .flags) ≡ i → Sized → ifThere i infoBytes (infoIn (contents d q)) ≡ cond i (infoFlat d q (shapeOf (q .header .flags) (q .link)) sizes) []

@@ -7,7 +7,7 @@ use native.Mathlib.Omega.{arith}
 use lib.ListN.{length, take, drop, length-take, length-drop}
 use lib.Seq.{length-take-le}
 use lib.Dec.{leb}
-use borrow.Author.Tests.{le-leb, ltb-true}
+use borrow.Author.Tests.{leb-true, le-leb, ltb-true}
 use Rattle.octets.specs.Numbers.{u16At, u32At}
 use Rattle.octets.specs.Characters.{bytesOf, characters, beforeZero}
 use Rattle.octets.proofs.CharacterLaws.{characters-fit, bytes-of-le, bytes-of-add}
@@ -24,7 +24,7 @@ use Rattle.format.specs.Items.{itemsLength, itemsRules, items}
 use Rattle.format.specs.Pieces.{textEnds, textLength, textPiece, textPlace, testsOf}
 use Rattle.format.specs.Volume.{labelUnicode, labelOffset, labelOf, labelPlace, labelKind, noVolume, volumeAt, volumeFields, volumeRules, volumePiece}
 use Rattle.format.specs.Network.{networkFlags, hasDevice, networkUnicode, networkHead, networkAt, networkFields, noNetwork, networkHeadTests, networkRules, networkPiece, hasDeviceUnicode}
-use Rattle.format.specs.Info.{infoSize, infoHead, longHead, hasLocal, hasNetwork, infoHeadTests, infoRules, infoFields, info, noInfo, hasLocalUnicode, linkOf, infoPlaces}
+use Rattle.format.specs.Info.{infoSize, infoHead, longHead, headOk, hasLocal, hasNetwork, furtherPlace, infoHeadTests, infoRules, infoFields, info, noInfo, hasLocalUnicode, linkOf, infoPlaces}
 use Rattle.format.specs.Presence.{itemsThere, infoThere, nameBit, relativeBit, workdirBit, argumentsBit, iconBit, stringThere, stringsUnicode, deviceThere, providerThere, deviceUnicodeThere}
 use Rattle.format.specs.Strings.{stringLength, string}
 use Rattle.format.specs.Blocks.{blocks}
@@ -34,13 +34,13 @@ use Rattle.format.specs.Contents.{presentLink, present}
 use Rattle.format.specs.Listing.{Row, row, blockRows, rowsOf, EndToEnd}
 use Rattle.format.proofs.Bools.{choose-twice}
 use Rattle.format.proofs.Chains.{Pass, pass-split, tests-elim, chain-elim}
-use Rattle.format.proofs.Holds.{struct-holds, volume-holds, networkPieceTests, network-pieces-hold, infoPieceTests, info-pieces-hold}
+use Rattle.format.proofs.Holds.{struct-holds, volume-holds, networkPieceTests, network-pieces-hold, infoPieceTests, info-head-holds, info-pieces-hold}
 use Rattle.format.proofs.Sized.{sizedTests, sized-holds}
 use Rattle.format.proofs.HeaderLaws.{header-size}
 use Rattle.format.proofs.ItemsLaws.{itemsValue}
-use Rattle.format.proofs.InfoLaws.{infoValue}
+use Rattle.format.proofs.InfoLaws.{infoValue, head-inside}
 use Rattle.format.proofs.BlockLaws.{blocks-walked}
-use Rattle.format.proofs.PlaceLaws.{found-elim, Always, chain-always, then-always, section-always, Lies, chain-lies, then-lies, found-lies, section-lies, inside-more}
+use Rattle.format.proofs.PlaceLaws.{found-elim, Always, chain-always, then-always, section-always, Lies, chain-lies, then-lies, found-lies, section-lies, inside-last, inside-more}
 
 -- ---- zeros for what is absent; the blocks of a walk
 
@@ -117,15 +117,15 @@ module _ (profile : Profile) (f : List ℕ) where
   string-always flags k = body-always (string (k + 1) (stringsUnicode flags)) (stringThere k flags)
 
   abbrev KeptInfo : ℕ → Info → Type 0
-  KeptInfo flags i = (cond (infoThere flags) (presentLink (linkOf i)) noLink ≡ linkOf i) × (keptInfo flags i ≡ infoPlaces i)
+  KeptInfo flags i = (cond (infoThere flags) (presentLink (linkOf i)) noLink ≡ linkOf i) × ((keptInfo flags i ≡ infoPlaces i) × Kept (infoThere flags) (i .further))
 
   info-always : (flags : ℕ) → Always f (sectionIf (infoThere flags) noInfo (info profile)) (λ c. KeptInfo flags (c .read))
   info-always flags =
-      section-always f (info profile) (infoThere flags) noInfo (KeptInfo flags) (λ e. (rw e, rw e)) (λ e p a n.
+      section-always f (info profile) (infoThere flags) noInfo (KeptInfo flags) (λ e. (rw e, (rw e, rw e))) (λ e p a n.
       let s : List ℕ = drop p f in
       let l : List ℕ = take (infoSize s) s in
       tests-elim (λ a n. KeptInfo flags a) (section 2 p) (sizedTests 2 4 infoSize (λ n. leb 0x1C n else INFO at 0 ∷ []) (infoRules profile) infoValue s)
-      (infoFields p l) (infoSize s) (λ c. (rw e (link-present p l), places-present flags p l e)) a n)
+      (infoFields p l) (infoSize s) (λ c. (rw e (link-present p l), (places-present flags p l e, rw e))) a n)
 
   -- the blocks are what a walk from their start on gives
   abbrev Walk : Section (List ℕ) → Type 0
@@ -167,8 +167,8 @@ module _ (profile : Profile) (f : List ℕ) where
   unfolding sections present
   read-present c n e =
       let (z, (items, (info, (name, (relative, (workdir, (arguments, (icon, walk)))))))) = known-always .always 0 c n e in
-      let places = ap (λ (ps : List Place). (c .1 .0 .read) ∷ ps ++ drop 10 (recordOf c .places)) (info .1) in
-      rw (items, name, relative, workdir, arguments, icon, info .0) (ap (λ (ps : List Place). record { header = c .0 .read; link = linkOf (c .1 .1 .0 .read); places = ps }) places)
+      let places = ap (λ (ps : List Place). (c .1 .0 .read) ∷ ps ++ drop 10 (recordOf c .places)) (info .1 .0) in
+      rw (items, name, relative, workdir, arguments, icon, info .1 .1, info .0) (ap (λ (ps : List Place). record { header = c .0 .read; link = linkOf (c .1 .1 .0 .read); places = ps }) places)
 
   -- and its blocks are those of a walk
   pub read-walk : (c : Sections) (n : ℕ) → sections profile 0 f ≡ got c n → Walk (blocksOf c)
@@ -276,29 +276,42 @@ network-inside h p l false i o n k e =
     let z : Inside n noPlace = le-leb (0 + 0) n (omega arith) in
     record { net = z; device = z; netUnicode = z; deviceUnicode = z }
 
--- nine places, each inside
-nine : (n : ℕ) (i : Info) → Inside n (labelPlace (i .volume .label)) → Inside n (i .local) → NetworkInside n (i .network) → Inside n (i .suffix)
-    → Inside n (i .«local_unicode») → Inside n (i .«suffix_unicode») → allInside n (infoPlaces i) ≡ true
-nine n i a b c d e g = rw (a, b, c .net, c .device, c .netUnicode, c .deviceUnicode, d, e, g)
+further-inside : (p : ℕ) (l : List ℕ) (n : ℕ) → p + length l ≤ n → headOk l ≡ true → Inside n (furtherPlace p l)
+further-inside p l n k e = go (longHead l) refl
+  where
+    go : (u : Bool) → longHead l ≡ u → Inside n (cond u (place (p + 0x24) (infoHead l - 0x24)) noPlace)
+    go true t = le-leb (p + 0x24 + (infoHead l - 0x24)) n (omega (arith, head-inside (infoHead l) (length l) e t, leb-true 0x24 (infoHead l) t))
+    go false t = le-leb (0 + 0) n (omega arith)
 
-info-inside : (profile : Profile) (f : List ℕ) (p : ℕ) (i : Info) (n : ℕ) → info profile p (drop p f) ≡ got i n → allInside (p + n) (infoPlaces i) ≡ true
+-- LinkInfo's bodies: its further bytes, then the texts
+abbrev infoBodies : Info → List Place
+infoBodies i = i .further ∷ infoPlaces i
+
+-- ten places, each inside
+ten : (n : ℕ) (i : Info) → Inside n (labelPlace (i .volume .label)) → Inside n (i .local) → NetworkInside n (i .network) → Inside n (i .suffix)
+    → Inside n (i .«local_unicode») → Inside n (i .«suffix_unicode») → Inside n (i .further) → allInside n (infoBodies i) ≡ true
+ten n i a b c d e g h = rw (h, a, b, c .net, c .device, c .netUnicode, c .deviceUnicode, d, e, g)
+
+info-inside : (profile : Profile) (f : List ℕ) (p : ℕ) (i : Info) (n : ℕ) → info profile p (drop p f) ≡ got i n → allInside (p + n) (infoBodies i) ≡ true
 info-inside profile f p i n =
     let s : List ℕ = drop p f in
     let m : ℕ = infoSize s in
     let l : List ℕ = take m s in
-    tests-elim (λ i n. allInside (p + n) (infoPlaces i) ≡ true) (section 2 p) (sizedTests 2 4 infoSize (λ n. leb 0x1C n else INFO at 0 ∷ []) (infoRules profile) infoValue s) (infoFields p l) m
+    tests-elim (λ i n. allInside (p + n) (infoBodies i) ≡ true) (section 2 p) (sizedTests 2 4 infoSize (λ n. leb 0x1C n else INFO at 0 ∷ []) (infoRules profile) infoValue s) (infoFields p l) m
     (λ c.
     let k : p + length l ≤ p + m = omega (arith, length-take m s) in
     let g = sized-holds 2 4 infoSize (λ n. leb 0x1C n else INFO at 0 ∷ []) (infoRules profile) infoValue s c in
-    let d = info-pieces-hold l (pass-split (infoHeadTests profile l) (infoPieceTests l) (g .judged) .1) in
+    let (head, pieces) = pass-split (infoHeadTests profile l) (infoPieceTests l) (g .judged) in
+    let d = info-pieces-hold l pieces in
     let h : ℕ = infoHead l in
-    nine (p + m) (infoFields p l)
+    ten (p + m) (infoFields p l)
     (volume-inside h p l (hasLocal l) 12 (u32At l 12) (p + m) k (d .volume))
     (text-inside h p l (hasLocal l) false 16 (u32At l 16) (p + m) k (d .local))
     (network-inside h p l (hasNetwork l) 20 (u32At l 20) (p + m) k (d .network))
     (text-inside h p l true false 24 (u32At l 24) (p + m) k (d .suffix))
     (text-inside h p l (hasLocalUnicode l) true 28 (u32At l 28) (p + m) k (d .localUnicode))
-    (text-inside h p l (longHead l) true 32 (u32At l 32) (p + m) k (d .suffixUnicode)))
+    (text-inside h p l (longHead l) true 32 (u32At l 32) (p + m) k (d .suffixUnicode))
+    (further-inside p l (p + m) k (info-head-holds profile l head .head)))
     i n
 
 one : (n : ℕ) (b : Place) → Inside n b → allInside n (b ∷ []) ≡ true
@@ -342,10 +355,10 @@ module _ (profile : Profile) (f : List ℕ) where
   none-inside : (n : ℕ) → allInside n (noPlace ∷ []) ≡ true
   none-inside n = one n noPlace (le-leb (0 + 0) n (omega arith))
 
-  no-info-inside : (n : ℕ) → allInside n (infoPlaces noInfo) ≡ true
+  no-info-inside : (n : ℕ) → allInside n (infoBodies noInfo) ≡ true
   no-info-inside n =
       let z : Inside n noPlace = le-leb (0 + 0) n (omega arith) in
-      nine n noInfo z z (record { net = z; device = z; netUnicode = z; deviceUnicode = z }) z z z
+      ten n noInfo z z (record { net = z; device = z; netUnicode = z; deviceUnicode = z }) z z z z
 
   string-lies : (flags k j : ℕ) → Lies f (stringSection flags k) (row j) (λ c. c .read ∷ [])
   string-lies flags k j = section-lies f (string (k + 1) (stringsUnicode flags)) j (λ b. b ∷ []) (stringThere k flags) noPlace none-inside (string-inside f (k + 1) (stringsUnicode flags))
@@ -365,7 +378,7 @@ module _ (profile : Profile) (f : List ℕ) where
   tailBodies c =
       let (items, (info, (name, (relative, (workdir, (arguments, (icon, blocks))))))) = c in
       (items .read ∷ [])
-      ++ (infoPlaces (info .read)
+      ++ (infoBodies (info .read)
       ++ ((name .read ∷ [])
       ++ ((relative .read ∷ [])
       ++ ((workdir .read ∷ [])
@@ -375,14 +388,14 @@ module _ (profile : Profile) (f : List ℕ) where
   tail-lies : (flags : ℕ) → Lies f (tail profile flags) tailRows tailBodies
   tail-lies flags =
       then-lies f (section-lies f items 1 (λ b. b ∷ []) (itemsThere flags) noPlace none-inside (items-inside f))
-      (then-lies f (section-lies f (info profile) 2 infoPlaces (infoThere flags) noInfo no-info-inside (info-inside profile f))
+      (then-lies f (section-lies f (info profile) 2 infoBodies (infoThere flags) noInfo no-info-inside (info-inside profile f))
       (then-lies f (string-lies flags nameBit 3)
       (then-lies f (string-lies flags relativeBit 4)
       (then-lies f (string-lies flags workdirBit 5)
       (then-lies f (string-lies flags argumentsBit 6)
       (then-lies f (string-lies flags iconBit 7) blocks-lies))))))
 
-  sections-lie : Lies f (sections profile) rowsOf (λ c. recordOf c .places)
+  sections-lie : Lies f (sections profile) rowsOf (λ c. tailBodies (c .1))
   unfolding sections
   sections-lie = chain-lies f (λ h. tail profile (h .read .flags)) (found-lies f (header profile) 0 (λ h. []) (λ p a n e. refl)) (λ h. tail-lies (h .read .flags))
 
@@ -394,4 +407,6 @@ module _ (profile : Profile) (f : List ℕ) where
 
   -- the bodies lie inside
   pub read-inside : (c : Sections) (n : ℕ) → sections profile 0 f ≡ got c n → n ≤ length f → allInside (length f) (recordOf c .places) ≡ true
-  read-inside c n e h = inside-more (0 + n) (length f) (recordOf c .places) (omega arith) (sections-lie .inside 0 c n e)
+  read-inside c n e h =
+      inside-last (length f) (c .1 .0 .read) (c .1 .1 .0 .read .further) (drop 2 (tailBodies (c .1)))
+      (inside-more (0 + n) (length f) (tailBodies (c .1)) (omega arith) (sections-lie .inside 0 c n e))

@@ -20,7 +20,7 @@ use Rattle.format.specs.Info.{infoHead, longHead, headOk, infoFlags, has
 use Rattle.format.specs.Presence.{localThere, networkThere, localUnicodeThere, deviceThere, deviceUnicodeThere}
 use Rattle.format.specs.Shortcut.{most}
 use Rattle.format.specs.Contents.{NetworkContents, InfoContents, Contents}
-use Rattle.format.specs.Writing.{every, canonical, writable, writableIf, writableHeader, writableText, writableLink, writableBodies}
+use Rattle.format.specs.Writing.{every, canonical, writable, writableIf, writableHeader, writableText, writableFurther, writableLink, writableBodies}
 use Rattle.format.specs.Steps.LinkInfo.{writableVolume, writableNetwork, writableInfo}
 use Rattle.format.proofs.Bools.{every-out, every-in}
 use Rattle.format.proofs.Chains.{Pass, pass-split, pass-join, pass-inside, inside-pass}
@@ -215,16 +215,17 @@ pub record InfoWritable (i : InfoContents) : Type 0 where
   pub suffix : writableText false (i .suffix) ≡ true
   pub localUnicode : writableIf (localUnicodeThere (i .long) (i .flags)) (writableText true) (i .localUnicode) ≡ true
   pub suffixUnicode : writableIf (i .long) (writableText true) (i .suffixUnicode) ≡ true
+  pub further : writableFurther (i .long) (i .further) ≡ true
 
 pub info-writable : (i : InfoContents) → writableInfo i ≡ true → InfoWritable i
 info-writable i e =
-    let (a, (b, (c, (d, (f, (g, (h, z))))))) = every-out (_ ∷ _ ∷ _ ∷ _ ∷ _ ∷ _ ∷ _ ∷ []) e in
-    record { flags = a; volume = b; local = c; network = d; suffix = f; localUnicode = g; suffixUnicode = h }
+    let (a, (b, (c, (d, (f, (g, (h, (k, z)))))))) = every-out (_ ∷ _ ∷ _ ∷ _ ∷ _ ∷ _ ∷ _ ∷ _ ∷ []) e in
+    record { flags = a; volume = b; local = c; network = d; suffix = f; localUnicode = g; suffixUnicode = h; further = k }
 
 pub writable-info : (i : InfoContents) → InfoWritable i → writableInfo i ≡ true
 writable-info i w =
-    every-in (_ ∷ _ ∷ _ ∷ _ ∷ _ ∷ _ ∷ _ ∷ [])
-    (w .flags, (w .volume, (w .local, (w .network, (w .suffix, (w .localUnicode, (w .suffixUnicode, tt)))))))
+    every-in (_ ∷ _ ∷ _ ∷ _ ∷ _ ∷ _ ∷ _ ∷ _ ∷ [])
+    (w .flags, (w .volume, (w .local, (w .network, (w .suffix, (w .localUnicode, (w .suffixUnicode, (w .further, tt))))))))
 
 pub record Writable (profile : Profile) (c : Contents) : Type 0 where
   pub header : writableHeader profile (c .header) ≡ true

@@ -2,13 +2,14 @@
 use mathlib.Core.Path.{_≡_, refl, sym, _∙_}
 use mathlib.Core.List.{List, [], _∷_, _++_, map}
 use mathlib.Core.Bool.{Bool, true, false, not, _&&_, _||_, cond}
-use Prim.Native.Nat.{ℕ, _+_, _≤_}
+use Prim.Native.Nat.{ℕ, _+_, _-_, _≤_}
 use native.Mathlib.Omega.{arith}
-use lib.ListN.{length, take, drop, length-append}
+use lib.ListN.{length, take, drop, length-append, length-take}
+use lib.Seq.{take-at}
 use lib.Dec.{leb, eqb}
-use borrow.Author.Tests.{leb-true, le-leb, lt-leb, eqb-true}
+use borrow.Author.Tests.{leb-true, le-leb, lt-leb, eqb-true, eq-eqb}
 use Rattle.octets.specs.Numbers.{Bytes, number, numberAt, u32At, little}
-use Rattle.octets.proofs.NumberLaws.{bytes-append, bytes-nil, bytes-little, length-little, number-back, number-little, number-same}
+use Rattle.octets.proofs.NumberLaws.{bytes-append, bytes-take, bytes-drop, bytes-nil, bytes-little, length-little, number-back, number-little, number-same}
 use Rattle.format.specs.declared.Profile.{Profile}
 use Rattle.format.specs.declared.Profile.the-variants.{Strict, NinetyFive}
 use Rattle.format.specs.declared.Fault.the-variants.{Info as INFO}
@@ -19,10 +20,11 @@ use Rattle.format.specs.Network.{networkPiece, networkTests}
 use Rattle.format.specs.Info.{infoSize, infoHead, longHead, infoFlags, hasLocal, hasNetwork, infoPieces, leftoverOk, infoHeadTests, infoRules, hasLocalUnicode}
 use Rattle.format.specs.Presence.{localThere, networkThere, localUnicodeThere}
 use Rattle.format.specs.Shortcut.{most}
+use Rattle.format.specs.Bodies.{writtenHead}
 use Rattle.format.specs.Contents.{VolumeContents, NetworkContents, InfoContents}
-use Rattle.format.specs.Writing.{textBytes, twoFields, volumeBytes, networkBytes, infoVolumeBytes, localBytes, infoNetworkBytes, suffixBytes, localUnicodeBytes, suffixUnicodeBytes, volumeStart, localStart, networkStart, suffixStart, localUnicodeStart, suffixUnicodeStart, infoLength, infoBytes, writableText}
+use Rattle.format.specs.Writing.{textBytes, twoFields, volumeBytes, networkBytes, infoVolumeBytes, localBytes, infoNetworkBytes, suffixBytes, localUnicodeBytes, suffixUnicodeBytes, volumeStart, localStart, networkStart, suffixStart, localUnicodeStart, suffixUnicodeStart, infoLength, infoBytes, writableText, writableFurther}
 use Rattle.format.specs.Steps.LinkInfo.{writableVolume, writableNetwork, writableInfo}
-use Rattle.format.proofs.Bools.{and-true, or-true, choose-twice}
+use Rattle.format.proofs.Bools.{and-true, or-true, or-left, or-right, choose-twice}
 use Rattle.format.proofs.Intervals.{total, pack, Ordered, end, ordered-apart}
 use Rattle.format.proofs.Chains.{Pass, pass-split, pass-join, Ok, Fits, Law, IfThere, ok-there, there-ok}
 use Rattle.format.proofs.Holds.{infoPieceTests, info-head-holds, info-head-passes, info-pieces-hold, info-pieces-pass, InfoWritable, info-writable, writable-info}
@@ -52,6 +54,10 @@ volumeHere s = volumeValue (take (u32At s 0) s)
 abbrev networkHere : List ℕ → NetworkContents
 networkHere s = networkValue (take (u32At s 0) s)
 
+-- the bytes of a head of h bytes from 0x24 on
+abbrev pub furtherIn : ℕ → List ℕ → List ℕ
+furtherIn h l = cond (leb 0x24 h) (take (h - 0x24) (drop 0x24 l)) []
+
 -- what LinkInfo's own bytes say
 abbrev pub infoValue : List ℕ → InfoContents
 infoValue l = record {
@@ -63,6 +69,7 @@ infoValue l = record {
   suffix = text false true l (u32At l 24);
   localUnicode = text true (hasLocalUnicode l) l (u32At l 28);
   suffixUnicode = text true (longHead l) l (u32At l 32);
+  further = furtherIn (infoHead l) l;
 }
 
 pub record InfoT (i : InfoContents) : Type 0 where
@@ -72,6 +79,7 @@ pub record InfoT (i : InfoContents) : Type 0 where
   pub suffix : Bytes (i .suffix)
   pub localUnicode : IfThere (localUnicodeThere (i .long) (i .flags)) [] Bytes (i .localUnicode)
   pub suffixUnicode : IfThere (i .long) [] Bytes (i .suffixUnicode)
+  pub further : Bytes (i .further)
 
 abbrev pub InfoV : InfoContents → Type 0
 InfoV = Ok InfoT writableInfo
@@ -86,12 +94,35 @@ length-info i = simp (length-append, length-little, length-two) (omega (arith, h
 
 -- ---- from bytes
 
--- the canonical head is no longer than the one that was read, which is inside
-head-fits : (h n : ℕ) → 0x1C ≤ n → (eqb h 0x1C || (leb 0x24 h && leb h n)) ≡ true → (cond (leb 0x24 h) 0x24 0x1C ≤ h) × (h ≤ n)
-head-fits h n k e =
+-- a long head lies inside
+pub head-inside : (h n : ℕ) → (eqb h 0x1C || (leb 0x24 h && leb h n)) ≡ true → leb 0x24 h ≡ true → h ≤ n
+head-inside h n e f =
     or-true (eqb h 0x1C) (leb 0x24 h && leb h n) e
+    (λ t. absurd (omega (arith, eqb-true h 0x1C t, leb-true 0x24 h f)))
+    (λ t. leb-true h n ((and-true (leb 0x24 h) (leb h n) t) .1))
+
+-- the canonical head is no longer than the one that was read, which is inside
+head-fits : (h : ℕ) (l : List ℕ) → 0x1C ≤ length l → (eqb h 0x1C || (leb 0x24 h && leb h (length l))) ≡ true
+    → (writtenHead (leb 0x24 h) + length (furtherIn h l) ≤ h) × (h ≤ length l)
+head-fits h l k e =
+    or-true (eqb h 0x1C) (leb 0x24 h && leb h (length l)) e
     (λ t. let q : h ≡ 0x1C = eqb-true _ _ t in rw (lt-leb 0x24 h (omega arith)) (omega arith))
-    (λ t. let q = and-true (leb 0x24 h) (leb h n) t in rw (q .0) (leb-true _ _ (q .0), leb-true _ _ (q .1)))
+    (λ t.
+    let q = and-true (leb 0x24 h) (leb h (length l)) t in
+    let f : 0x24 ≤ h = leb-true _ _ (q .0) in
+    rw (q .0) (omega (arith, length-take (h - 0x24) (drop 0x24 l)), leb-true _ _ (q .1)))
+
+further-bytes : (h : ℕ) (l : List ℕ) → Bytes l → Bytes (furtherIn h l)
+further-bytes h l bs = go (leb 0x24 h)
+  where
+    go : (u : Bool) → Bytes (cond u (take (h - 0x24) (drop 0x24 l)) [])
+    go true = bytes-take (h - 0x24) (drop 0x24 l) (bytes-drop 0x24 l bs)
+    go false = bytes-nil
+
+-- with a short head there are none
+further-can : (u : Bool) (x : List ℕ) → writableFurther u (cond u x []) ≡ true
+further-can true x = refl
+further-can false x = refl
 
 abbrev TextFits : ℕ → Bool → Bool → List ℕ → ℕ → Type 0
 TextFits i u b l o = SlotFits i (λ o. textTests i u) (textSize u) (textValue u) b [] (textBytes u) (TextV u) (infoHead l) l o
@@ -102,7 +133,7 @@ info-fits profile l bs k c =
     let (c₁, c₂) = pass-split (infoHeadTests profile l) (infoPieceTests l) c in
     let x = info-head-holds profile l c₁ in
     let d = info-pieces-hold l c₂ in
-    let q = head-fits h (length l) k (x .head) in
+    let q = head-fits h l k (x .head) in
     let s₁ : SlotFits 12 (volumeTests 12) structSize volumeHere (hasLocal l) noVolumeC volumeBytes VolumeV h l (u32At l 12)
     = slot-fits 12 _ _ _ (volume-law 12) (hasLocal l) noVolumeC h l (u32At l 12) bs (d .volume) in
     let s₂ : TextFits 16 false (hasLocal l) l (u32At l 16) = slot-fits 16 _ _ _ (λ o. text-law 16 false) (hasLocal l) [] h l (u32At l 16) bs (d .local) in
@@ -129,6 +160,7 @@ info-fits profile l bs k c =
           suffix = s₄ .valid .typed;
           localUnicode = v₅ .0;
           suffixUnicode = v₆ .0;
+          further = further-bytes h l bs;
         };
         can = writable-info (infoValue l) (record {
           flags = x .flags;
@@ -138,6 +170,7 @@ info-fits profile l bs k c =
           suffix = s₄ .valid .can;
           localUnicode = v₅ .1;
           suffixUnicode = v₆ .1;
+          further = further-can (longHead l) (take (h - 0x24) (drop 0x24 l));
         });
       };
       short = rw (length-info (infoValue l)) (omega (arith, p, q .0, s₁ .short, s₂ .short, s₃ .short, s₄ .short, s₅ .short, s₆ .short));
@@ -145,16 +178,31 @@ info-fits profile l bs k c =
 
 -- ---- to bytes
 
-long-is : (u : Bool) → leb 0x24 (cond u 0x24 0x1C) ≡ u
-long-is true = refl
-long-is false = refl
+-- a head of these further bytes
+module _ (x : List ℕ) where
+  long-is : (u : Bool) → writableFurther u x ≡ true → leb 0x24 (writtenHead u + length x) ≡ u
+  long-is true e = le-leb 0x24 (0x24 + length x) (omega arith)
+  long-is false e = lt-leb 0x24 (0x1C + length x) (omega (arith, eqb-true (length x) 0 e))
 
-head-good : (u : Bool) (n : ℕ) → cond u 0x24 0x1C ≤ n → (eqb (cond u 0x24 0x1C) 0x1C || (u && leb (cond u 0x24 0x1C) n)) ≡ true
-head-good true n h = le-leb 0x24 n h
-head-good false n h = refl
+  head-good : (u : Bool) (n : ℕ) → writableFurther u x ≡ true → writtenHead u + length x ≤ n
+      → (eqb (writtenHead u + length x) 0x1C || (u && leb (writtenHead u + length x) n)) ≡ true
+  head-good true n e h = or-right (eqb (0x24 + length x) 0x1C) (leb (0x24 + length x) n) (le-leb (0x24 + length x) n h)
+  head-good false n e h = or-left (eqb (0x1C + length x) 0x1C) false (eq-eqb (0x1C + length x) 0x1C (omega (arith, eqb-true (length x) 0 e)))
+
+  -- they are read back, whatever follows
+  further-back : (u : Bool) (l r : List ℕ) → writableFurther u x ≡ true → drop (writtenHead u) l ≡ x ++ r
+      → cond u (take (writtenHead u + length x - 0x24) (drop 0x24 l)) [] ≡ x
+  further-back true l r e d =
+      let n : 0x24 + length x - 0x24 ≡ length x = omega arith in
+      rw (n, d) (take-at x r (length x) refl)
+  further-back false l r e d = none x (eqb-true (length x) 0 e)
+    where
+      none : (y : List ℕ) → length y ≡ 0 → [] ≡ y
+      none [] e = refl
+      none (a ∷ y) e = absurd (omega arith)
 
 drop-head : (u : Bool) (a b c d e f g x y : ℕ) (r : List ℕ)
-    → drop (cond u 0x24 0x1C)
+    → drop (writtenHead u)
     (little 4 a ++ (little 4 b ++ (little 4 c ++ (little 4 d ++ (little 4 e ++ (little 4 f ++ (little 4 g ++ (twoFields u x y ++ r)))))))) ≡ r
 unfolding little
 drop-head true a b c d e f g x y r = refl
@@ -206,7 +254,8 @@ module _ (profile : Profile) (i : InfoContents) (v : InfoV i) (m : length (infoB
 
   pieces : List ℕ
   pieces =
-      infoVolumeBytes i ++ (localBytes i ++ (infoNetworkBytes i ++ (suffixBytes i ++ (localUnicodeBytes i ++ (suffixUnicodeBytes i ++ [])))))
+      i .further
+      ++ (infoVolumeBytes i ++ (localBytes i ++ (infoNetworkBytes i ++ (suffixBytes i ++ (localUnicodeBytes i ++ (suffixUnicodeBytes i ++ []))))))
 
   at28 : cond (i .long) (u32At (infoBytes i) 28) 0 ≡ cond (i .long) (cond (localThere (i .flags)) (localUnicodeStart i) 0) 0
   unfolding infoBytes little numberAt number pieces
@@ -219,12 +268,16 @@ module _ (profile : Profile) (i : InfoContents) (v : InfoV i) (m : length (infoB
   at32 = second-field (i .long) (cond (localThere (i .flags)) (localUnicodeStart i) 0) (suffixUnicodeStart i) pieces (omega (arith, limit))
 
   is-long : longHead (infoBytes i) ≡ i .long
-  is-long = rw at4 (long-is (i .long))
+  is-long = rw at4 (long-is (i .further) (i .long) (can .further))
+
+  d₀ : drop (writtenHead (i .long)) (infoBytes i) ≡ pieces
+  unfolding infoBytes pieces
+  d₀ = drop-head (i .long) (infoLength i) (volumeStart i) (i .flags) _ _ _ (suffixStart i) _ _ _
 
   d₁ : drop (volumeStart i) (infoBytes i)
       ≡ infoVolumeBytes i ++ (localBytes i ++ (infoNetworkBytes i ++ (suffixBytes i ++ (localUnicodeBytes i ++ (suffixUnicodeBytes i ++ [])))))
-  unfolding infoBytes
-  d₁ = drop-head (i .long) (infoLength i) (volumeStart i) (i .flags) _ _ _ (suffixStart i) _ _ _
+  unfolding pieces
+  d₁ = next (infoBytes i) (i .further) _ (writtenHead (i .long)) d₀
 
   d₂ : drop (localStart i) (infoBytes i) ≡ localBytes i ++ (infoNetworkBytes i ++ (suffixBytes i ++ (localUnicodeBytes i ++ (suffixUnicodeBytes i ++ []))))
   d₂ = next (infoBytes i) (infoVolumeBytes i) _ (volumeStart i) d₁
@@ -281,6 +334,10 @@ module _ (profile : Profile) (i : InfoContents) (v : InfoV i) (m : length (infoB
       (ok-there Bytes (writableText true) (i .long) [] (i .suffixUnicode) (v .typed .suffixUnicode) (can .suffixUnicode))
       (omega (arith, limit)) (omega arith) at32 d₆
 
+  b₇ : cond (i .long) (take (volumeStart i - 0x24) (drop 0x24 (infoBytes i))) [] ≡ i .further
+  unfolding pieces
+  b₇ = further-back (i .further) (i .long) (infoBytes i) _ (can .further) d₀
+
   in-order : Ordered (volumeStart i)
       (span (volumePiece (localThere (i .flags)) (infoBytes i) 12 (cond (localThere (i .flags)) (volumeStart i) 0))
       ∷ span (textPiece (localThere (i .flags)) false (infoBytes i) 16 (cond (localThere (i .flags)) (localStart i) 0))
@@ -302,7 +359,7 @@ module _ (profile : Profile) (i : InfoContents) (v : InfoV i) (m : length (infoB
       let b : List ℕ = infoBytes i in
       pass-join (infoHeadTests profile b) (infoPieceTests b)
       (info-head-passes profile b (record {
-        head = rw (is-long, at4) (head-good (i .long) (length b) (omega (arith, length-info i)));
+        head = rw (is-long, at4) (head-good (i .further) (i .long) (length b) (can .further) (omega (arith, length-info i)));
         flags = rw at8 (can .flags);
         volumeOffset = rw (at8, at12) (zero-leftover profile _ _ (zero-absent (localThere (i .flags)) (volumeStart i)));
         localOffset = rw (at8, at16) (zero-leftover profile _ _ (zero-absent (localThere (i .flags)) (localStart i)));
@@ -325,7 +382,7 @@ module _ (profile : Profile) (i : InfoContents) (v : InfoV i) (m : length (infoB
     sized = λ r. at0 r ∙ sym (length-info i);
     sizable = (le-leb 0x1C (length (infoBytes i)) (omega (arith, length-info i, head-is (i .long))), tt);
     judged = info-judged;
-    same = rw (is-long, at8, at12, at16, at20, at24, b₁ .same, b₂ .same, b₃ .same, b₄ .same, b₅ .same, b₆ .same);
+    same = rw (is-long, at4, at8, at12, at16, at20, at24, b₁ .same, b₂ .same, b₃ .same, b₄ .same, b₅ .same, b₆ .same, b₇);
   }
 
 info-bytes : (i : InfoContents) → InfoV i → Bytes (infoBytes i)
@@ -342,6 +399,7 @@ info-bytes i v =
     (ok-there Bytes (writableText true) (localUnicodeThere (i .long) (i .flags)) [] (i .localUnicode) (t .localUnicode) (can .localUnicode)) in
     let s₆ = slot-bytes 0 _ _ _ (λ o. text-law 0 true) (i .long) [] (i .suffixUnicode)
     (ok-there Bytes (writableText true) (i .long) [] (i .suffixUnicode) (t .suffixUnicode) (can .suffixUnicode)) in
+    let s₇ = t .further in
     search (bytes-append, bytes-little, bytes-nil, bytes-two) depth 20
 
 info-sized : (profile : Profile) → Sized 2 4 infoSize (λ n. leb 0x1C n else INFO at 0 ∷ []) (infoRules profile) infoValue infoBytes InfoV

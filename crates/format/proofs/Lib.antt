@@ -53,9 +53,9 @@ pub mod CodepageLaws
 pub mod MoveLaws
 pub mod MoveRows
 pub mod MoveDemands
-pub mod NamedLaws
 pub mod ProfileLaws
 pub mod ProbeLaws
 pub mod ProfileRows
+pub mod HeadRows
 pub mod AnswerLaws
 pub mod OneOutcome

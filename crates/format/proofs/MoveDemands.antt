@@ -32,7 +32,7 @@ use Rattle.format.proofs.WholeLaws.{Valid, shortest, read-back, canonic
 use Rattle.format.proofs.AcceptedLaws.{accepted-read, accepted-present, accepted-decode, decode-accepted}
 use Rattle.format.proofs.KeyRoom.{wholeText, keyFrom, environmentOf, made}
 use Rattle.format.proofs.KeySame.{same-environment}
-use Rattle.format.proofs.MoveLaws.{SameBits, set-bits, set-unicode, clear-bits, clear-unicode, bit-clear, bit-set, maps-unicode, unicode-valid, maps-bytes, bytes-valid, valid-writable, there-and-back, maps-home}
+use Rattle.format.proofs.MoveLaws.{SameBits, set-bits, set-unicode, clear-bits, clear-unicode, bit-clear, bit-set, maps-unicode, unicode-valid, maps-bytes, bytes-valid, can-further, valid-writable, there-and-back, maps-home}
 
 -- ---- target text and key by the contents
 
@@ -96,7 +96,7 @@ ends profile maps m room = go maps refl (writable profile m) refl (leb (length (
 
 -- the two moves have this in common
 pub record Move (profile : Profile) (move : Contents → Contents) (maps : Contents → Bool) (set : Bool) (translate : List ℕ → List ℕ) : Type 0 where
-  pub valid : (c : Contents) → Valid profile c → maps c ≡ true → Valid profile (move c)
+  pub valid : (c : Contents) → Valid profile c → maps c ≡ true → writable profile (move c) ≡ true → Valid profile (move c)
   pub bits : (c : Contents) → maps c ≡ true → SameBits (flagsOf (move c)) (flagsOf c)
   pub unicode : (c : Contents) → maps c ≡ true → stringsUnicode (flagsOf (move c)) ≡ set
   pub stays : (c : Contents) → Stays c (move c)
@@ -106,10 +106,10 @@ pub record Move (profile : Profile) (move : Contents → Contents) (maps : Conte
 pub unicode-move : (profile : Profile) → Move profile inUnicode mapsToUnicode true toUnits
 unfolding inUnicode
 unicode-move profile = record {
-  valid = unicode-valid profile;
+  valid = λ c v e w. unicode-valid profile c v e;
   bits = λ c e. set-bits (flagsOf c) (bit-clear (flagsOf c) (maps-unicode c e .clear));
   unicode = λ c e. set-unicode (flagsOf c) (bit-clear (flagsOf c) (maps-unicode c e .clear));
-  stays = λ c. record { header = refl; link = refl; bodies = refl; blocks = refl };
+  stays = λ c. record { header = refl; link = refl; bodies = refl; blocks = refl; further = refl };
   arguments = λ c. refl;
   workdir = λ c. refl;
 }
@@ -117,10 +117,10 @@ unicode-move profile = record {
 pub bytes-move : (profile : Profile) → Move profile inBytes mapsToBytes false toBytes
 unfolding inBytes
 bytes-move profile = record {
-  valid = bytes-valid profile;
+  valid = λ c v e w. bytes-valid profile c v e (can-further profile c v e w);
   bits = λ c e. clear-bits (flagsOf c) (bit-set (flagsOf c) (maps-bytes c e .set));
   unicode = λ c e. clear-unicode (flagsOf c) (bit-set (flagsOf c) (maps-bytes c e .set));
-  stays = λ c. record { header = refl; link = refl; bodies = refl; blocks = refl };
+  stays = λ c. record { header = refl; link = refl; bodies = refl; blocks = refl; further = refl };
   arguments = λ c. refl;
   workdir = λ c. refl;
 }
@@ -139,7 +139,7 @@ module _ (profile : Profile) {move : Contents → Contents} {maps : Contents →
   unfolding Accepts
   has-moved out e w =
       let m = move c in
-      let v = M .valid c accepted-valid e in
+      let v = M .valid c accepted-valid e w in
       let few : leb (length (canonical m)) most ≡ true = sym (valid-writable profile m v) ∙ w in
       let f = decode-accepted profile (canonical m) m (length (canonical m)) (read-back profile m v (leb-true (length (canonical m)) most few)) in
       let stays : Stays c (contents (canonical m) (f .held)) = rw (f .same) (M .stays c) in

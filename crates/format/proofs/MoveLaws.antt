@@ -17,15 +17,15 @@ use Rattle.format.specs.Tests.{bit}
 use Rattle.format.specs.Presence.{itemsThere, infoThere, nameBit, relativeBit, workdirBit, argumentsBit, iconBit, stringThere, stringsUnicode, localThere, localUnicodeThere}
 use Rattle.format.specs.Header.{flagsOk}
 use Rattle.format.specs.Shortcut.{most}
-use Rattle.format.specs.Bodies.{localSlot, suffixSlot, localUnicodeSlot, suffixUnicodeSlot, stringSlot, blocksSlot}
+use Rattle.format.specs.Bodies.{localSlot, suffixSlot, localUnicodeSlot, suffixUnicodeSlot, stringSlot, blocksSlot, furtherSlot}
 use Rattle.format.specs.Contents.{InfoContents, Contents, bodyIn, infoIn}
-use Rattle.format.specs.Writing.{every, canonical, writable, writableIf, writableText, writableString}
+use Rattle.format.specs.Writing.{every, canonical, writable, writableIf, writableText, writableString, writableFurther, writableBodies}
 use Rattle.format.specs.Codepage.{unitOf, toUnits, allAssigned, toBytes, allInTable, isTranslation}
 use Rattle.format.specs.Moving.{bodiesFrom, strings, flagsOf, gains, mapsToUnicode, mapsToBytes, withFlags, withLong, inUnicode, inBytes}
 use Rattle.format.proofs.Ranges.{FitsHeader}
-use Rattle.format.proofs.Bools.{every-out, every-in, and-true, and-both, same-truth, clash, by-order}
+use Rattle.format.proofs.Bools.{every-out, every-in, every-at, and-true, and-both, same-truth, clash, by-order}
 use Rattle.format.proofs.RowLaws.{slots-are}
-use Rattle.format.proofs.Chains.{IfThere, ok-there, there-ok}
+use Rattle.format.proofs.Chains.{no-true, IfThere, ok-there, there-ok}
 use Rattle.format.proofs.Holds.{all-writable, header-writable, writable-header, info-writable, writable-info}
 use Rattle.format.proofs.HeaderLaws.{HeaderV}
 use Rattle.format.proofs.PieceLaws.{TextV, plain}
@@ -180,17 +180,18 @@ withTexts long x y i = record {
   suffix = i .suffix;
   localUnicode = x;
   suffixUnicode = y;
+  further = i .further;
 }
 
-info-with : (i : InfoContents) (long : Bool) (x y : List ℕ) → InfoV i → IfThere (localUnicodeThere long (i .flags)) [] (TextV true) x → IfThere long [] (TextV true) y
+info-with : (i : InfoContents) (long : Bool) (x y : List ℕ) → InfoV i → writableFurther long (i .further) ≡ true → IfThere (localUnicodeThere long (i .flags)) [] (TextV true) x → IfThere long [] (TextV true) y
     → InfoV (withTexts long x y i)
-info-with i long x y v a b =
+info-with i long x y v f a b =
     let t = v .typed in
     let w = info-writable i (v .can) in
     let p = there-ok Bytes (writableText true) (localUnicodeThere long (i .flags)) [] x a in
     let q = there-ok Bytes (writableText true) long [] y b in
     record {
-      typed = record { volume = t .volume; local = t .local; network = t .network; suffix = t .suffix; localUnicode = p .0; suffixUnicode = q .0 };
+      typed = record { volume = t .volume; local = t .local; network = t .network; suffix = t .suffix; localUnicode = p .0; suffixUnicode = q .0; further = t .further };
       can =
           writable-info (withTexts long x y i) (record {
             flags = w .flags;
@@ -200,6 +201,7 @@ info-with i long x y v a b =
             suffix = w .suffix;
             localUnicode = p .1;
             suffixUnicode = q .1;
+            further = f;
           });
     }
 
@@ -209,7 +211,7 @@ unfolding toUnits
 info-gained i e f v =
     let w = info-writable i (v .can) in
     let a : IfThere (localThere (i .flags)) [] (TextV true) (toUnits (i .local)) = local (localThere (i .flags)) (ok-there Bytes (writableText false) (localThere (i .flags)) [] (i .local) (v .typed .local) (w .local)) in
-    info-with i true (toUnits (i .local)) (toUnits (i .suffix)) v a (text-units (i .suffix) f (record { typed = v .typed .suffix; can = w .suffix }))
+    info-with i true (toUnits (i .local)) (toUnits (i .suffix)) v refl a (text-units (i .suffix) f (record { typed = v .typed .suffix; can = w .suffix }))
   where
     local : (b : Bool) → IfThere b [] (TextV false) (i .local) → IfThere b [] (TextV true) (toUnits (i .local))
     local true t = text-units (i .local) e t
@@ -229,9 +231,9 @@ info-units true x e v = go (x .long) refl e
         info-gained x p q v
 info-units false x e v = v
 
-info-bytes : (i : Bool) (x : InfoContents) → IfThere i noInfoC InfoV x → IfThere i noInfoC InfoV (withTexts false [] [] x)
-info-bytes true x v = info-with x false [] [] v refl refl
-info-bytes false x v = ap (withTexts false [] []) v
+info-bytes : (i : Bool) (x : InfoContents) → writableFurther false (x .further) ≡ true → IfThere i noInfoC InfoV x → IfThere i noInfoC InfoV (withTexts false [] [] x)
+info-bytes true x f v = info-with x false [] [] v f refl refl
+info-bytes false x f v = ap (withTexts false [] []) v
 
 -- ---- the whole
 
@@ -307,9 +309,13 @@ maps-bytes c e =
     let (a, (b, (d, z))) = every-out (_ ∷ _ ∷ _ ∷ []) e in
     record { set = a; strings = of-strings allInTable c b; texts = d }
 
-pub bytes-valid : (profile : Profile) (c : Contents) → Valid profile c → mapsToBytes c ≡ true → Valid profile (inBytes c)
+-- a head without further bytes can be short
+abbrev pub noFurther : Contents → Bool
+noFurther c = writableFurther false (bodyIn c furtherSlot)
+
+pub bytes-valid : (profile : Profile) (c : Contents) → Valid profile c → mapsToBytes c ≡ true → noFurther c ≡ true → Valid profile (inBytes c)
 unfolding Valid inBytes
-bytes-valid profile c v e =
+bytes-valid profile c v e none =
     let t = maps-bytes c e in
     let f = flagsOf c in
     let z = bit-set f (t .set) in
@@ -324,7 +330,7 @@ bytes-valid profile c v e =
         (
           rw (s .items) items,
           (
-            rw (s .info) (info-bytes (infoThere f) (infoIn c) info),
+            rw (s .info) (info-bytes (infoThere f) (infoIn c) none info),
             (
               rw (s .name, u) (string-bytes (stringThere nameBit f) (bodyIn c (stringSlot nameBit)) (t .strings .name) (rw (t .set) at name)),
               (
@@ -350,6 +356,25 @@ bytes-valid profile c v e =
 pub valid-writable : (profile : Profile) (c : Contents) → Valid profile c → writable profile c ≡ leb (length (canonical c)) most
 valid-writable profile c v =
     same-truth (writable profile c) (leb (length (canonical c)) most) (λ e. (all-writable profile c e) .short) (λ e. valid-can profile c v (leb-true (length (canonical c)) most e))
+
+-- one with some cannot be written home
+pub can-further : (profile : Profile) (c : Contents) → Valid profile c → mapsToBytes c ≡ true → writable profile (inBytes c) ≡ true → noFurther c ≡ true
+unfolding Valid inBytes
+can-further profile c v e w =
+    let s = clear-bits (flagsOf c) (bit-set (flagsOf c) (maps-bytes c e .set)) in
+    go (infoThere (flagsOf c)) (rw (s .info) at (every-at (writableBodies (inBytes c)) (all-writable profile (inBytes c) w .bodies) furtherSlot)) (v .1 .1 .1 .0)
+  where
+    go : (i : Bool) → writableIf i (writableFurther false) (bodyIn c furtherSlot) ≡ true → IfThere i noInfoC InfoV (infoIn c) → noFurther c ≡ true
+    go true r x = r
+    go false r x = ap (λ (y : InfoContents). writableFurther false (y .further)) x
+
+pub bytes-writable : (profile : Profile) (c : Contents) → Valid profile c → mapsToBytes c ≡ true
+    → writable profile (inBytes c) ≡ (noFurther c && leb (length (canonical (inBytes c))) most)
+bytes-writable profile c v e = go (noFurther c) refl
+  where
+    go : (b : Bool) → noFurther c ≡ b → writable profile (inBytes c) ≡ (b && leb (length (canonical (inBytes c))) most)
+    go true f = valid-writable profile (inBytes c) (bytes-valid profile c v e f)
+    go false f = same-truth (writable profile (inBytes c)) false (λ w. clash (can-further profile c v e w) f) no-true
 
 -- ---- there and back
 
@@ -413,7 +438,7 @@ module _ (profile : Profile) (c : Contents) (v : Valid profile c) (e : mapsToUni
   made flags long local suffix name relative workdir arguments icon = record {
     header = withFlags flags (c .header);
     link = withLong long (c .link);
-    bodies = bodiesFrom 0 localUnicodeSlot c ++ (local ∷ suffix ∷ name ∷ relative ∷ workdir ∷ arguments ∷ icon ∷ bodiesFrom blocksSlot 1 c);
+    bodies = bodiesFrom 0 localUnicodeSlot c ++ (local ∷ suffix ∷ name ∷ relative ∷ workdir ∷ arguments ∷ icon ∷ bodiesFrom blocksSlot 2 c);
   }
 
   -- the same contents
@@ -435,7 +460,7 @@ module _ (profile : Profile) (c : Contents) (v : Valid profile c) (e : mapsToUni
         home (string argumentsBit) (bs .arguments) (t .strings .arguments),
         home (string iconBit) (bs .icon) (t .strings .icon),
       ) in
-      p ∙ ap (λ (x : List (List ℕ)). record { header = c .header; link = c .link; bodies = x }) (slots-are [] 16 0 (c .bodies) (v .0))
+      p ∙ ap (λ (x : List (List ℕ)). record { header = c .header; link = c .link; bodies = x }) (slots-are [] 17 0 (c .bodies) (v .0))
 
   -- and the way back is open
   pub maps-home : mapsToBytes (inUnicode c) ≡ true

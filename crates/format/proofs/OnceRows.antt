@@ -44,7 +44,7 @@ wrongList = blockOf 10 0xA000000C (little 2 1)
 
 -- a record whose blocks are all of the body buffer
 abbrev withBlocks : List ℕ → Record
-withBlocks x = record { header = noHeader; link = noLink; places = set (replicate 16 noPlace) blocksSlot (place 0 (length x)) }
+withBlocks x = record { header = noHeader; link = noLink; places = set (replicate 17 noPlace) blocksSlot (place 0 (length x)) }
 
 abbrev unwritable : List ℕ → Probe
 unwritable x = writes (withBlocks x) x (lent 200) 11 0 (lent 200)

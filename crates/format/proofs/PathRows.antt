@@ -45,7 +45,7 @@ pathRow body signature text unicode room number value after = record {
 }
 
 abbrev withBlocks : List ℕ → Record
-withBlocks x = record { header = noHeader; link = noLink; places = set (replicate 16 noPlace) blocksSlot (place 0 (length x)) }
+withBlocks x = record { header = noHeader; link = noLink; places = set (replicate 17 noPlace) blocksSlot (place 0 (length x)) }
 
 -- the body buffer lacks the last byte of the blocks
 abbrev misplaced : PathRow → Bool

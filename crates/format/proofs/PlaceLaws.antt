@@ -95,6 +95,13 @@ inside-append n (x ∷ xs) ys c d =
     let i = and-true (leb (x .at + x .len) n) (allInside n xs) c in
     and-both (leb (x .at + x .len) n) _ (i .0) (inside-append n xs ys (i .1) d)
 
+-- the second of them put last
+pub inside-last : (n : ℕ) (w x : Place) (xs : List Place) → allInside n (w ∷ x ∷ xs) ≡ true → allInside n (w ∷ xs ++ (x ∷ [])) ≡ true
+inside-last n w x xs c =
+    let i = and-true (leb (w .at + w .len) n) (allInside n (x ∷ xs)) c in
+    let j = and-true (leb (x .at + x .len) n) (allInside n xs) (i .1) in
+    and-both (leb (w .at + w .len) n) _ (i .0) (inside-append n xs (x ∷ []) (j .1) (and-both (leb (x .at + x .len) n) true (j .0) refl))
+
 pub inside-more : (m n : ℕ) (xs : List Place) → m ≤ n → allInside m xs ≡ true → allInside n xs ≡ true
 inside-more m n [] h c = refl
 inside-more m n (x ∷ xs) h c =

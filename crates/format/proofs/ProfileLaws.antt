@@ -38,7 +38,7 @@ use Rattle.format.proofs.WholeLaws.{Valid}
 use Rattle.format.proofs.AcceptedLaws.{accepted-read, shortcut-whole}
 use Rattle.format.proofs.PathLaws.{Path}
 use Rattle.format.proofs.PathDemands.{length-decides}
-use Rattle.format.proofs.MoveLaws.{unicode-valid, bytes-valid, valid-writable}
+use Rattle.format.proofs.MoveLaws.{unicode-valid, bytes-writable, valid-writable}
 use Rattle.format.proofs.MoveDemands.{accepted-valid, unicode-move, to-unicode-is, to-bytes-is}
 
 -- ---- the two rules
@@ -245,6 +245,6 @@ moves-within s r bs a =
           ∙ sym (to-unicode-is Strict s r a room);
       bytes = λ room.
           to-bytes-is NinetyFive s r b room
-          ∙ same-moving (mapsToBytes c) (inBytes c) room (λ e. same-writable (inBytes c) (bytes-valid NinetyFive c v e) (bytes-valid Strict c w e))
+          ∙ same-moving (mapsToBytes c) (inBytes c) room (λ e. bytes-writable NinetyFive c v e ∙ sym (bytes-writable Strict c w e))
           ∙ sym (to-bytes-is Strict s r a room);
     }

@@ -1,10 +1,10 @@
 -- The record that reading gives, beside the contents: each section's places hold its contents, and so do those of the whole.
 use mathlib.Core.Path.{_≡_, refl, sym, ap, _∙_}
-use mathlib.Core.List.{List, [], _∷_, map}
+use mathlib.Core.List.{List, [], _∷_, _++_, map}
 use mathlib.Core.Bool.{Bool, true, false, cond}
-use Prim.Native.Nat.{ℕ, _+_, _-_}
+use Prim.Native.Nat.{ℕ, _+_, _-_, _≤_}
 use native.Mathlib.Omega.{arith}
-use lib.ListN.{length, take, drop}
+use lib.ListN.{length, take, drop, replicate}
 use lib.Seq.{drop-drop, length-take-le}
 use lib.Dec.{leb, eqb}
 use Rattle.octets.specs.Numbers.{u16At, u32At}
@@ -23,17 +23,18 @@ use Rattle.format.specs.Header.{header}
 use Rattle.format.specs.Items.{itemsLength, itemsRules, items}
 use Rattle.format.specs.Volume.{labelUnicode, labelOffset, labelOf, labelPlace, labelKind, volumeAt}
 use Rattle.format.specs.Network.{hasDevice, networkUnicode, networkAt, hasDeviceUnicode}
-use Rattle.format.specs.Info.{infoSize, longHead, hasLocal, hasNetwork, infoRules, infoFields, info, noInfo, hasLocalUnicode, linkOf, infoPlaces}
+use Rattle.format.specs.Info.{infoSize, infoHead, longHead, headOk, hasLocal, hasNetwork, furtherPlace, infoHeadTests, infoRules, infoFields, info, noInfo, hasLocalUnicode, linkOf, infoPlaces}
 use Rattle.format.specs.Strings.{stringLength, string}
 use Rattle.format.specs.Blocks.{blocks}
 use Rattle.format.specs.Shortcut.{noHeader, Section, Tail, Sections, found, stringSection, tail, sections, shortcut, most, sum, recordOf}
 use Rattle.format.specs.Contents.{VolumeContents, NetworkContents, InfoContents, bytesAt, infoIn, bodiesOf}
-use Rattle.format.proofs.Chains.{drop-take}
+use Rattle.format.proofs.Chains.{pass-split, drop-take}
+use Rattle.format.proofs.Holds.{infoPieceTests, info-head-holds}
 use Rattle.format.proofs.Sized.{sizedTests, sized-holds}
 use Rattle.format.proofs.ItemsLaws.{itemsValue}
 use Rattle.format.proofs.VolumeLaws.{volumeValue}
 use Rattle.format.proofs.NetworkLaws.{networkValue}
-use Rattle.format.proofs.InfoLaws.{noVolumeC, noNetworkC, infoValue}
+use Rattle.format.proofs.InfoLaws.{noVolumeC, noNetworkC, furtherIn, infoValue, head-inside}
 use Rattle.format.proofs.BlockLaws.{blocksR}
 use Rattle.format.proofs.LinkLaws.{noInfoC}
 use Rattle.format.proofs.WholeLaws.{itemsR, infoR, stringR, TailC, tail-s, fileR, decode, toContents}
@@ -71,7 +72,7 @@ module _ (profile : Profile) (f : List ℕ) where
 
   -- what stands at the places that its reader answers
   abbrev infoAt : Info → InfoContents
-  infoAt i = infoIn (record { header = noHeader; link = linkOf i; bodies = [] ∷ map (bytesAt f) (infoPlaces i) })
+  infoAt i = infoIn (record { header = noHeader; link = linkOf i; bodies = [] ∷ map (bytesAt f) (infoPlaces i) ++ (replicate 6 [] ++ (bytesAt f (i .further) ∷ [])) })
 
   kind-of : (u : Bool) (b : Place) → labelKind (labelOf u b) ≡ u
   kind-of true b = refl
@@ -115,8 +116,15 @@ module _ (profile : Profile) (f : List ℕ) where
         )
     network-placed false = refl
 
-  info-value : (p : ℕ) (l : List ℕ) → PartOf f p l → infoAt (infoFields p l) ≡ infoValue l
-  info-value p l F =
+  further-placed : (p : ℕ) (l : List ℕ) → PartOf f p l → headOk l ≡ true → bytesAt f (furtherPlace p l) ≡ furtherIn (infoHead l) l
+  further-placed p l F e = go (longHead l) (head-inside (infoHead l) (length l) e)
+    where
+      go : (u : Bool) → (u ≡ true → infoHead l ≤ length l) → bytesAt f (cond u (place (p + 0x24) (infoHead l - 0x24)) noPlace) ≡ cond u (take (infoHead l - 0x24) (drop 0x24 l)) []
+      go true h = sym (F .same 0x24 (infoHead l - 0x24) (omega (arith, h refl)))
+      go false h = refl
+
+  info-value : (p : ℕ) (l : List ℕ) → PartOf f p l → headOk l ≡ true → infoAt (infoFields p l) ≡ infoValue l
+  info-value p l F e =
       rw (
         volume-placed p l F (u32At l 12) (hasLocal l),
         text-placed f p l (hasLocal l) false (u32At l 16) F,
@@ -124,6 +132,7 @@ module _ (profile : Profile) (f : List ℕ) where
         text-placed f p l true false (u32At l 24) F,
         text-placed f p l (hasLocalUnicode l) true (u32At l 28) F,
         text-placed f p l (longHead l) true (u32At l 32) F,
+        further-placed p l F e,
       )
 
   info-placed : Placed f (info profile) infoAt (infoR profile)
@@ -132,7 +141,10 @@ module _ (profile : Profile) (f : List ℕ) where
         let s : List ℕ = drop p f in
         let n : ℕ = infoSize s in
         tests-placed f infoAt (section 2 p) (sizedTests 2 4 infoSize (λ n. leb 0x1C n else INFO at 0 ∷ []) (infoRules profile) infoValue s) (infoFields p (take n s)) (infoValue (take n s)) n
-        (λ c. info-value p (take n s) (part-of f p n));
+        (λ c.
+        let l : List ℕ = take n s in
+        let g = sized-holds 2 4 infoSize (λ n. leb 0x1C n else INFO at 0 ∷ []) (infoRules profile) infoValue s c in
+        info-value p l (part-of f p n) (info-head-holds profile l (pass-split (infoHeadTests profile l) (infoPieceTests l) (g .judged) .0) .head));
   }
 
   -- ---- blocks: all of them as one body

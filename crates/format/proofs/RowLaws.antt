@@ -15,7 +15,7 @@ use Rattle.format.specs.declared.Record.{Record}
 use Rattle.format.specs.Presence.{infoThere, localThere, networkThere, localUnicodeThere, deviceThere, providerThere, deviceUnicodeThere}
 use Rattle.format.specs.Shortcut.{noLink}
 use Rattle.format.specs.Tests.{noPlace}
-use Rattle.format.specs.Bodies.{BodyKind, textKind, BodyRow, bodyRow, tableOf, along, kept}
+use Rattle.format.specs.Bodies.{BodyKind, textKind, furtherKind, BodyRow, bodyRow, tableOf, along, kept}
 use Rattle.format.specs.Writing.{every}
 use Rattle.format.specs.Contents.{presentLink, present, bytesAt, contents}
 use Rattle.format.specs.Steps.Shape.{rowsFrom}
@@ -120,6 +120,11 @@ module _ (l : Link) where
   label-kept true e = rw e
   label-kept false e = no-true e
 
+  -- the head's with LinkInfo
+  long-kept : (i : Bool) → i ≡ true → cond i (presentLink l) noLink .long ≡ l .long
+  long-kept true e = refl
+  long-kept false e = no-true e
+
 -- one row as good as another: there if that is, and then of its kind
 abbrev pub Alike : List BodyRow → List BodyRow → Type 0
 Alike [] [] = Unit {0}
@@ -141,7 +146,7 @@ present-alike r =
     let localUnicode = in-info l i (λ q. localUnicodeThere (q .long) (q .flags)) refl in
     let long = in-info l i (λ q. q .long) refl in
     let strings : Alike (drop 10 (tableOf (present r))) (drop 10 (tableOf r))
-    = ((refl, λ e. refl), ((refl, λ e. refl), ((refl, λ e. refl), ((refl, λ e. refl), ((refl, λ e. refl), ((refl, λ e. refl), tt)))))) in (
+    = ((refl, λ e. refl), ((refl, λ e. refl), ((refl, λ e. refl), ((refl, λ e. refl), ((refl, λ e. refl), ((refl, λ e. refl), ((refl, λ e. ap furtherKind (long-kept l i e)), tt))))))) in (
       (refl, λ e. refl),
       (
         (local, λ e. ap textKind (label-kept l i e)),

@@ -140,7 +140,7 @@ toContents c =
     record {
       header = header;
       link = linkIn info;
-      bodies = items ∷ infoBodies info ++ (name ∷ relative ∷ workdir ∷ arguments ∷ icon ∷ blocks ∷ []);
+      bodies = items ∷ infoBodies info ++ (name ∷ relative ∷ workdir ∷ arguments ∷ icon ∷ blocks ∷ info .further ∷ []);
     }
 
 abbrev stringIn : Contents → ℕ → List ℕ
@@ -155,8 +155,8 @@ fromContents c = (
   ),
 )
 
-whole-row : (c : Contents) → length (c .bodies) ≡ 16 → toContents (fromContents c) ≡ c
-whole-row c e = ap (λ (bs : List (List ℕ)). record { header = c .header; link = c .link; bodies = bs }) (slots-are [] 16 0 (c .bodies) e)
+whole-row : (c : Contents) → length (c .bodies) ≡ 17 → toContents (fromContents c) ≡ c
+whole-row c e = ap (λ (bs : List (List ℕ)). record { header = c .header; link = c .link; bodies = bs }) (slots-are [] 17 0 (c .bodies) e)
 
 -- ---- reading for contents
 
@@ -170,7 +170,7 @@ decode profile s =
     (andThen (fileR profile 0 s) (λ c n. tests (section 9 (n - 4)) (eqb n (length s) else TRAIL at 4 ∷ []) (got (toContents c) n)))
 
 unfoldable pub Valid : Profile → Contents → Type 0
-Valid profile c = (length (c .bodies) ≡ 16) × file-s profile .Valid (fromContents c)
+Valid profile c = (length (c .bodies) ≡ 17) × file-s profile .Valid (fromContents c)
 
 -- end to end is one section after another
 canonical-is : (profile : Profile) (c : Contents) → canonical c ≡ file-s profile .writer (fromContents c)
@@ -248,7 +248,7 @@ pub record Typed (c : Contents) : Type 0 where
   pub header : FitsHeader (c .header)
   pub fits : FitsLink (c .link)
   pub zeros : cond (infoThere (c .header .flags)) (presentLink (c .link)) noLink ≡ c .link
-  pub row : length (c .bodies) ≡ 16
+  pub row : length (c .bodies) ≡ 17
   pub bodies : Each [] (λ b. IfThere (b .there) [] Bytes) 0 (rows c) (c .bodies)
 
 abbrev RowV : BodyRow → List ℕ → Type 0
@@ -265,7 +265,7 @@ can-valid profile c t e =
     let (flags, (drive, (networkFlags, z))) = every-out (_ ∷ _ ∷ _ ∷ []) (can .link) in
     let (items, (label, (local, (net, (device, (netUnicode, (deviceUnicode, (suffix, (localUnicode, (suffixUnicode, strings))))))))))
     = each-with [] row-valid 0 (rows c) (c .bodies) (t .bodies) (each-test [] writableRow 0 (rows c) (c .bodies) (can .bodies)) in
-    let (name, (relative, (workdir, (arguments, (icon, (blocks, y)))))) = strings in
+    let (name, (relative, (workdir, (arguments, (icon, (blocks, (further, y))))))) = strings in
     let info = info-valid c (t .fits) (infoThere (c .header .flags)) (t .zeros) (record { flags = flags; drive = drive; networkFlags = networkFlags }) (record {
       label = label;
       local = local;
@@ -276,6 +276,7 @@ can-valid profile c t e =
       suffix = suffix;
       localUnicode = localUnicode;
       suffixUnicode = suffixUnicode;
+      further = further;
     }) in (
       (t .row, (record { typed = t .header; can = can .header }, (items, (info, (name, (relative, (workdir, (arguments, (icon, blocks))))))))),
       leb-true _ _ (can .short),
@@ -293,7 +294,7 @@ valid-can profile c v h =
     let string : (k : ℕ) → RowV (stringRow f (c .link) k) (stringIn c k) → writableRow (stringRow f (c .link) k) (stringIn c k) ≡ true
     = λ k. row-can (stringRow f (c .link) k) (stringIn c k) in
     let strings : Every (along [] writableRow 10 (drop 10 (rows c)) (c .bodies))
-    = (string nameBit name, (string relativeBit relative, (string workdirBit workdir, (string argumentsBit arguments, (string iconBit icon, (blocks .can, tt)))))) in
+    = (string nameBit name, (string relativeBit relative, (string workdirBit workdir, (string argumentsBit arguments, (string iconBit icon, (blocks .can, (t .further, tt))))))) in
     writable-all profile c (record {
       header = header .can;
       link = every-in (_ ∷ _ ∷ _ ∷ []) (n .flags, (n .drive, (n .networkFlags, tt)));

@@ -12,12 +12,13 @@ use Rattle.format.specs.Presence.{itemsThere, infoThere, nameBit, relati
 
 -- ---- the table
 
--- items; a text with its terminator, a string after its count, each of bytes or of Unicode; blocks
+-- items; a text with its terminator, a string after its count, each of bytes or of Unicode; blocks; the further bytes of a head that is long or short
 pub data BodyKind : Type 0 where
   itemsKind : BodyKind
   textKind : Bool → BodyKind
   stringKind : Bool → BodyKind
   blocksKind : BodyKind
+  furtherKind : Bool → BodyKind
 
 pub record BodyRow : Type 0 where
   pub there : Bool
@@ -38,7 +39,7 @@ module _ (flags : ℕ) (l : Link) where
   abbrev pub stringRow : ℕ → BodyRow
   stringRow k = bodyRow (stringThere k flags) (stringKind (stringsUnicode flags))
 
-  -- items; label, local path; net name, device name and their Unicode twins; suffix, Unicode local path, Unicode suffix; the strings; blocks
+  -- items; label, local path; net name, device name and their Unicode twins; suffix, Unicode local path, Unicode suffix; the strings; blocks; the head's further bytes, there with every LinkInfo
   abbrev pub bodyTable : List BodyRow
   bodyTable =
       bodyRow (itemsThere flags) itemsKind
@@ -57,6 +58,7 @@ module _ (flags : ℕ) (l : Link) where
       ∷ stringRow argumentsBit
       ∷ stringRow iconBit
       ∷ bodyRow true blocksKind
+      ∷ bodyRow (infoThere flags) (furtherKind (l .long))
       ∷ []
 
 abbrev pub tableOf : Record → List BodyRow
@@ -101,6 +103,9 @@ stringSlot k = 8 + k
 abbrev pub blocksSlot : ℕ
 blocksSlot = 15
 
+abbrev pub furtherSlot : ℕ
+furtherSlot = 16
+
 -- what the record holds there, present or not
 abbrev pub placeIn : Record → ℕ → Place
 placeIn r k = getD (r .places) k noPlace
@@ -129,6 +134,6 @@ placed n r = allInside n (zeroed (tableOf r) (r .places))
 
 -- ---- the lengths, as written
 
--- LinkInfo's head as written, 0x1C bytes, or 0x24 with Unicode
+-- LinkInfo's head as written, 0x1C bytes, or 0x24 with Unicode; its further bytes come after them
 abbrev pub writtenHead : Bool → ℕ
 writtenHead long = cond long 0x24 0x1C

@@ -10,7 +10,7 @@ use Rattle.format.specs.declared.Link.{Link}
 use Rattle.format.specs.declared.Record.{Record}
 use Rattle.format.specs.Presence.{infoThere, localThere, networkThere, providerThere}
 use Rattle.format.specs.Shortcut.{noLink}
-use Rattle.format.specs.Bodies.{tableOf, zeroed, labelSlot, localSlot, netSlot, deviceSlot, netUnicodeSlot, deviceUnicodeSlot, suffixSlot, localUnicodeSlot, suffixUnicodeSlot}
+use Rattle.format.specs.Bodies.{tableOf, zeroed, labelSlot, localSlot, netSlot, deviceSlot, netUnicodeSlot, deviceUnicodeSlot, suffixSlot, localUnicodeSlot, suffixUnicodeSlot, furtherSlot}
 
 -- ---- which parts are present: whatever a record has for the others counts for nothing, and is put to zero here
 
@@ -86,6 +86,7 @@ pub record InfoContents : Type 0 where
   pub suffix : List ℕ
   pub localUnicode : List ℕ
   pub suffixUnicode : List ℕ
+  pub further : List ℕ
 
 abbrev pub infoIn : Contents → InfoContents
 infoIn c = record {
@@ -105,4 +106,5 @@ infoIn c = record {
   suffix = bodyIn c suffixSlot;
   localUnicode = bodyIn c localUnicodeSlot;
   suffixUnicode = bodyIn c suffixUnicodeSlot;
+  further = bodyIn c furtherSlot;
 }

@@ -1,7 +1,7 @@
 -- FORMAT: LinkInfo.
-use Prim.Native.Nat.{ℕ}
+use Prim.Native.Nat.{ℕ, _+_, _-_}
 use mathlib.Core.List.{List, [], _∷_, _++_}
-use mathlib.Core.Bool.{Bool, true, false, not, _&&_, _||_}
+use mathlib.Core.Bool.{Bool, true, false, not, _&&_, _||_, cond}
 use lib.ListN.{length, take}
 use lib.Dec.{leb, eqb}
 use Rattle.octets.specs.Numbers.{u32At}
@@ -11,7 +11,7 @@ use Rattle.format.specs.declared.Place.{Place}
 use Rattle.format.specs.declared.Info.{Info}
 use Rattle.format.specs.declared.Link.{Link}
 use Rattle.format.specs.declared.Fault.the-variants.{Cut as CUT, Info as INFO}
-use Rattle.format.specs.Tests.{Test, _else_at_, section, tests, got, Reader, noPlace}
+use Rattle.format.specs.Tests.{Test, _else_at_, section, tests, got, Reader, place, noPlace}
 use Rattle.format.specs.Presence.{localThere, networkThere, localUnicodeThere}
 use Rattle.format.specs.Pieces.{Piece, textPiece, textPlace, absentZero, pieceTests}
 use Rattle.format.specs.Volume.{volumePiece, volumeAt, noVolume, labelPlace, labelKind}
@@ -44,7 +44,7 @@ hasNetwork l = networkThere (infoFlags l)
 abbrev pub hasLocalUnicode : List ℕ → Bool
 hasLocalUnicode l = localUnicodeThere (longHead l) (infoFlags l)
 
--- a long head brings the Unicode suffix and, with bit 0, the Unicode local path (house); nobody looks at its bytes after the first 0x24.
+-- a long head brings the Unicode suffix and, with bit 0, the Unicode local path (house); its bytes after the first 0x24 are kept, and no rule looks at them.
 -- Offset fields: VolumeID at 12, LocalBasePath 16, network link 20, CommonPathSuffix 24; with a long head LocalBasePathUnicode 28, CommonPathSuffixUnicode 32
 abbrev pub infoPieces : List ℕ → List Piece
 infoPieces l =
@@ -86,7 +86,12 @@ noInfo = record {
   suffix = noPlace;
   «local_unicode» = noPlace;
   «suffix_unicode» = noPlace;
+  further = noPlace;
 }
+
+-- where the bytes of a long head that come after the first 0x24 stand in the file, in which l starts at p; zeros with a short head
+abbrev pub furtherPlace : ℕ → List ℕ → Place
+furtherPlace p l = cond (longHead l) (place (p + 0x24) (infoHead l - 0x24)) noPlace
 
 -- l starts at p in the file
 abbrev pub infoFields : ℕ → List ℕ → Info
@@ -99,6 +104,7 @@ infoFields p l = record {
   suffix = textPlace true false p l (u32At l 24);
   «local_unicode» = textPlace (hasLocalUnicode l) true p l (u32At l 28);
   «suffix_unicode» = textPlace (longHead l) true p l (u32At l 32);
+  further = furtherPlace p l;
 }
 
 -- the size field is there (CUT), holds no less than a short head (INFO) and no more than is left (CUT); then the rules
@@ -111,7 +117,7 @@ info profile p s =
     ∷ infoRules profile (take (infoSize s) s))
     (got (infoFields p (take (infoSize s) s)) (infoSize s))
 
--- ---- what the record holds of it: its numbers and kinds, and its bodies' places in the order of the slots
+-- ---- what the record holds of it: its numbers and kinds, and its texts' places in the order of the slots
 
 abbrev pub linkOf : Info → Link
 linkOf i = record {

@@ -17,7 +17,7 @@ use Rattle.format.specs.declared.Fault.the-variants.{NoMap as NOMAP, Unw
 use Rattle.format.specs.Tests.{Outcome, got, _else_at_, noSection, tests, andThen}
 use Rattle.format.specs.Presence.{infoThere, nameBit, stringsUnicode}
 use Rattle.format.specs.Shortcut.{shortcut, recordOf, verdictOf}
-use Rattle.format.specs.Bodies.{localSlot, suffixSlot, localUnicodeSlot, suffixUnicodeSlot, stringSlot, blocksSlot}
+use Rattle.format.specs.Bodies.{localSlot, suffixSlot, localUnicodeSlot, suffixUnicodeSlot, stringSlot, blocksSlot, furtherSlot}
 use Rattle.format.specs.Contents.{Contents, bodyIn, contents}
 use Rattle.format.specs.Writing.{every, canonical, writable, outputOf}
 use Rattle.format.specs.Target.{target}
@@ -95,7 +95,7 @@ abbrev pub movedTo : ℕ → Bool → List ℕ → List ℕ → (List ℕ → Li
 movedTo flags long localUnicode suffixUnicode translate c = record {
   header = withFlags flags (c .header);
   link = withLong long (c .link);
-  bodies = bodiesFrom 0 localUnicodeSlot c ++ (localUnicode ∷ suffixUnicode ∷ map translate (strings c) ++ bodiesFrom blocksSlot 1 c);
+  bodies = bodiesFrom 0 localUnicodeSlot c ++ (localUnicode ∷ suffixUnicode ∷ map translate (strings c) ++ bodiesFrom blocksSlot 2 c);
 }
 
 -- flag bit 7 is the number 0x80
@@ -106,7 +106,7 @@ inUnicode c =
     (cond (gains c) (toUnits (bodyIn c suffixSlot)) (bodyIn c suffixUnicodeSlot))
     toUnits c
 
--- the two Unicode texts are dropped, and the head is short
+-- the two Unicode texts are dropped, and the head is short; further bytes stay, so that a head which had some is unwritable now
 unfoldable pub inBytes : Contents → Contents
 inBytes c = movedTo (flagsOf c - 0x80) false [] [] toBytes c
 
@@ -151,6 +151,7 @@ pub record Stays (c m : Contents) : Type 0 where
   pub link : withLong false (m .link) ≡ withLong false (c .link)
   pub bodies : bodiesFrom 0 localUnicodeSlot m ≡ bodiesFrom 0 localUnicodeSlot c
   pub blocks : bodyIn m blocksSlot ≡ bodyIn c blocksSlot
+  pub further : bodyIn m furtherSlot ≡ bodyIn c furtherSlot
 
 abbrev pub translatedPart : (List ℕ → List ℕ) → Part → Part
 translatedPart translate noPart = noPart

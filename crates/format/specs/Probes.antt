@@ -60,7 +60,7 @@ zeroPath = record {
     hotkey = 0;
   };
   link = record { flags = 1; long = false; drive = 0; serial = 0; «label_unicode» = false; «network_flags» = 0; provider = 0; «network_unicode» = false };
-  places = set (replicate 16 noPlace) localSlot (place 0 1);
+  places = set (replicate 17 noPlace) localSlot (place 0 1);
 }
 
 -- ---- rows

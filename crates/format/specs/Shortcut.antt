@@ -97,7 +97,7 @@ recordOf c =
       places =
           items .read
           ∷ infoPlaces (info .read)
-          ++ (name .read ∷ relative .read ∷ workdir .read ∷ arguments .read ∷ icon .read ∷ place (blocks .start) (sum (blocks .read)) ∷ []);
+          ++ (name .read ∷ relative .read ∷ workdir .read ∷ arguments .read ∷ icon .read ∷ place (blocks .start) (sum (blocks .read)) ∷ info .read .further ∷ []);
     }
 
 abbrev pub noHeader : Header
@@ -117,7 +117,7 @@ abbrev pub noLink : Link
 noLink = linkOf noInfo
 
 abbrev pub noRecord : Record
-noRecord = record { header = noHeader; link = noLink; places = replicate 16 noPlace }
+noRecord = record { header = noHeader; link = noLink; places = replicate 17 noPlace }
 
 -- an accepted answer carries the length, a refusal its fault and position
 abbrev pub verdictOf : {A : Type 0} → Outcome A → Verdict

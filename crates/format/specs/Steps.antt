@@ -8,4 +8,3 @@ pub mod ItemWalk
 pub mod Wrong
 pub mod Answers
 pub mod Repeats
-pub mod Named

@@ -1,7 +1,7 @@
 -- FORMAT: What the writer makes. The canonical form, and when the writer gives up.
 use Prim.Native.Nat.{ℕ, _+_, _-_}
 use mathlib.Core.List.{List, [], _∷_, _++_}
-use mathlib.Core.Bool.{Bool, true, false, _&&_, cond}
+use mathlib.Core.Bool.{Bool, true, false, _&&_, _||_, cond}
 use lib.ListN.{length, replicate}
 use lib.Dec.{leb, ltb, eqb}
 use lib.IntN.{ℤ, pos, negsuc}
@@ -24,7 +24,7 @@ use Rattle.format.specs.Volume.{labelLeast}
 use Rattle.format.specs.Network.{networkHead}
 use Rattle.format.specs.Blocks.{blocks}
 use Rattle.format.specs.Shortcut.{most, verdictOf}
-use Rattle.format.specs.Bodies.{BodyKind, itemsKind, textKind, stringKind, blocksKind, BodyRow, inInfo, bodyTable, itemsSlot, stringSlot, blocksSlot, along, placed, writtenHead}
+use Rattle.format.specs.Bodies.{BodyKind, itemsKind, textKind, stringKind, blocksKind, furtherKind, BodyRow, inInfo, bodyTable, itemsSlot, stringSlot, blocksSlot, along, placed, writtenHead}
 use Rattle.format.specs.Contents.{VolumeContents, NetworkContents, InfoContents, Contents, bodyIn, infoIn, contents}
 
 abbrev pub endToEnd : List (List ℕ) → List ℕ
@@ -166,7 +166,7 @@ module _ (i : InfoContents) where
 
   -- LinkInfoHeaderSize
   abbrev pub infoHeadLength : ℕ
-  infoHeadLength = writtenHead (i .long)
+  infoHeadLength = writtenHead (i .long) + length (i .further)
 
   -- where each piece starts, and where the last ends
   abbrev pub volumeStart : ℕ
@@ -202,6 +202,7 @@ module _ (i : InfoContents) where
       ∷ offsetField (networkThere (i .flags)) networkStart
       ∷ little 4 suffixStart
       ∷ twoFields (i .long) (cond (localThere (i .flags)) localUnicodeStart 0) suffixUnicodeStart
+      ∷ i .further
       ∷ infoVolumeBytes
       ∷ localBytes
       ∷ infoNetworkBytes
@@ -271,11 +272,16 @@ takes n (refused f p) = false
 abbrev pub writableBlocks : List ℕ → Bool
 writableBlocks x = takes (length x + 4) (blocks 0 (x ++ little 4 0))
 
+-- a short head has no further bytes
+abbrev pub writableFurther : Bool → List ℕ → Bool
+writableFurther long x = long || eqb (length x) 0
+
 abbrev pub writableBody : BodyKind → List ℕ → Bool
 writableBody itemsKind = writableItems
 writableBody (textKind unicode) = writableText unicode
 writableBody (stringKind unicode) = writableString unicode
 writableBody blocksKind = writableBlocks
+writableBody (furtherKind long) = writableFurther long
 
 -- what is absent can be written
 abbrev pub writableRow : BodyRow → List ℕ → Bool

@@ -64,6 +64,7 @@ pub struct Info {
     pub suffix: Place,
     pub local_unicode: Place,
     pub suffix_unicode: Place,
+    pub further: Place,
 }
 
 // LinkInfo's numbers and kinds.
@@ -82,7 +83,7 @@ pub struct Link {
 pub struct Record {
     pub header: Header,
     pub link: Link,
-    pub places: [Place; 16],
+    pub places: [Place; 17],
 }
 
 // ---- the slots, in the order of the fields at the boundary; a string's slot is 8 more than its flag bit
@@ -115,10 +116,12 @@ pub const ARGUMENTS: usize = 13;
 
 pub const BLOCKS: usize = 15;
 
+pub const FURTHER: usize = 16;
+
 // Of each slot: whether its body is there, and whether its characters have two bytes each.
 pub struct Shape {
-    pub there: [bool; 16],
-    pub wide: [bool; 16],
+    pub there: [bool; 17],
+    pub wide: [bool; 17],
 }
 
 // A row of a store's list: a storage (kind 0), or a value named by number (1) or by string (2).
@@ -216,6 +219,7 @@ pub const NO_INFO: Info = Info {
     suffix: NO_PLACE,
     local_unicode: NO_PLACE,
     suffix_unicode: NO_PLACE,
+    further: NO_PLACE,
 };
 
 const NO_HEADER: Header = Header {
@@ -244,7 +248,7 @@ pub const NO_LINK: Link = Link {
 pub const NO_RECORD: Record = Record {
     header: NO_HEADER,
     link: NO_LINK,
-    places: [NO_PLACE; 16],
+    places: [NO_PLACE; 17],
 };
 
 // The number of a fault (FORMAT: Numbers).
@@ -424,6 +428,7 @@ pub fn shape_of(flags: u32, l: Link) -> Shape
             arguments_there(flags),
             icon_there(flags),
             true,
+            info,
         ],
         wide: [
             false,
@@ -441,6 +446,7 @@ pub fn shape_of(flags: u32, l: Link) -> Shape
             unicode,
             unicode,
             unicode,
+            false,
             false,
         ],
     }

@@ -13,9 +13,10 @@ use Rattle.format.specs.declared.Profile.{Profile}
 use Rattle.format.specs.declared.Profile.the-variants.{Strict, NinetyFive}
 use Rattle.format.specs.declared.Fault.{Fault}
 use Rattle.format.specs.declared.Fault.the-variants.{Cut as CUT, Info as INFO, Piece as PIECE}
+use Rattle.format.specs.declared.Place.{Place}
 use Rattle.format.specs.declared.Info.{Info}
 use Rattle.format.specs.declared.Spot.{Spot}
-use Rattle.format.specs.Tests.{Site, section, spotAt, Outcome, got, refused, Test, _else_at_, tests, all}
+use Rattle.format.specs.Tests.{Site, section, spotAt, Outcome, got, refused, Test, _else_at_, tests, all, place, noPlace}
 use Rattle.format.specs.Numbers.{outcomeNumber}
 use Rattle.format.specs.Steps.Answers.{outcomeEnd}
 use Rattle.format.specs.Steps.Wrong.{wrong, first}
@@ -234,7 +235,7 @@ module _ (p : ℕ) (l : List ℕ) {a : VolumeFound} {b : Text} {c : NetworkFound
       ) in
       m ∙ sym (pieces-judged (length l + 32) h (infoPieces l) (pieces-within l z) fs ef)
 
-  pub pieces-are : {flags head : ℕ} → flags ≡ u32At l 8 → head ≡ u32At l 4
+  pub pieces-are : {flags head : ℕ} {x : Place} → flags ≡ u32At l 8 → head ≡ u32At l 4 → x ≡ cond (leb 0x24 head) (place (p + 0x24) (head - 0x24)) noPlace
       → _≡_ {A = Pieces} (record {
         wrong = m₆;
         info = record {
@@ -246,11 +247,12 @@ module _ (p : ℕ) (l : List ℕ) {a : VolumeFound} {b : Text} {c : NetworkFound
           suffix = d .body;
           «local_unicode» = e .body;
           «suffix_unicode» = f .body;
+          further = x;
         };
       }) (piecesFound p l)
   unfolding piecesFound
-  pieces-are eg eh =
-      ap₂ made pieces-wrong (rw (S .volume, S .local, S .network, S .suffix, S .localUnicode, S .suffixUnicode, eg, eh))
+  pieces-are eg eh ex =
+      ap₂ made pieces-wrong (rw (S .volume, S .local, S .network, S .suffix, S .localUnicode, S .suffixUnicode, ex, eg, eh))
 
 module _ (p : ℕ) (l : List ℕ) (z : headOk l ≡ true) {r : Pieces} (e : r ≡ piecesFound p l) where
   found-wrong : r .wrong ≡ wrong (infoPieceTests l)

@@ -15,12 +15,12 @@ use octets::Took;
 use octets::Zero;
 ghost use mathlib.Core.Path.{_≡_};
 ghost use mathlib.Core.Bool.{true, cond};
-ghost use lib.Dec.{eqb};
+ghost use lib.Dec.{leb, eqb};
 ghost use mathlib.Core.List.{[], _∷_};
-ghost use Prim.Native.Nat.{_+_, _≤_};
+ghost use Prim.Native.Nat.{_+_, _-_, _≤_};
 ghost use lib.ListN.{length};
 ghost use Rattle.octets.specs.Characters.{bytesOf};
-ghost use Rattle.format.specs.Tests.{noPlace};
+ghost use Rattle.format.specs.Tests.{place, noPlace};
 ghost use Rattle.format.specs.Pieces.{absentZero, uncut, apart, apartTests};
 ghost use Rattle.format.specs.Volume.{labelLeast, noVolume};
 ghost use Rattle.format.specs.Network.{networkHead, networkHeadTests, noNetwork};
@@ -466,7 +466,21 @@ fn info_head_wrong(l: &[u8], profile: Profile) -> usize
     unless(absent_zero(local, field(long, l, 28)), 28, 0)
 }
 
-// What the offsets of LinkInfo l lead to; l starts at start in the file.
+// The bytes of a head from 0x24 to its end; LinkInfo starts at start in the file. Zeros with a short head.
+fn further_in(head: usize, start: usize) -> Place
+    requires { ⌜ start ≤ 65536 ⌝ }
+    ensures { λ r. ⌜ r ≡ cond (leb 0x24 head) (place (start + 0x24) (head - 0x24)) noPlace ⌝ }
+{
+    if head < 0x24 {
+        return format::NO_PLACE;
+    }
+    Place {
+        at: start + 0x24,
+        len: head - 0x24,
+    }
+}
+
+// What the offsets of LinkInfo l lead to, and the head's further bytes; l starts at start in the file.
 fn info_pieces(l: &[u8], start: usize) -> Pieces
     requires { ⌜ (0x1C ≤ length (now l)) × (start + length (now l) ≤ 65536) × (headOk (now l) ≡ true) ⌝ }
     ensures { λ r. ⌜ r ≡ piecesFound start (now (l .entry)) ⌝ }
@@ -502,6 +516,7 @@ fn info_pieces(l: &[u8], start: usize) -> Pieces
             suffix,
             local_unicode,
             suffix_unicode,
+            further: further_in(head, start),
         },
     }
 }

@@ -5,7 +5,7 @@ use mathlib.Core.Bool.{Bool, true, false, not, cond}
 use Prim.Native.Nat.{ℕ, _+_, _/_, _≤_, _<_}
 use native.Mathlib.Omega.{arith}
 use lib.ListN.{length, getD}
-use lib.Dec.{leb}
+use lib.Dec.{leb, eqb}
 use borrow.Author.Tests.{le-leb, lt-leb, eqb-true, not-true, not-false}
 use Rattle.octets.specs.Numbers.{Bytes}
 use Rattle.octets.specs.Parts.{put}
@@ -22,6 +22,7 @@ use Rattle.format.specs.Tests.{Outcome, got, refused}
 use Rattle.format.specs.Presence.{itemsThere, infoThere, stringsUnicode}
 use Rattle.format.specs.Numbers.{Numbered}
 use Rattle.format.specs.Shortcut.{most, reading, verdictOf}
+use Rattle.format.specs.Bodies.{furtherSlot, placeIn}
 use Rattle.format.specs.Contents.{Contents, present, bodiesOf, contents}
 use Rattle.format.specs.Writing.{canonical, writable, outputOf}
 use Rattle.format.specs.Demands.{Accepts}
@@ -33,17 +34,18 @@ use Rattle.format.specs.Steps.Flat.{infoTo}
 use Rattle.format.proofs.AnswerLaws.{nowhere, numbered}
 use Rattle.format.proofs.Bools.{clash, by-order}
 use Rattle.format.proofs.Holds.{header-writable}
+use Rattle.format.proofs.BodyLaws.{body-length}
 use Rattle.format.proofs.RowLaws.{bytes-at}
 use Rattle.format.proofs.WholeLaws.{Valid, shortest}
 use Rattle.format.proofs.AcceptedLaws.{accepted-read, accepted-held, accepted-present, accepted-decode, accepted-bodies, accepted-limit, RefusedWith, refused-read}
-use Rattle.format.proofs.MoveLaws.{OfStrings, bit-clear, bit-set, set-unicode, clear-unicode, maps-unicode, maps-bytes, unicode-valid, bytes-valid, valid-writable}
+use Rattle.format.proofs.MoveLaws.{OfStrings, bit-clear, bit-set, set-unicode, clear-unicode, maps-unicode, maps-bytes, unicode-valid, noFurther, bytes-valid, bytes-writable, valid-writable}
 use Rattle.format.proofs.Demands.{accepted-whole}
 use Rattle.format.proofs.MoveDemands.{to-unicode-is, to-bytes-is, moves-to-unicode, moves-to-bytes}
 use Rattle.sizes.specs.Steps.Sizes.{sizesOf, clippedLength}
 use Rattle.sizes.proofs.WholeLaws.{exact-row, exact-length, over-length}
 use Rattle.canonical.specs.Steps.Puts.{Room}
 use Rattle.canonical.proofs.FitsLaws.{wrote-whole}
-use Rattle.moving.specs.Steps.Moves.{maps, moved, call, movedFlags, inRow, movedRecord, Few, Lengths, Inside, Known, Going, ReadFrom}
+use Rattle.moving.specs.Steps.Moves.{maps, headFits, moved, call, movedFlags, inRow, movedRecord, Few, Lengths, Inside, Known, Going, ReadFrom}
 use Rattle.moving.specs.Steps.Pieces.{stringsSize, infoSize, movedFlat}
 use Rattle.moving.proofs.FlatLaws.{moved-length, moved-put, info-size, total-size}
 
@@ -86,6 +88,13 @@ module _ (profile : Profile) {d : List ℕ} {r : Record} (x : ReadFrom profile d
   unfolding contents present
   flags-are = refl
 
+  -- a head that fits has no further bytes, or stays long
+  further-are : noFurther (contents d r) ≡ eqb (placeIn r furtherSlot .len) 0
+  further-are =
+      ap (λ (c : Contents). noFurther c) contents-are
+      ∙ ap (λ (x : List ℕ). eqb (length x) 0) (bytes-at d (r .places) furtherSlot)
+      ∙ ap (λ (n : ℕ). eqb n 0) (body-length d (inRow (r .places) furtherSlot) (is-inside .slot furtherSlot))
+
   module _ (u : Bool) (m : maps u (contents d r) ≡ true) where
     pub has-lengths : Lengths u r
     has-lengths = record { few = is-few; flags = few-flags; set = λ e. go u m e }
@@ -102,13 +111,6 @@ module _ (profile : Profile) {d : List ℕ} {r : Record} (x : ReadFrom profile d
         go : (b : Bool) → maps b (contents d r) ≡ true → stringsUnicode (movedFlags b (r .header .flags)) ≡ b
         go true n = set-unicode (r .header .flags) (bit-clear (r .header .flags) (maps-unicode (contents d r) n .clear))
         go false n = clear-unicode (r .header .flags) (bit-set (r .header .flags) (maps-bytes (contents d r) n .set))
-
-    moved-valid : Valid profile (moved u (contents d r))
-    moved-valid = go u m
-      where
-        go : (b : Bool) → maps b (contents d r) ≡ true → Valid profile (moved b (contents d r))
-        go true n = unicode-valid profile (contents d r) is-valid n
-        go false n = bytes-valid profile (contents d r) is-valid n
 
     is-known : Known u d (r .places)
     is-known = record { slot = λ k l h e. rw (← bytes-at d (r .places) k) (go u m e k l h) }
@@ -131,53 +133,70 @@ module _ (profile : Profile) {d : List ℕ} {r : Record} (x : ReadFrom profile d
     abbrev result : Contents
     result = moved u (contents d r)
 
+    pub moved-headed : (out : List ℕ) → headFits u r ≡ false
+        → (Refused UNWRITABLE 0 ≡ verdictOf (moving profile true result (length out))) × (out ≡ outputOf (moving profile true result (length out)) out)
+    unfolding moving outputOf
+    moved-headed out h = let w = go u m h in (rw w, rw w)
+      where
+        go : (b : Bool) → maps b (contents d r) ≡ true → headFits b r ≡ false → writable profile (moved b (contents d r)) ≡ false
+        go true n e = clash refl e
+        go false n e = bytes-writable profile (contents d r) is-valid n ∙ rw (further-are ∙ e)
+
     length-is : length (canonical result) ≡ writtenLength (movedRecord u r)
     length-is = ap (λ (c : Contents). length (canonical (moved u c))) contents-are ∙ moved-length d r is-inside u
 
-    module _ {q : Record} (e : q ≡ movedRecord u r) {end : ℕ} (counted : end ≡ clippedLength q) where
-      pub moved-long : (out : List ℕ) → most < end
-          → (Refused UNWRITABLE 0 ≡ verdictOf (moving profile true result (length out))) × (out ≡ outputOf (moving profile true result (length out)) out)
-      unfolding moving outputOf
-      moved-long out h =
-          let l : most < length (canonical result) = omega (arith, over-length q, length-is, ap writtenLength e) in
-          let w : writable profile result ≡ false = valid-writable profile result moved-valid ∙ lt-leb (length (canonical result)) most l in
-          (rw w, rw w)
+    module _ (h : headFits u r ≡ true) where
+      moved-valid : Valid profile result
+      moved-valid = go u m h
+        where
+          go : (b : Bool) → maps b (contents d r) ≡ true → headFits b r ≡ true → Valid profile (moved b (contents d r))
+          go true n e = unicode-valid profile (contents d r) is-valid n
+          go false n e = bytes-valid profile (contents d r) is-valid n (further-are ∙ e)
 
-      module _ (few : end ≤ most) where
-        end-is : end ≡ length (canonical result)
-        end-is = counted ∙ exact-length q (omega arith) ∙ ap writtenLength e ∙ sym length-is
-
-        is-writable : writable profile result ≡ true
-        is-writable = valid-writable profile result moved-valid ∙ le-leb (length (canonical result)) most (omega (arith, end-is))
-
-        pub moved-short : (out : List ℕ) → length out < end
-            → (Refused ROOM 0 ≡ verdictOf (moving profile true result (length out))) × (out ≡ outputOf (moving profile true result (length out)) out)
+      module _ {q : Record} (e : q ≡ movedRecord u r) {end : ℕ} (counted : end ≡ clippedLength q) where
+        pub moved-long : (out : List ℕ) → most < end
+            → (Refused UNWRITABLE 0 ≡ verdictOf (moving profile true result (length out))) × (out ≡ outputOf (moving profile true result (length out)) out)
         unfolding moving outputOf
-        moved-short out h =
-            let k : leb (length (canonical result)) (length out) ≡ false = lt-leb (length (canonical result)) (length out) (omega (arith, end-is)) in
-            (rw (is-writable, k), rw (is-writable, k))
+        moved-long out h =
+            let l : most < length (canonical result) = omega (arith, over-length q, length-is, ap writtenLength e) in
+            let w : writable profile result ≡ false = valid-writable profile result moved-valid ∙ lt-leb (length (canonical result)) most l in
+            (rw w, rw w)
 
-        pub moved-going : (out : List ℕ) → end ≤ length out → Going u d out r
-        moved-going out h = record { inside = is-inside; known = is-known; few = omega (arith, end-is, length-is); room = omega (arith, end-is, length-is) }
+        module _ (few : end ≤ most) where
+          end-is : end ≡ length (canonical result)
+          end-is = counted ∙ exact-length q (omega arith) ∙ ap writtenLength e ∙ sym length-is
 
-        pub moved-sized : {sizes : List ℕ} → sizes ≡ sizesOf q → sizes ≡ writtenRow q
-        moved-sized f = f ∙ exact-row q (omega arith)
+          is-writable : writable profile result ≡ true
+          is-writable = valid-writable profile result moved-valid ∙ le-leb (length (canonical result)) most (omega (arith, end-is))
 
-        pub moved-written : (out : List ℕ) → end ≤ length out → {s : Shape} {sizes x : List ℕ} {n : ℕ} → s ≡ shapeOf (q .header .flags) (q .link) → sizes ≡ sizesOf q
-            → Wrote out 0 (movedFlat u d r q s sizes) (writtenLength q) x n
-            → (Accepted n ≡ verdictOf (moving profile true result (length out))) × (x ≡ outputOf (moving profile true result (length out)) out)
-        unfolding moving outputOf
-        moved-written out h {s} {sizes} {x} {n} f g w =
-            let k : leb (length (canonical result)) (length out) ≡ true = le-leb (length (canonical result)) (length out) (omega (arith, end-is)) in
-            let flat : movedFlat u d r q s sizes ≡ canonical result = rw (f, moved-sized g, e) (sym (ap (λ (c : Contents). canonical (moved u c)) contents-are ∙ moved-put d r u is-wide is-inside)) in
-            let z = wrote-whole w in
-            (rw (is-writable, k) (ap Accepted (z .0 ∙ ap length flat)), rw (is-writable, k) (z .1 ∙ ap (put out 0) flat))
+          pub moved-short : (out : List ℕ) → length out < end
+              → (Refused ROOM 0 ≡ verdictOf (moving profile true result (length out))) × (out ≡ outputOf (moving profile true result (length out)) out)
+          unfolding moving outputOf
+          moved-short out h =
+              let k : leb (length (canonical result)) (length out) ≡ false = lt-leb (length (canonical result)) (length out) (omega (arith, end-is)) in
+              (rw (is-writable, k), rw (is-writable, k))
+
+          pub moved-going : (out : List ℕ) → end ≤ length out → Going u d out r
+          moved-going out h = record { inside = is-inside; known = is-known; few = omega (arith, end-is, length-is); room = omega (arith, end-is, length-is) }
+
+          pub moved-sized : {sizes : List ℕ} → sizes ≡ sizesOf q → sizes ≡ writtenRow q
+          moved-sized f = f ∙ exact-row q (omega arith)
+
+          pub moved-written : (out : List ℕ) → end ≤ length out → {s : Shape} {sizes x : List ℕ} {n : ℕ} → s ≡ shapeOf (q .header .flags) (q .link) → sizes ≡ sizesOf q
+              → Wrote out 0 (movedFlat u d r q s sizes) (writtenLength q) x n
+              → (Accepted n ≡ verdictOf (moving profile true result (length out))) × (x ≡ outputOf (moving profile true result (length out)) out)
+          unfolding moving outputOf
+          moved-written out h {s} {sizes} {x} {n} f g w =
+              let k : leb (length (canonical result)) (length out) ≡ true = le-leb (length (canonical result)) (length out) (omega (arith, end-is)) in
+              let flat : movedFlat u d r q s sizes ≡ canonical result = rw (f, moved-sized g, e) (sym (ap (λ (c : Contents). canonical (moved u c)) contents-are ∙ moved-put d r u is-wide is-inside)) in
+              let z = wrote-whole w in
+              (rw (is-writable, k) (ap Accepted (z .0 ∙ ap length flat)), rw (is-writable, k) (z .1 ∙ ap (put out 0) flat))
 
 -- ---- each part has room where the whole has
 
 module _ (d : List ℕ) (r : Record) (u : Bool) {q : Record} {s : Shape} {sizes : List ℕ} (e : q ≡ movedRecord u r) (f : s ≡ shapeOf (q .header .flags) (q .link)) (g : sizes ≡ writtenRow q) where
-  pub info-fits : infoTo (q .link) sizes ≡ infoSize r q s
-  info-fits = rw (f, g, e) (info-size d r u)
+  pub info-fits : infoThere (q .header .flags) ≡ true → infoTo (q .link) sizes ≡ infoSize r q s
+  info-fits i = rw (f, g, e) (info-size d r u (rw e at i))
 
   pub total-fits : writtenLength q
       ≡ 76
@@ -238,6 +257,10 @@ module _ (profile : Profile) (u : Bool) (s out : List ℕ) {g : Reading} (e : g 
     move-made m p o =
         let z : call profile u s (length out) ≡ moving profile true (moved u (contents s (g .held))) (length out) = call-is ∙ ap (λ (b : Bool). moving profile b (moved u (contents s (g .held))) (length out)) m in
         (p ∙ ap verdictOf (sym z), o ∙ ap (λ (y : Outcome (List ℕ)). outputOf y out) (sym z))
+
+    pub move-headed : maps u (contents s (g .held)) ≡ true → {b : Bool} → b ≡ headFits u (g .held) → not b ≡ true
+        → (Refused UNWRITABLE 0 ≡ verdictOf (call profile u s (length out))) × (out ≡ outputOf (call profile u s (length out)) out)
+    move-headed m {b} f t = let z = moved-headed profile is-read u m out (sym f ∙ not-true b t) in move-made m (z .0) (z .1)
 
 -- what each of the two calls says of its answer v and its buffer x
 pub unicode-call : (profile : Profile) (s out : List ℕ) → Bytes s → {v : Verdict} {x : List ℕ} → v ≡ verdictOf (toUnicode profile s (length out)) → x ≡ outputOf (toUnicode profile s (length out)) out

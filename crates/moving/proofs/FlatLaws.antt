@@ -28,7 +28,7 @@ use Rattle.format.proofs.CodepageLaws.{units-long, bytes-long}
 use Rattle.codepage.proofs.TextLaws.{units-count}
 use Rattle.sizes.proofs.MeasureLaws.{measured, measured-length}
 use Rattle.canonical.specs.Steps.Puts.{slotsSize}
-use Rattle.canonical.proofs.FitsLaws.{info-parts, total-parts}
+use Rattle.canonical.proofs.FitsLaws.{info-put, total-parts}
 use Rattle.moving.specs.Steps.Moves.{translate, moved, movedPlace, gained, unicodePlace, movedFlags, movedLong, inRow, movedPlaces, movedRecord, Inside}
 use Rattle.moving.specs.Steps.Pieces.{movedSlot, movedStrings, stringsSize, gainedText, gainedSize, unicodeTexts, unicodeSize, gain, movedInfo, infoSize, movedFlat}
 
@@ -63,7 +63,7 @@ module _ (d : List ℕ) (r : Record) where
       ++ (unicodeText u (gained r) (bodyIn c localSlot) (bodyIn c localUnicodeSlot)
       ∷ unicodeText u (gained r) (bodyIn c suffixSlot) (bodyIn c suffixUnicodeSlot)
       ∷ map (translate u) (strings c)
-      ++ bodiesFrom 15 1 c)
+      ++ bodiesFrom 15 2 c)
 
   moved-is : (u : Bool) → moved u c ≡ record { header = movedRecord u r .header; link = movedRecord u r .link; bodies = bodies u }
   unfolding inUnicode inBytes unicodeText movedRecord
@@ -94,9 +94,10 @@ module _ (d : List ℕ) (r : Record) where
           translated-long u (bodyIn c 13) (inRow (r .places) 13) (long-at 13),
           translated-long u (bodyIn c 14) (inRow (r .places) 14) (long-at 14),
           long-at 15,
+          long-at 16,
         )
 
-    each-long : (u : Bool) (k : ℕ) → k < 16 → length (getD (bodies u) k []) ≡ getD (movedPlaces u (gained r) (r .places)) k noPlace .len
+    each-long : (u : Bool) (k : ℕ) → k < 17 → length (getD (bodies u) k []) ≡ getD (movedPlaces u (gained r) (r .places)) k noPlace .len
     unfolding movedPlaces
     each-long u k h =
         sym (map-at length (bodies u) k [] 0 h)
@@ -177,7 +178,7 @@ module _ (d : List ℕ) (r : Record) where
     -- what is put is the canonical form of the moved contents
     pub moved-put : Inside d (r .places) → canonical (moved u c) ≡ movedFlat u d r (q u) (shape u) (writtenRow (q u))
     unfolding movedFlat movedInfo contentsFlat
-    moved-put i = moved-flat i u ∙ rw (first-texts u, later-texts u, strings-are, body-at 0, body-at 15)
+    moved-put i = moved-flat i u ∙ rw (first-texts u, later-texts u, strings-are, body-at 0, body-at 15, body-at 16)
 
   -- ---- how much is put
 
@@ -197,9 +198,9 @@ module _ (d : List ℕ) (r : Record) where
   last-size true = size-true (gained r) ∙ ap (λ (g : Bool). unicodeSize g (r .places) (shape true)) (sym gain-is)
   last-size false = rw (and-no (infoThere (movedFlags false (r .header .flags))))
 
-  pub info-size : (u : Bool) → infoTo (q u .link) (writtenRow (q u)) ≡ infoSize r (q u) (shape u)
+  pub info-size : (u : Bool) → infoThere (q u .header .flags) ≡ true → infoTo (q u .link) (writtenRow (q u)) ≡ infoSize r (q u) (shape u)
   unfolding infoSize slotsSize movedRecord movedPlaces
-  info-size u = info-parts (q u) refl refl ∙ omega (arith, last-size u)
+  info-size u i = info-put (q u) refl i refl ∙ omega (arith, last-size u)
 
   pub total-size : (u : Bool) → writtenLength (q u)
       ≡ 76

@@ -22,6 +22,6 @@ record-is u r e h l ps = rw (h, l, ps, e, long-is u r)
 
 pub places-are : (u g : Bool) (ps : List Place) {a b c d e f h : Place} → a ≡ unicodePlace u g (inRow ps localSlot) (inRow ps localUnicodeSlot) → b ≡ unicodePlace u g (inRow ps suffixSlot) (inRow ps suffixUnicodeSlot)
     → c ≡ movedPlace u (inRow ps 10) → d ≡ movedPlace u (inRow ps 11) → e ≡ movedPlace u (inRow ps 12) → f ≡ movedPlace u (inRow ps 13) → h ≡ movedPlace u (inRow ps 14)
-    → inRow ps 0 ∷ inRow ps 1 ∷ inRow ps 2 ∷ inRow ps 3 ∷ inRow ps 4 ∷ inRow ps 5 ∷ inRow ps 6 ∷ inRow ps 7 ∷ a ∷ b ∷ c ∷ d ∷ e ∷ f ∷ h ∷ inRow ps 15 ∷ [] ≡ movedPlaces u g ps
+    → inRow ps 0 ∷ inRow ps 1 ∷ inRow ps 2 ∷ inRow ps 3 ∷ inRow ps 4 ∷ inRow ps 5 ∷ inRow ps 6 ∷ inRow ps 7 ∷ a ∷ b ∷ c ∷ d ∷ e ∷ f ∷ h ∷ inRow ps 15 ∷ inRow ps 16 ∷ [] ≡ movedPlaces u g ps
 unfolding movedPlaces
 places-are u g ps i j k l m n o = cc

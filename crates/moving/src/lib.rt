@@ -25,7 +25,7 @@ ghost use Rattle.format.specs.Moving.{strings, moving, toUnicode, toByteStrings
 ghost use Rattle.format.specs.Steps.Lengths.{writtenRow, writtenLength};
 ghost use Rattle.format.specs.Steps.Shape.{shapeOf};
 ghost use Rattle.canonical.specs.Steps.Puts.{InBuffer};
-ghost use Rattle.moving.specs.Steps.Moves.{translatable, asked, textsMap, maps, moved, call, movedRecord, Inside, Going, ReadFrom};
+ghost use Rattle.moving.specs.Steps.Moves.{translatable, asked, textsMap, maps, headFits, moved, call, movedRecord, Inside, Going, ReadFrom};
 ghost use Rattle.moving.specs.Steps.Pieces.{movedFlat};
 
 // ---- whether it can be moved
@@ -101,6 +101,15 @@ fn maps(d: &[u8], r: Record, unicode: bool) -> bool
     asked(unicode, r.header.flags) & strings_map(d, r, unicode) & texts_map(d, r, unicode)
 }
 
+// On the way home the head becomes short, and has no further bytes then.
+fn head_fits(unicode: bool, r: Record) -> bool
+    ensures { λ b. ⌜ b ≡ headFits unicode r ⌝ }
+{
+    let row = r.places;
+    let further = row[format::FURTHER];
+    unicode | (further.len == 0)
+}
+
 // ---- the result
 
 // The sections in file order. `q` has the moved lengths.
@@ -110,7 +119,7 @@ fn put_moved(
     r: Record,
     q: Record,
     s: Shape,
-    sizes: [u32; 16],
+    sizes: [u32; 17],
     d: &[u8],
 ) -> usize
     requires going { ⌜ Going unicode (now d) (now out) r ⌝ }
@@ -130,10 +139,11 @@ fn put_moved(
     canonical::put_blocks(out, p, d, row[format::BLOCKS])
 }
 
-// The length alone decides whether it can be written, since all that was read could be.
+// The length alone decides whether it can be written, since all that was read could be and the head fits.
 fn write_moved(unicode: bool, r: Record, d: &[u8], out: &mut [u8], profile: Profile) -> Verdict
     requires read { ⌜ ReadFrom profile (now d) r ⌝ }
     requires maps { ⌜ maps unicode (contents (now d) r) ≡ true ⌝ }
+    requires head { ⌜ headFits unicode r ≡ true ⌝ }
     ensures answer { λ v. ⌜ v ≡ verdictOf (moving profile true (moved unicode (contents (now (d .entry)) r)) (length (now (out .entry)))) ⌝ }
     ensures output { λ _. ⌜ now (out .exit) ≡ outputOf (moving profile true (moved unicode (contents (now (d .entry)) r)) (length (now (out .entry)))) (now (out .entry)) ⌝ }
 {
@@ -164,6 +174,9 @@ fn move_to(unicode: bool, s: &[u8], out: &mut [u8], profile: Profile) -> Verdict
     let r = g.held;
     if !maps(s, r, unicode) {
         return Verdict::Refused(Fault::NoMap, 0);
+    }
+    if !head_fits(unicode, r) {
+        return Verdict::Refused(Fault::Unwritable, 0);
     }
     write_moved(unicode, r, s, out, profile)
 }

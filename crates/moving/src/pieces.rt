@@ -4,6 +4,7 @@ use canonical::heads::put_network_head;
 use canonical::heads::put_volume_head;
 use canonical::numbers::add_u16;
 use canonical::put_slots;
+use canonical::texts::put_body;
 use format::Place;
 use format::Record;
 use format::Shape;
@@ -70,7 +71,7 @@ fn put_string(out: &mut [u8], at: usize, d: &[u8], unicode: bool, b: Place) -> u
 pub fn put_strings(
     out: &mut [u8],
     at: usize,
-    row: [Place; 16],
+    row: [Place; 17],
     s: Shape,
     d: &[u8],
     unicode: bool,
@@ -118,7 +119,7 @@ fn put_unicode_texts(
     gain: bool,
     out: &mut [u8],
     at: usize,
-    row: [Place; 16],
+    row: [Place; 17],
     s: Shape,
     d: &[u8],
 ) -> usize
@@ -150,11 +151,11 @@ pub fn put_info(
     r: Record,
     q: Record,
     s: Shape,
-    sizes: [u32; 16],
+    sizes: [u32; 17],
     d: &[u8],
 ) -> usize
     requires inside { ⌜ Inside (now d) (r .places) ⌝ }
-    requires fits { ⌜ infoTo (q .link) sizes ≡ infoSize r q s ⌝ }
+    requires fits { ⌜ (there ≡ true → infoTo (q .link) sizes ≡ infoSize r q s) ⌝ }
     requires room { ⌜ Room (now out) at (cond there (infoTo (q .link) sizes) 0) ⌝ }
     ensures written { λ p. ⌜ Wrote (now (out .entry)) at
         (cond there (movedInfo (now (d .entry)) r q s sizes) [])
@@ -167,6 +168,7 @@ pub fn put_info(
     let row = r.places;
     let gain = l.long & !r.link.long;
     let p = put_info_head(out, at, l, sizes);
+    let p = put_body(out, p, d, row[format::FURTHER]);
     let p = put_volume_head(out, p, l, sizes);
     let p = put_slots(out, p, row, s, d, format::LABEL, format::NET);
     let p = put_network_head(out, p, l, sizes);

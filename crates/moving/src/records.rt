@@ -71,7 +71,7 @@ pub fn gains(r: Record) -> bool
 }
 
 // All but StringData and LinkInfo's Unicode texts stay.
-fn moved_places(unicode: bool, gain: bool, row: [Place; 16]) -> [Place; 16]
+fn moved_places(unicode: bool, gain: bool, row: [Place; 17]) -> [Place; 17]
     requires { ⌜ Few row ⌝ }
     ensures { λ r. ⌜ r ≡ movedPlaces unicode gain row ⌝ }
 {
@@ -102,6 +102,7 @@ fn moved_places(unicode: bool, gain: bool, row: [Place; 16]) -> [Place; 16]
         moved_place(unicode, row[13]),
         moved_place(unicode, row[14]),
         row[format::BLOCKS],
+        row[format::FURTHER],
     ]
 }
 

@@ -288,6 +288,7 @@ fn record_of(
     let suffix = i.suffix;
     let local_unicode = i.local_unicode;
     let suffix_unicode = i.suffix_unicode;
+    let further = i.further;
     Record {
         header: h,
         link: link_of(i),
@@ -308,6 +309,7 @@ fn record_of(
             arguments,
             icon,
             blocks,
+            further,
         ],
     }
 }

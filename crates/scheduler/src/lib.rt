@@ -130,7 +130,7 @@ pub extern "C" fn herringnet_read(s: &[u8], f: &mut [u64], profile: u32) -> u64
     if 1 < profile {
         return 203;
     }
-    if f.len() != 49 {
+    if f.len() != 51 {
         return 201;
     }
     let g = reader::read(s, profile_of(profile));
@@ -152,7 +152,7 @@ pub extern "C" fn herringnet_write(f: &[u64], d: &[u8], out: &mut [u8], profile:
     if 1 < profile {
         return 203;
     }
-    if f.len() != 49 {
+    if f.len() != 51 {
         return 201;
     }
     if !fields::are_record(f) {
@@ -205,7 +205,7 @@ pub extern "C" fn herringnet_path_block(
     if 1 < profile {
         return 203;
     }
-    if f.len() != 49 {
+    if f.len() != 51 {
         return 201;
     }
     if !fields::are_record(f) {

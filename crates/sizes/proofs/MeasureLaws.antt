@@ -13,8 +13,8 @@ use Rattle.format.specs.declared.Record.{Record}
 use Rattle.format.specs.Tests.{noPlace}
 use Rattle.format.specs.Presence.{infoThere, localThere, networkThere}
 use Rattle.format.specs.Shortcut.{sum}
-use Rattle.format.specs.Bodies.{BodyKind, BodyRow, bodyRow, bodyTable, along}
-use Rattle.format.specs.Contents.{Contents}
+use Rattle.format.specs.Bodies.{BodyKind, BodyRow, bodyRow, bodyTable, furtherSlot, along}
+use Rattle.format.specs.Contents.{Contents, bodyIn}
 use Rattle.format.specs.Writing.{headerBytes, canonical}
 use Rattle.format.specs.Steps.Lengths.{beside, writtenBody, writtenRow, writtenHeads, writtenLength}
 use Rattle.format.specs.Steps.Shape.{shapeOf}
@@ -23,7 +23,7 @@ use Rattle.format.proofs.RowLaws.{map-at}
 use Rattle.format.proofs.FlatLaws.{SizedOf, contents-flat, length-info-head, length-volume-head, length-network-head}
 use Rattle.sizes.proofs.WholeLaws.{kind-length, head-if}
 
-module _ (h : Header) (l : Link) (ps : List Place) (bs : List (List ℕ)) (long : (k : ℕ) → k < 16 → length (getD bs k []) ≡ getD ps k noPlace .len) where
+module _ (h : Header) (l : Link) (ps : List Place) (bs : List (List ℕ)) (long : (k : ℕ) → k < 17 → length (getD bs k []) ≡ getD ps k noPlace .len) where
   abbrev c : Contents
   c = record { header = h; link = l; bodies = bs }
 
@@ -33,7 +33,7 @@ module _ (h : Header) (l : Link) (ps : List Place) (bs : List (List ℕ)) (long 
   abbrev put : List (List ℕ)
   put = along [] rowBytes 0 (bodyTable (h .flags) l) bs
 
-  rows-length : (k : ℕ) (rows : List BodyRow) → k + length rows ≤ 16 → map length (along [] rowBytes k rows bs) ≡ along noPlace writtenBody k rows ps
+  rows-length : (k : ℕ) (rows : List BodyRow) → k + length rows ≤ 17 → map length (along [] rowBytes k rows bs) ≡ along noPlace writtenBody k rows ps
   rows-length k [] e = refl
   rows-length k (b ∷ rows) e = rw (one (b .there) (b .kind) (getD bs k []) (getD ps k noPlace) (long k (omega arith)), rows-length (k + 1) rows (omega arith))
     where
@@ -51,7 +51,7 @@ module _ (h : Header) (l : Link) (ps : List Place) (bs : List (List ℕ)) (long 
   unfolding contentsFlat bodiesBytes shapeOf headerBytes
   flat-length w true i =
       rw i
-      (simp (length-append, length-little)
+      (simp (length-append (bodyIn c furtherSlot), length-append, length-little)
       (omega (
         arith,
         length-info-head l w,

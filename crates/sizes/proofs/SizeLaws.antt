@@ -18,7 +18,7 @@ use Rattle.format.specs.declared.Shape.{Shape}
 use Rattle.format.specs.Tests.{noPlace}
 use Rattle.format.specs.Presence.{infoThere, localThere, networkThere}
 use Rattle.format.specs.Shortcut.{most, sum}
-use Rattle.format.specs.Bodies.{BodyKind, itemsKind, textKind, stringKind, blocksKind, BodyRow, bodyRow, tableOf, along, writtenHead}
+use Rattle.format.specs.Bodies.{BodyKind, itemsKind, textKind, stringKind, blocksKind, furtherKind, BodyRow, bodyRow, tableOf, along, writtenHead}
 use Rattle.format.specs.Steps.Lengths.{beside, volumePart, networkPart, writtenHeads}
 use Rattle.format.specs.Steps.Shape.{shapeOf}
 use Rattle.format.specs.Writing.{every}
@@ -38,11 +38,11 @@ none = bodyRow false itemsKind
 beside-row : (q : Record) → map (λ b. beside (b .kind)) (tableOf q) ≡ besidesOf (q .link .«label_unicode»)
 beside-row q = go (q .link .«label_unicode»)
   where
-    go : (u : Bool) → 4 ∷ bytesOf u 1 ∷ 1 ∷ 1 ∷ 1 ∷ 2 ∷ 2 ∷ 1 ∷ 2 ∷ 2 ∷ 2 ∷ 2 ∷ 2 ∷ 2 ∷ 2 ∷ 4 ∷ [] ≡ besidesOf u
+    go : (u : Bool) → 4 ∷ bytesOf u 1 ∷ 1 ∷ 1 ∷ 1 ∷ 2 ∷ 2 ∷ 1 ∷ 2 ∷ 2 ∷ 2 ∷ 2 ∷ 2 ∷ 2 ∷ 2 ∷ 4 ∷ 0 ∷ [] ≡ besidesOf u
     go true = refl
     go false = refl
 
-pub size-at : (q : Record) {s : Shape} → s ≡ shapeOf (q .header .flags) (q .link) → (j : ℕ) → j < 16
+pub size-at : (q : Record) {s : Shape} → s ≡ shapeOf (q .header .flags) (q .link) → (j : ℕ) → j < 17
     → cond (getD (s .there) j false) (capped (getD (q .places) j noPlace .len) + getD (besidesOf (q .link .«label_unicode»)) j 0) 0 ≡ getD (sizesOf q) j 0
 unfolding shapeOf sizesOf
 size-at q {s} e j h =
@@ -54,7 +54,7 @@ size-at q {s} e j h =
     same : (k : ℕ) {t u : Bool} {m n : ℕ} → t ≡ u → m ≡ n → cond t (k + m) 0 ≡ cond u (k + n) 0
     same k e f = rw (e, f)
 
-pub sizes-row : (q : Record) → length (sizesOf q) ≡ 16
+pub sizes-row : (q : Record) → length (sizesOf q) ≡ 17
 unfolding sizesOf
 sizes-row q = refl
 
@@ -66,6 +66,7 @@ few-beside (textKind true) = omega arith
 few-beside (textKind false) = omega arith
 few-beside (stringKind u) = omega arith
 few-beside blocksKind = omega arith
+few-beside (furtherKind u) = omega arith
 
 few-sum : (k : ℕ) (bs : List BodyRow) (ps : List Place) → sum (along noPlace cappedBody k bs ps) ≤ 65541 * length bs
 few-sum k [] ps = omega arith

@@ -14,7 +14,7 @@ use Rattle.format.specs.declared.Record.{Record}
 use Rattle.format.specs.Tests.{noPlace}
 use Rattle.format.specs.Presence.{infoThere, localThere, networkThere}
 use Rattle.format.specs.Shortcut.{most, sum}
-use Rattle.format.specs.Bodies.{BodyKind, itemsKind, textKind, stringKind, blocksKind, BodyRow, bodyRow, tableOf, along, kept, zeroed, allInside, placed}
+use Rattle.format.specs.Bodies.{BodyKind, itemsKind, textKind, stringKind, blocksKind, furtherKind, BodyRow, bodyRow, tableOf, along, kept, zeroed, allInside, placed}
 use Rattle.format.specs.Contents.{bytesAt, contents}
 use Rattle.format.specs.Writing.{ifThere, itemsBytes, stringBytes, headerBytes, canonical}
 use Rattle.format.specs.Steps.Lengths.{beside, writtenBody, writtenRow, writtenHeads, writtenLength}
@@ -39,6 +39,7 @@ kind-length itemsKind x = simp (length-append, length-little) (omega arith)
 kind-length (textKind u) x = rw (length-append, width)
 kind-length (stringKind u) x = simp (length-append, length-little) (omega arith)
 kind-length blocksKind x = simp (length-append, length-little)
+kind-length (furtherKind u) x = omega arith
 
 slot-length : (d : List ℕ) (t : Bool) (k : BodyKind) (p : Place) → leb (cond t p noPlace .at + cond t p noPlace .len) (length d) ≡ true
     → length (slotBytes d (bodyRow t k) p) ≡ writtenBody (bodyRow t k) p

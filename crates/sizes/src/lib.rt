@@ -26,11 +26,11 @@ fn clipped(n: usize) -> u32
 }
 
 // The bytes beside each body.
-fn besides(unicode: bool) -> [u32; 16]
+fn besides(unicode: bool) -> [u32; 17]
     ensures { λ r. ⌜ r ≡ besidesOf unicode ⌝ }
 {
     let label: u32 = if unicode { 2 } else { 1 };
-    [4, label, 1, 1, 1, 2, 2, 1, 2, 2, 2, 2, 2, 2, 2, 4]
+    [4, label, 1, 1, 1, 2, 2, 1, 2, 2, 2, 2, 2, 2, 2, 4, 0]
 }
 
 fn size(there: bool, b: Place, beside: u32) -> u32
@@ -44,16 +44,16 @@ fn size(there: bool, b: Place, beside: u32) -> u32
 }
 
 // The size of each slot as written; 0 where nothing is there.
-pub fn sizes_of(q: Record, s: Shape) -> [u32; 16]
+pub fn sizes_of(q: Record, s: Shape) -> [u32; 17]
     requires { ⌜ s ≡ shapeOf (q .header .flags) (q .link) ⌝ }
     ensures { λ r. ⌜ r ≡ sizesOf q ⌝ }
 {
     let there = s.there;
     let row = q.places;
     let beside = besides(q.link.label_unicode);
-    let mut sizes = [0u32; 16];
+    let mut sizes = [0u32; 17];
     let mut k: usize = 0;
-    while k < 16 {
+    while k < 17 {
         sizes[k] = size(there[k], row[k], beside[k]);
         k += 1;
     }
@@ -76,7 +76,7 @@ pub fn network_head(unicode: bool) -> u32
     if unicode { 0x1C } else { 0x14 }
 }
 
-// Where LinkInfo's first piece starts.
+// LinkInfo's own, without its further bytes.
 pub fn info_head(long: bool) -> u32
     ensures { λ r. ⌜ r ≡ writtenHead long ⌝ }
 {
@@ -111,13 +111,13 @@ fn heads(q: Record) -> u32
 }
 
 // The header, the heads and all sizes.
-pub fn end_of(q: Record, sizes: [u32; 16]) -> u32
+pub fn end_of(q: Record, sizes: [u32; 17]) -> u32
     requires { ⌜ sizes ≡ sizesOf q ⌝ }
     ensures { λ r. ⌜ r ≡ clippedLength q ⌝ }
 {
     let mut end = 76 + heads(q);
     let mut k: usize = 0;
-    while k < 16 {
+    while k < 17 {
         end += sizes[k];
         k += 1;
     }

@@ -58,21 +58,21 @@ link-same d q = numbers-same (q .header .flags) (q .link) (infoThere (q .header 
 
 -- ---- the bodies
 
-bodies-kinds : (d : List ℕ) (q : Record) → every (along noPlace (rowOk d) 0 (tableOf q) (q .places)) ≡ bodiesOk d (q .places) (shapeOf (q .header .flags) (q .link))
+bodies-kinds : (d : List ℕ) (q : Record) → every (along noPlace (rowOk d) 0 (tableOf q) (q .places)) ≡ bodiesOk d (q .places) (shapeOf (q .header .flags) (q .link)) (q .link .long)
 unfolding bodiesOk slotsOk shapeOf
 bodies-kinds d q = simp (and-assoc, and-yes)
 
-pub bodies-same : (d : List ℕ) (q : Record) → every (writableBodies (contents d q)) ≡ bodiesOk d (q .places) (shapeOf (q .header .flags) (q .link))
+pub bodies-same : (d : List ℕ) (q : Record) → every (writableBodies (contents d q)) ≡ bodiesOk d (q .places) (shapeOf (q .header .flags) (q .link)) (q .link .long)
 unfolding contents
 bodies-same d q = ap every (along-contents writableRow true (λ k x. refl) d q) ∙ bodies-kinds d q
 
 -- ---- together
 
 pub sections-are : (profile : Profile) (d : List ℕ) (q : Record) {s : Shape} {h l b : Bool} → s ≡ shapeOf (q .header .flags) (q .link) → h ≡ writableHeader profile (q .header)
-    → l ≡ writableLink (q .header .flags) (q .link) → b ≡ bodiesOk d (q .places) s
+    → l ≡ writableLink (q .header .flags) (q .link) → b ≡ bodiesOk d (q .places) s (q .link .long)
     → (h && l && b) ≡ every (writableHeader profile (contents d q .header) ∷ writableLink (contents d q .header .flags) (contents d q .link) ∷ every (writableBodies (contents d q)) ∷ [])
 unfolding contents present
 sections-are profile d q {s} {h} {l} {b} e eh el eb =
-    let m : b ≡ every (writableBodies (contents d q)) = eb ∙ ap (bodiesOk d (q .places)) e ∙ sym (bodies-same d q) in
+    let m : b ≡ every (writableBodies (contents d q)) = eb ∙ ap (λ (z : Shape). bodiesOk d (q .places) z (q .link .long)) e ∙ sym (bodies-same d q) in
     let n : l ≡ writableLink (q .header .flags) (contents d q .link) = el ∙ sym (link-same d q) in
     joined-every h (l ∷ b ∷ []) ∙ rw (eh, m, n)

@@ -44,7 +44,7 @@ inside-every n k (b ∷ bs) ps = ap (λ (t : Bool). insideRow n b (getD ps k noP
 abbrev pub thereRow : List Bool → ℕ → BodyRow
 thereRow there = rowIn (λ u. itemsKind) there there
 
-pub placed-rest : (n : ℕ) (q : Record) {s : Shape} → s ≡ shapeOf (q .header .flags) (q .link) → restOk (insideRow n) (thereRow (s .there)) (q .places) 16 0 ≡ placed n q
+pub placed-rest : (n : ℕ) (q : Record) {s : Shape} → s ≡ shapeOf (q .header .flags) (q .link) → restOk (insideRow n) (thereRow (s .there)) (q .places) 17 0 ≡ placed n q
 unfolding placed shapeOf
 placed-rest n q e = rw e (sym (inside-every n 0 (tableOf q) (q .places)))
 

@@ -13,7 +13,7 @@ ghost use lib.Dec.{eqb, leb};
 ghost use Rattle.format.specs.Tests.{noPlace};
 ghost use Rattle.format.specs.Bodies.{blocksSlot, placed};
 ghost use Rattle.format.specs.Contents.{bytesAt, contents};
-ghost use Rattle.format.specs.Writing.{writableIf, writableHeader, writableItems, writableText, writableString, writableBlocks, writableBody, writableLink, writable};
+ghost use Rattle.format.specs.Writing.{writableIf, writableHeader, writableItems, writableText, writableString, writableBlocks, writableFurther, writableBody, writableLink, writable};
 ghost use Rattle.format.specs.Steps.Shape.{shapeOf};
 ghost use Rattle.sizes.specs.Steps.Sizes.{clippedLength};
 ghost use Rattle.canonical.specs.Steps.Puts.{InBuffer, RowInBuffer};
@@ -39,7 +39,7 @@ pub fn placed(q: Record, s: Shape, n: usize) -> bool
     let there = s.there;
     let row = q.places;
     let mut k: usize = 0;
-    while k < 16 {
+    while k < 17 {
         if there[k] {
             if !inside(row[k], n) {
                 return false;
@@ -119,6 +119,14 @@ fn blocks_ok(x: &[u8]) -> bool
     blocks::run(x, 0, &mut firsts) == x.len()
 }
 
+// A short head has no further bytes.
+fn further_if(there: bool, long: bool, b: Place, d: &[u8]) -> bool
+    requires { ⌜ (there ≡ true → InBuffer (now d) b) ⌝ }
+    ensures { λ r. ⌜ r ≡ writableIf there (writableFurther long) (bytesAt (now (d .entry)) b) ⌝ }
+{
+    !there | long | (b.len == 0)
+}
+
 // ---- whether a section can be written
 
 fn header_ok(h: Header, profile: Profile) -> bool
@@ -159,9 +167,9 @@ fn slot_ok(k: usize, unicode: bool, x: &[u8]) -> bool
 }
 
 // The bodies of characters in the slots from one to before another.
-fn slots_ok(row: [Place; 16], s: Shape, d: &[u8], from: usize, to: usize) -> bool
+fn slots_ok(row: [Place; 17], s: Shape, d: &[u8], from: usize, to: usize) -> bool
     requires inside { ⌜ RowInBuffer (now d) row s ⌝ }
-    requires span { ⌜ (from ≤ to) × (to ≤ 16) ⌝ }
+    requires span { ⌜ (from ≤ to) × (to ≤ 17) ⌝ }
     ensures { λ r. ⌜ r ≡ slotsOk (now (d .entry)) row s from (to - from) ⌝ }
 {
     let there = s.there;
@@ -179,16 +187,17 @@ fn slots_ok(row: [Place; 16], s: Shape, d: &[u8], from: usize, to: usize) -> boo
 }
 
 // Texts and strings apart, so that the compiler unrolls both walks.
-fn bodies_ok(row: [Place; 16], s: Shape, d: &[u8]) -> bool
+fn bodies_ok(row: [Place; 17], s: Shape, long: bool, d: &[u8]) -> bool
     requires inside { ⌜ RowInBuffer (now d) row s ⌝ }
     requires blocks { ⌜ InBuffer (now d) (getD row blocksSlot noPlace) ⌝ }
-    ensures { λ r. ⌜ r ≡ bodiesOk (now (d .entry)) row s ⌝ }
+    ensures { λ r. ⌜ r ≡ bodiesOk (now (d .entry)) row s long ⌝ }
 {
     let there = s.there;
     items_if(there[format::ITEMS], row[format::ITEMS], d)
         & slots_ok(row, s, d, format::LABEL, format::STRINGS)
         & slots_ok(row, s, d, format::STRINGS, format::BLOCKS)
         & blocks_ok(body(d, row[format::BLOCKS]))
+        & further_if(there[format::FURTHER], long, row[format::FURTHER], d)
 }
 
 // ---- the whole
@@ -204,5 +213,7 @@ pub fn writable(q: Record, s: Shape, end: u32, d: &[u8], profile: Profile) -> bo
         return false;
     }
     let row = q.places;
-    header_ok(q.header, profile) & link_ok(q.header.flags, q.link) & bodies_ok(row, s, d)
+    header_ok(q.header, profile)
+        & link_ok(q.header.flags, q.link)
+        & bodies_ok(row, s, q.link.long, d)
 }

@@ -57,7 +57,7 @@ put-info-requires c κs =
     let sized = sizes-exact q (start .pre .1 .0) (start .pre .0) (start .pre .1 .1) in
     let info : cond (after-info-there .info-there .result) (infoTo (q .link) (start .args .sizes)) 0 ≡ cond (infoThere (q .header .flags)) (infoTo (q .link) (writtenRow q)) 0 = rw (after-info-there .info-there .ensures, sized) in
     let w = join (after-put-header .put-header .ensures) (after-put-items-if .put-items-if .ensures) in
-    (start .pre .1 .0, (sized, (row-inside q (start .pre .1 .0) (start .args .d .now) (start .pre .0 .inside), record { room = omega (arith, room .room, kept w, w .next); few = omega (arith, room .few) })))
+    (start .pre .1 .0, (sized, (row-inside q (start .pre .1 .0) (start .args .d .now) (start .pre .0 .inside), (record { room = omega (arith, room .room, kept w, w .next); few = omega (arith, room .few) }, after-info-there .info-there .ensures))))
 
 put-slots-requires : tie.Need-put-slots-requires
 put-slots-requires c κs =

@@ -12,10 +12,10 @@ use Rattle.fields.proofs.places_from.Statement.{statement}
 use Rattle.fields.proofs.places_from.Tie as tie
 
 abbrev Inv-loop : tie.InvT-loop
-Inv-loop f row₀ k₀ row k = (length row ≡ 16) × ((k ≤ 16) × ((j : ℕ) → j < k → getD row j noPlace ≡ slotAt f j))
+Inv-loop f row₀ k₀ row k = (length row ≡ 17) × ((k ≤ 17) × ((j : ℕ) → j < k → getD row j noPlace ≡ slotAt f j))
 
 abbrev μ-loop : tie.MeasureT-loop
-μ-loop f row₀ k₀ row k = 16 - k
+μ-loop f row₀ k₀ row k = 17 - k
 
 loop-holds : tie.Need-loop-holds Inv-loop μ-loop
 loop-holds c = (refl, (omega arith, λ j h. absurd (omega arith)))

@@ -30,7 +30,7 @@ returns c =
     let after-put-numbers = after-row .before .before .before in
     let after-numbers-of = after-put-numbers .before .before .before in
     let start = after-numbers-of .before .before in
-    let row : length (start .args .q .places) ≡ 16 = simp length-map at (start .good .1 .0 .1 .1 .1 .1 .0 .1 .0 .1) in
+    let row : length (start .args .q .places) ≡ 17 = simp length-map at (start .good .1 .0 .1 .1 .1 .1 .0 .1 .0 .1) in
     round-trip _ (type-fits _ _ (start .good .1 .0)) row
     (filled _ _ (start .pre) row (after-numbers-of .numbers-of .ensures) (after-put-numbers .put-numbers .ensures) (after-put-places .put-places .ensures))
 

@@ -10,10 +10,10 @@ use Rattle.fields.proofs.put_places.Statement.{statement}
 use Rattle.fields.proofs.put_places.Tie as tie
 
 abbrev Inv-loop : tie.InvT-loop
-Inv-loop f₀ row k₀ f k = (k ≤ 16) × (length f ≡ length f₀) × (f ≡ putting f₀ 17 (pairs row) (2 * k))
+Inv-loop f₀ row k₀ f k = (k ≤ 17) × (length f ≡ length f₀) × (f ≡ putting f₀ 17 (pairs row) (2 * k))
 
 abbrev μ-loop : tie.MeasureT-loop
-μ-loop f₀ row k₀ f k = 16 - k
+μ-loop f₀ row k₀ f k = 17 - k
 
 loop-holds : tie.Need-loop-holds Inv-loop μ-loop
 loop-holds c = (omega arith, refl, put-none _ _ _)

@@ -12,7 +12,7 @@ use Rattle.format.specs.Tests.{noPlace}
 use Rattle.format.specs.Presence.{itemsThere, infoThere, localThere, networkThere, deviceThere, providerThere}
 use Rattle.format.specs.Volume.{labelLeast}
 use Rattle.format.specs.Network.{networkHead}
-use Rattle.format.specs.Bodies.{BodyKind, itemsKind, textKind, stringKind, blocksKind, BodyRow, itemsSlot, labelSlot, localSlot, netSlot, deviceSlot, netUnicodeSlot, deviceUnicodeSlot, suffixSlot, localUnicodeSlot, suffixUnicodeSlot, blocksSlot, placeIn, along, writtenHead}
+use Rattle.format.specs.Bodies.{BodyKind, itemsKind, textKind, stringKind, blocksKind, furtherKind, BodyRow, itemsSlot, labelSlot, localSlot, netSlot, deviceSlot, netUnicodeSlot, deviceUnicodeSlot, suffixSlot, localUnicodeSlot, suffixUnicodeSlot, blocksSlot, furtherSlot, placeIn, along, writtenHead}
 use Rattle.format.specs.Contents.{Contents, bytesAt, bodyIn}
 use Rattle.format.specs.Writing.{endToEnd, ifThere, headerBytes, itemsBytes, textBytes, twoFields, offsetField, labelFields, stringBytes, blocksBytes}
 use Rattle.format.specs.Steps.Lengths.{volumePart, networkPart}
@@ -25,6 +25,7 @@ bodyBytes itemsKind = itemsBytes
 bodyBytes (textKind unicode) = textBytes unicode
 bodyBytes (stringKind unicode) = stringBytes unicode
 bodyBytes blocksKind = blocksBytes
+bodyBytes (furtherKind long) = λ x. x
 
 abbrev pub rowBytes : BodyRow → List ℕ → List ℕ
 rowBytes b = ifThere (b .there) (bodyBytes (b .kind))
@@ -81,8 +82,11 @@ module _ (l : Link) (sizes : List ℕ) where
       ∷ [])
 
   -- where the pieces start in LinkInfo
+  abbrev pub piecesFrom : ℕ
+  piecesFrom = writtenHead (l .long) + size furtherSlot
+
   abbrev pub localFrom : ℕ
-  localFrom = writtenHead (l .long) + (volumePart l + size labelSlot)
+  localFrom = piecesFrom + (volumePart l + size labelSlot)
 
   abbrev pub networkFrom : ℕ
   networkFrom = localFrom + size localSlot
@@ -103,9 +107,9 @@ module _ (l : Link) (sizes : List ℕ) where
   infoHeadBytes =
       endToEnd
       (little 4 infoTo
-      ∷ little 4 (writtenHead (l .long))
+      ∷ little 4 piecesFrom
       ∷ little 4 (l .flags)
-      ∷ offsetField (localThere (l .flags)) (writtenHead (l .long))
+      ∷ offsetField (localThere (l .flags)) piecesFrom
       ∷ offsetField (localThere (l .flags)) localFrom
       ∷ offsetField (networkThere (l .flags)) networkFrom
       ∷ little 4 suffixFrom
@@ -114,13 +118,14 @@ module _ (l : Link) (sizes : List ℕ) where
 
 -- ---- the whole
 
--- LinkInfo: each head before the bodies that it leads to
+-- LinkInfo: each head before the bodies that it leads to, its own with the further bytes
 unfoldable pub infoFlat : List ℕ → Record → Shape → List ℕ → List ℕ
 infoFlat d q s sizes =
     infoHeadBytes (q .link) sizes
+    ++ (bytesAt d (placeIn q furtherSlot)
     ++ (cond (localThere (q .link .flags)) (volumeHeadBytes (q .link) sizes) []
     ++ (slotsBytes d (q .places) 1 (rowsFrom (rowAs textKind s) 1 2)
-    ++ (cond (networkThere (q .link .flags)) (networkHeadBytes (q .link) sizes) [] ++ slotsBytes d (q .places) 3 (rowsFrom (rowAs textKind s) 3 7))))
+    ++ (cond (networkThere (q .link .flags)) (networkHeadBytes (q .link) sizes) [] ++ slotsBytes d (q .places) 3 (rowsFrom (rowAs textKind s) 3 7)))))
 
 unfoldable pub flatBytes : List ℕ → Record → Shape → List ℕ → List ℕ
 flatBytes d q s sizes =
@@ -136,8 +141,9 @@ contentsFlat c s sizes =
     ++ (ifThere (itemsThere (c .header .flags)) itemsBytes (bodyIn c itemsSlot)
     ++ (cond (infoThere (c .header .flags))
     (infoHeadBytes (c .link) sizes
+    ++ (bodyIn c furtherSlot
     ++ (cond (localThere (c .link .flags)) (volumeHeadBytes (c .link) sizes) []
     ++ (bodiesBytes (c .bodies) 1 (rowsFrom (rowAs textKind s) 1 2)
-    ++ (cond (networkThere (c .link .flags)) (networkHeadBytes (c .link) sizes) [] ++ bodiesBytes (c .bodies) 3 (rowsFrom (rowAs textKind s) 3 7)))))
+    ++ (cond (networkThere (c .link .flags)) (networkHeadBytes (c .link) sizes) [] ++ bodiesBytes (c .bodies) 3 (rowsFrom (rowAs textKind s) 3 7))))))
     []
     ++ (bodiesBytes (c .bodies) 10 (rowsFrom (rowAs stringKind s) 10 5) ++ blocksBytes (bodyIn c blocksSlot))))

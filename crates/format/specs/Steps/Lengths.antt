@@ -11,14 +11,15 @@ use Rattle.format.specs.Presence.{infoThere, localThere, networkThere}
 use Rattle.format.specs.Volume.{labelLeast}
 use Rattle.format.specs.Network.{networkHead}
 use Rattle.format.specs.Shortcut.{sum}
-use Rattle.format.specs.Bodies.{BodyKind, itemsKind, textKind, stringKind, blocksKind, BodyRow, tableOf, along, writtenHead}
+use Rattle.format.specs.Bodies.{BodyKind, itemsKind, textKind, stringKind, blocksKind, furtherKind, BodyRow, tableOf, along, writtenHead}
 
--- the bytes beside a body: size and two zero bytes; terminator; count; terminal block
+-- the bytes beside a body: size and two zero bytes; terminator; count; terminal block; none
 abbrev pub beside : BodyKind → ℕ
 beside itemsKind = 4
 beside (textKind unicode) = bytesOf unicode 1
 beside (stringKind unicode) = 2
 beside blocksKind = 4
+beside (furtherKind long) = 0
 
 abbrev pub writtenBody : BodyRow → Place → ℕ
 writtenBody b p = cond (b .there) (p .len + beside (b .kind)) 0

@@ -4,7 +4,7 @@ use mathlib.Core.Bool.{Bool, true, false, _&&_}
 use lib.Dec.{leb}
 use Rattle.format.specs.Presence.{localThere, networkThere, localUnicodeThere, deviceThere, deviceUnicodeThere}
 use Rattle.format.specs.Contents.{VolumeContents, NetworkContents, InfoContents}
-use Rattle.format.specs.Writing.{every, writableIf, writableText}
+use Rattle.format.specs.Writing.{every, writableIf, writableText, writableFurther}
 
 abbrev pub writableVolume : VolumeContents → Bool
 writableVolume v = leb (v .drive) 6 && writableText (v .unicode) (v .label)
@@ -29,4 +29,5 @@ writableInfo i =
     ∷ writableText false (i .suffix)
     ∷ writableIf (localUnicodeThere (i .long) (i .flags)) (writableText true) (i .localUnicode)
     ∷ writableIf (i .long) (writableText true) (i .suffixUnicode)
+    ∷ writableFurther (i .long) (i .further)
     ∷ [])

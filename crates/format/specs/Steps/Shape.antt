@@ -5,13 +5,14 @@ use mathlib.Core.Bool.{Bool, false}
 use lib.ListN.{getD}
 use Rattle.format.specs.declared.Link.{Link}
 use Rattle.format.specs.declared.Shape.{Shape}
-use Rattle.format.specs.Bodies.{BodyKind, itemsKind, textKind, stringKind, blocksKind, BodyRow, bodyRow, bodyTable}
+use Rattle.format.specs.Bodies.{BodyKind, itemsKind, textKind, stringKind, blocksKind, furtherKind, BodyRow, bodyRow, bodyTable}
 
 abbrev pub wideKind : BodyKind → Bool
 wideKind itemsKind = false
 wideKind (textKind unicode) = unicode
 wideKind (stringKind unicode) = unicode
 wideKind blocksKind = false
+wideKind (furtherKind long) = false
 
 unfoldable pub shapeOf : ℕ → Link → Shape
 shapeOf flags l = record {

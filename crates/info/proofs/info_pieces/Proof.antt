@@ -108,9 +108,22 @@ unless-requires-4 c κs = search needs
 first-requires-2 : tie.Need-first-requires-2
 first-requires-2 c κs = search needs
 
+further-in-requires : tie.Need-further-in-requires
+further-in-requires c κs =
+    let after-local = c .before .before .before .before in
+    let after-unless4 = after-local .before .before .before in
+    let after-unless2 = after-unless4 .before .before .before in
+    let after-text-at4 = after-unless2 .before .before .before in
+    let after-field = after-text-at4 .before .before .before in
+    let after-network = after-field .before .before .before in
+    let after-u32-at3 = after-network .before .before .before in
+    let after-local-there = after-u32-at3 .before .before .before in
+    let after-u32-at = after-local-there .before .before in
+    omega (arith, after-u32-at .before .before .pre .1)
+
 returns : tie.Need-returns
 returns c =
-    let after-local = c .before .before .before .before in
+    let after-local = c .before .before .before .before .before in
     let after-first2 = after-local .before .before in
     let after-unless4 = after-first2 .before in
     let after-first = after-unless4 .before in
@@ -137,7 +150,7 @@ returns c =
     (after-network-there .network-there .ensures) (after-volume .volume .ensures .0) (after-u32-at3 .u32-at3 .ensures) (after-text-at .text-at .ensures .0) (after-network .network .ensures .0)
     (after-u32-at4 .u32-at4 .ensures) (after-text-at2 .text-at2 .ensures .0) (after-field .field .ensures) (after-text-at3 .text-at3 .ensures .0) (after-field2 .field2 .ensures) (after-text-at4 .text-at4 .ensures .0) in
     pieces-are _ _ (after-u32-at .before .before .pre .2) S (after-apart-six .apart-six .ensures) (after-unless .unless .ensures) (after-unless2 .unless2 .ensures) (after-unless3 .unless3 .ensures)
-    (after-first .first .ensures) (after-unless4 .unless4 .ensures) (after-first2 .first2 .ensures) (after-u32-at2 .u32-at2 .ensures) (after-u32-at .u32-at .ensures)
+    (after-first .first .ensures) (after-unless4 .unless4 .ensures) (after-first2 .first2 .ensures) (after-u32-at2 .u32-at2 .ensures) (after-u32-at .u32-at .ensures) (c .further-in .ensures)
 
 pub info-pieces-spec : {M : Type 1} → statement M
 info-pieces-spec =
@@ -168,4 +181,5 @@ info-pieces-spec =
     first-requires
     unless-requires-4
     first-requires-2
+    further-in-requires
     returns)

@@ -18,7 +18,7 @@ use Rattle.format.specs.Pieces.{Piece, textPiece, textPlace, structTests, tests
 use Rattle.format.specs.Steps.Wrong.{wrong}
 use Rattle.format.specs.Volume.{volumePiece, volumeAt, volumeRules, volumeFields, noVolume}
 use Rattle.format.specs.Network.{networkRules, networkPiece, networkFields, networkAt, noNetwork}
-use Rattle.format.specs.Info.{infoHead, longHead, infoFlags, hasLocal, hasNetwork, infoPieces, hasLocalUnicode}
+use Rattle.format.specs.Info.{infoHead, longHead, infoFlags, hasLocal, hasNetwork, infoPieces, hasLocalUnicode, furtherPlace}
 use Rattle.info.specs.declared.Text.{Text}
 use Rattle.info.specs.declared.VolumeFound.{VolumeFound}
 use Rattle.info.specs.declared.NetworkFound.{NetworkFound}
@@ -145,7 +145,7 @@ NetworkAnswer p v r = PieceAnswers networkNumber networkValue (all (networkRules
 
 -- ---- LinkInfo
 
--- the first field at fault, and what each piece says that passes
+-- the first field at fault, what each piece says that passes, and where the head's further bytes stand
 unfoldable pub piecesFound : ℕ → List ℕ → Pieces
 piecesFound start l = record {
   wrong = wrong (pieceTests (infoHead l) (infoPieces l));
@@ -158,5 +158,6 @@ piecesFound start l = record {
     suffix = textFound true false l start (infoHead l) (u32At l 24) .body;
     «local_unicode» = textFound (hasLocalUnicode l) true l start (infoHead l) (u32At l 28) .body;
     «suffix_unicode» = textFound (longHead l) true l start (infoHead l) (u32At l 32) .body;
+    further = furtherPlace start l;
   };
 }

@@ -45,7 +45,7 @@ put-info-requires c κs =
     let items = ap (λ (t : Bool). cond t (inRow (start .args .r .places) 0 .len + 4) 0) (c .before .before .before .before .before .before .before .items-there .ensures) in
     let info = ap (λ (t : Bool). cond t (infoTo (q .link) (start .args .sizes)) 0) (c .before .info-there .ensures) in
     let w = join (c .before .before .before .before .before .before .before .before .before .before .put-header .ensures) (c .before .before .before .before .put-items-if .ensures) in
-    (start .pre .0 .inside, (info-fits (start .args .d .now) (start .args .r) (start .args .unicode) (start .pre .1 .0) (start .pre .1 .1 .0) (start .pre .1 .1 .1), record { room = omega (arith, room .room, kept w, w .next); few = omega (arith, room .few) }))
+    (start .pre .0 .inside, (λ t. info-fits (start .args .d .now) (start .args .r) (start .args .unicode) (start .pre .1 .0) (start .pre .1 .1 .0) (start .pre .1 .1 .1) (sym (c .before .info-there .ensures) ∙ t), record { room = omega (arith, room .room, kept w, w .next); few = omega (arith, room .few) }))
 
 put-strings-requires : tie.Need-put-strings-requires
 put-strings-requires c κs =

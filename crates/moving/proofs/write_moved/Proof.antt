@@ -8,7 +8,7 @@ use Rattle.moving.proofs.write_moved.Tie as tie
 moved-requires : tie.Need-moved-requires
 moved-requires c κs =
     let start = c .before .before in
-    has-lengths (start .args .profile) (start .pre .0) (start .args .unicode) (start .pre .1)
+    has-lengths (start .args .profile) (start .pre .0) (start .args .unicode) (start .pre .1 .0)
 
 shape-of-requires : tie.Need-shape-of-requires
 shape-of-requires c κs = search needs
@@ -22,7 +22,7 @@ end-of-requires c κs = search needs
 returns : tie.Need-returns
 returns c =
     let start = c .before .before .before .before .before .before .before in
-    moved-long (start .args .profile) (start .pre .0) (start .args .unicode) (start .pre .1) (c .before .before .before .before .moved .ensures) (c .before .end-of .ensures) (start .args .out .now) (omega arith)
+    moved-long (start .args .profile) (start .pre .0) (start .args .unicode) (start .pre .1 .0) (start .pre .1 .1) (c .before .before .before .before .moved .ensures) (c .before .end-of .ensures) (start .args .out .now) (omega arith)
 
 cast-if2 : tie.Need-cast-if2
 cast-if2 c = search needs
@@ -30,12 +30,12 @@ cast-if2 c = search needs
 returns-2 : tie.Need-returns-2
 returns-2 c =
     let start = c .before .before .before .before .before .before .before .before in
-    moved-short (start .args .profile) (start .pre .0) (start .args .unicode) (start .pre .1) (c .before .before .before .before .before .moved .ensures) (c .before .before .end-of .ensures) (omega arith) (start .args .out .now) (omega arith)
+    moved-short (start .args .profile) (start .pre .0) (start .args .unicode) (start .pre .1 .0) (start .pre .1 .1) (c .before .before .before .before .before .moved .ensures) (c .before .before .end-of .ensures) (omega arith) (start .args .out .now) (omega arith)
 
 put-moved-requires : tie.Need-put-moved-requires
 put-moved-requires c κs =
     let start = c .before .before .before .before .before .before .before .before .before in
-    (moved-going (start .args .profile) (start .pre .0) (start .args .unicode) (start .pre .1) (c .before .before .before .before .before .before .moved .ensures) (c .before .before .before .end-of .ensures) (omega arith) (start .args .out .now) (omega arith), (c .before .before .before .before .before .before .moved .ensures, (c .before .before .before .before .before .shape-of .ensures, moved-sized (start .args .profile) (start .pre .0) (start .args .unicode) (start .pre .1) (c .before .before .before .before .before .before .moved .ensures) (c .before .before .before .end-of .ensures) (omega arith) (c .before .before .before .before .sizes-of .ensures))))
+    (moved-going (start .args .profile) (start .pre .0) (start .args .unicode) (start .pre .1 .0) (start .pre .1 .1) (c .before .before .before .before .before .before .moved .ensures) (c .before .before .before .end-of .ensures) (omega arith) (start .args .out .now) (omega arith), (c .before .before .before .before .before .before .moved .ensures, (c .before .before .before .before .before .shape-of .ensures, moved-sized (start .args .profile) (start .pre .0) (start .args .unicode) (start .pre .1 .0) (start .pre .1 .1) (c .before .before .before .before .before .before .moved .ensures) (c .before .before .before .end-of .ensures) (omega arith) (c .before .before .before .before .sizes-of .ensures))))
 
 same-length : tie.Need-same-length
 same-length c = search needs
@@ -43,7 +43,7 @@ same-length c = search needs
 returns-3 : tie.Need-returns-3
 returns-3 c =
     let start = c .before .before .before .before .before .before .before .before .before .before .before .before in
-    moved-written (start .args .profile) (start .pre .0) (start .args .unicode) (start .pre .1) (c .before .before .before .before .before .before .before .before .before .moved .ensures) (c .before .before .before .before .before .before .end-of .ensures) (omega arith) (start .args .out .now) (omega arith) (c .before .before .before .before .before .before .before .before .shape-of .ensures) (c .before .before .before .before .before .before .before .sizes-of .ensures) (c .before .before .put-moved .ensures)
+    moved-written (start .args .profile) (start .pre .0) (start .args .unicode) (start .pre .1 .0) (start .pre .1 .1) (c .before .before .before .before .before .before .before .before .before .moved .ensures) (c .before .before .before .before .before .before .end-of .ensures) (omega arith) (start .args .out .now) (omega arith) (c .before .before .before .before .before .before .before .before .shape-of .ensures) (c .before .before .before .before .before .before .before .sizes-of .ensures) (c .before .before .put-moved .ensures)
 
 pub write-moved-spec : {M : Type 1} → statement M
 write-moved-spec =

@@ -4,6 +4,7 @@ use mathlib.Core.Path.{_≡_}
 use mathlib.Core.List.{List, [], _∷_}
 use mathlib.Core.Bool.{Bool, true, false, not, _&&_, _||_, cond}
 use lib.ListN.{length, getD}
+use lib.Dec.{eqb}
 use Rattle.octets.specs.Numbers.{Bytes}
 use Rattle.format.specs.declared.Place.{Place}
 use Rattle.format.specs.declared.Profile.{Profile}
@@ -11,7 +12,7 @@ use Rattle.format.specs.declared.Record.{Record}
 use Rattle.format.specs.Tests.{Outcome, place, noPlace}
 use Rattle.format.specs.Presence.{infoThere, nameBit, relativeBit, workdirBit, argumentsBit, iconBit, stringsUnicode}
 use Rattle.format.specs.Shortcut.{most}
-use Rattle.format.specs.Bodies.{itemsSlot, labelSlot, localSlot, netSlot, deviceSlot, netUnicodeSlot, deviceUnicodeSlot, suffixSlot, localUnicodeSlot, suffixUnicodeSlot, stringSlot, blocksSlot}
+use Rattle.format.specs.Bodies.{itemsSlot, labelSlot, localSlot, netSlot, deviceSlot, netUnicodeSlot, deviceUnicodeSlot, suffixSlot, localUnicodeSlot, suffixUnicodeSlot, stringSlot, blocksSlot, furtherSlot, placeIn}
 use Rattle.format.specs.Contents.{Contents, bytesAt, bodyIn}
 use Rattle.format.specs.Demands.{Accepts}
 use Rattle.format.specs.Steps.Lengths.{writtenLength}
@@ -39,6 +40,10 @@ textsMap false c =
 abbrev pub maps : Bool → Contents → Bool
 maps true = mapsToUnicode
 maps false = mapsToBytes
+
+-- on the way home the head has no further bytes
+abbrev pub headFits : Bool → Record → Bool
+headFits u r = u || eqb (placeIn r furtherSlot .len) 0
 
 abbrev pub moved : Bool → Contents → Contents
 moved true = inUnicode
@@ -92,6 +97,7 @@ movedPlaces u gain ps =
     ∷ movedPlace u (inRow ps (stringSlot argumentsBit))
     ∷ movedPlace u (inRow ps (stringSlot iconBit))
     ∷ inRow ps blocksSlot
+    ∷ inRow ps furtherSlot
     ∷ []
 
 unfoldable pub movedRecord : Bool → Record → Record

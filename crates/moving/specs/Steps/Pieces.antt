@@ -9,7 +9,7 @@ use Rattle.format.specs.declared.Shape.{Shape}
 use Rattle.format.specs.Tests.{noPlace}
 use Rattle.format.specs.Presence.{itemsThere, infoThere, localThere, networkThere}
 use Rattle.format.specs.Shortcut.{sum}
-use Rattle.format.specs.Bodies.{textKind, stringKind, BodyRow, bodyRow, itemsSlot, localSlot, suffixSlot, localUnicodeSlot, suffixUnicodeSlot, blocksSlot, placeIn, along}
+use Rattle.format.specs.Bodies.{textKind, stringKind, BodyRow, bodyRow, itemsSlot, localSlot, suffixSlot, localUnicodeSlot, suffixUnicodeSlot, blocksSlot, furtherSlot, placeIn, along}
 use Rattle.format.specs.Contents.{bytesAt}
 use Rattle.format.specs.Writing.{endToEnd, ifThere, headerBytes, itemsBytes, textBytes, blocksBytes}
 use Rattle.format.specs.Codepage.{toUnits}
@@ -69,18 +69,20 @@ gain r q = q .link .long && not (r .link .long)
 unfoldable pub movedInfo : List ℕ → Record → Record → Shape → List ℕ → List ℕ
 movedInfo d r q s sizes =
     infoHeadBytes (q .link) sizes
+    ++ (bytesAt d (placeIn r furtherSlot)
     ++ (cond (localThere (q .link .flags)) (volumeHeadBytes (q .link) sizes) []
     ++ (slotsBytes d (r .places) 1 (rowsFrom (rowAs textKind s) 1 2)
     ++ (cond (networkThere (q .link .flags)) (networkHeadBytes (q .link) sizes) []
-    ++ (slotsBytes d (r .places) 3 (rowsFrom (rowAs textKind s) 3 5) ++ unicodeTexts (gain r q) d (r .places) s))))
+    ++ (slotsBytes d (r .places) 3 (rowsFrom (rowAs textKind s) 3 5) ++ unicodeTexts (gain r q) d (r .places) s)))))
 
 -- how long all of it is
 unfoldable pub infoSize : Record → Record → Shape → ℕ
 infoSize r q s =
     28 + cond (q .link .long) 8 0
+    + (placeIn r furtherSlot .len
     + (volumePart (q .link)
     + (slotsSize (r .places) 1 (rowsFrom (rowAs textKind s) 1 2)
-    + (networkPart (q .link) + (slotsSize (r .places) 3 (rowsFrom (rowAs textKind s) 3 5) + unicodeSize (gain r q) (r .places) s))))
+    + (networkPart (q .link) + (slotsSize (r .places) 3 (rowsFrom (rowAs textKind s) 3 5) + unicodeSize (gain r q) (r .places) s)))))
 
 -- ---- the whole
 

@@ -12,7 +12,8 @@ link-of-requires c κs = search needs
 returns : tie.Need-returns
 unfolding recordFrom
 returns c =
-    let after-device-unicode = c .before .before .before .before in
+    let after-suffix-unicode = c .before .before in
+    let after-device-unicode = after-suffix-unicode .before .before .before in
     let after-local = after-device-unicode .before .before .before .before in
     let after-label-place = after-local .before .before in
     rw (c .link-of .ensures, after-label-place .label-place .ensures)

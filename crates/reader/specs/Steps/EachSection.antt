@@ -113,7 +113,7 @@ endsOf items info name relative workdir arguments icon = record {
 
 -- the record of what was read
 unfoldable pub recordFrom : Header → Place → Info → List Place → Place → Record
-recordFrom h items info strings blocks = record { header = h; link = linkOf info; places = items ∷ infoPlaces info ++ (strings ++ blocks ∷ []) }
+recordFrom h items info strings blocks = record { header = h; link = linkOf info; places = items ∷ infoPlaces info ++ (strings ++ blocks ∷ info .further ∷ []) }
 
 -- the sections after the header
 unfoldable pub outlineFrom : Profile → List ℕ → Header → Cursor → Outline

@@ -1,4 +1,4 @@
--- Only 49 fields that are a record are written; the record from them is the one that the definition writes.
+-- Only 51 fields that are a record are written; the record from them is the one that the definition writes.
 use native.Mathlib.Omega.{arith}
 use borrow.Author.Tests.{lt-leb, le-leb}
 use Rattle.scheduler.specs.Profiles.{profileOf}

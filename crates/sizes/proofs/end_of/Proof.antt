@@ -11,10 +11,10 @@ use Rattle.sizes.proofs.end_of.Statement.{statement}
 use Rattle.sizes.proofs.end_of.Tie as tie
 
 abbrev Inv-loop : tie.InvT-loop
-Inv-loop sizes end₀ k₀ end k = (k ≤ 16) × ((end + sum (drop k sizes) ≡ end₀ + sum sizes) × (end₀ + sum sizes < 4294967296))
+Inv-loop sizes end₀ k₀ end k = (k ≤ 17) × ((end + sum (drop k sizes) ≡ end₀ + sum sizes) × (end₀ + sum sizes < 4294967296))
 
 abbrev μ-loop : tie.MeasureT-loop
-μ-loop sizes end₀ k₀ end k = 16 - k
+μ-loop sizes end₀ k₀ end k = 17 - k
 
 heads-requires : tie.Need-heads-requires Inv-loop μ-loop
 heads-requires c κs = search needs
@@ -35,7 +35,7 @@ array-read-end c = omega arith
 add-end-2 : tie.Need-add-end-2 Inv-loop μ-loop
 add-end-2 c =
     let start = c .before .before .before in
-    let long : length (start .args .t2) ≡ 16 = ap length (start .pre) ∙ sizes-row (start .args .q) in
+    let long : length (start .args .t2) ≡ 17 = ap length (start .pre) ∙ sizes-row (start .args .q) in
     omega (arith, sum-step (start .args .t2) (c .before .loop .k) (omega arith))
 
 add-k : tie.Need-add-k Inv-loop μ-loop
@@ -47,14 +47,14 @@ loop-less c = omega arith
 loop-again : tie.Need-loop-again Inv-loop μ-loop
 loop-again c =
     let start = c .before .before .before in
-    let long : length (start .args .t2) ≡ 16 = ap length (start .pre) ∙ sizes-row (start .args .q) in
+    let long : length (start .args .t2) ≡ 17 = ap length (start .pre) ∙ sizes-row (start .args .q) in
     (omega arith, (omega (arith, sum-step (start .args .t2) (c .before .loop .k) (omega arith)), c .before .loop .inv .1 .1))
 
 returns : tie.Need-returns Inv-loop μ-loop
 unfolding clippedLength
 returns c =
     let start = c .before .before .before in
-    let long : length (start .args .t2) ≡ 16 = ap length (start .pre) ∙ sizes-row (start .args .q) in
+    let long : length (start .args .t2) ≡ 17 = ap length (start .pre) ∙ sizes-row (start .args .q) in
     let rest = sum-none (start .args .t2) (c .before .loop .k) (omega arith) in
     let total : sum (start .args .t2) ≡ sum (sizesOf (start .args .q)) = ap sum (start .pre) in
     omega (arith, c .before .before .heads .ensures)

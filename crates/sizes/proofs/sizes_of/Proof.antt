@@ -15,10 +15,10 @@ use Rattle.sizes.proofs.sizes_of.Tie as tie
 
 abbrev Inv-loop : tie.InvT-loop
 Inv-loop there row beside sizes₀ k₀ sizes k =
-    (length sizes ≡ 16) × ((k ≤ 16) × ((j : ℕ) → j < k → getD sizes j 0 ≡ cond (getD there j false) (capped (getD row j noPlace .len) + getD beside j 0) 0))
+    (length sizes ≡ 17) × ((k ≤ 17) × ((j : ℕ) → j < k → getD sizes j 0 ≡ cond (getD there j false) (capped (getD row j noPlace .len) + getD beside j 0) 0))
 
 abbrev μ-loop : tie.MeasureT-loop
-μ-loop there row beside sizes₀ k₀ sizes k = 16 - k
+μ-loop there row beside sizes₀ k₀ sizes k = 17 - k
 
 besides-requires : tie.Need-besides-requires Inv-loop μ-loop
 besides-requires c κs = search needs

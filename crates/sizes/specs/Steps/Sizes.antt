@@ -20,7 +20,7 @@ cappedBody b p = cond (b .there) (capped (p .len) + beside (b .kind)) 0
 
 -- the bytes beside each body, by the label's kind
 abbrev pub besidesOf : Bool → List ℕ
-besidesOf unicode = 4 ∷ cond unicode 2 1 ∷ 1 ∷ 1 ∷ 1 ∷ 2 ∷ 2 ∷ 1 ∷ 2 ∷ 2 ∷ 2 ∷ 2 ∷ 2 ∷ 2 ∷ 2 ∷ 4 ∷ []
+besidesOf unicode = 4 ∷ cond unicode 2 1 ∷ 1 ∷ 1 ∷ 1 ∷ 2 ∷ 2 ∷ 1 ∷ 2 ∷ 2 ∷ 2 ∷ 2 ∷ 2 ∷ 2 ∷ 2 ∷ 4 ∷ 0 ∷ []
 
 unfoldable pub sizesOf : Record → List ℕ
 sizesOf q = along noPlace cappedBody 0 (tableOf q) (q .places)

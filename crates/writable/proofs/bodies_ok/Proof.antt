@@ -1,5 +1,5 @@
 -- The rules kind by kind.
-use Rattle.format.specs.Bodies.{itemsSlot}
+use Rattle.format.specs.Bodies.{itemsSlot, furtherSlot}
 use Rattle.writable.specs.Steps.Slots.{bodiesOk}
 use borrow.Author.Needs.{needs}
 use native.Mathlib.Omega.{arith}
@@ -30,14 +30,27 @@ body-requires c κs = let after-strings = c .before in let start = after-strings
 blocks-ok-requires : tie.Need-blocks-ok-requires
 blocks-ok-requires c κs = search needs
 
+array-read-further-if : tie.Need-array-read-further-if
+array-read-further-if c = omega arith
+
+array-copy-out-further-if : tie.Need-array-copy-out-further-if
+array-copy-out-further-if c = omega arith
+
+further-if-requires : tie.Need-further-if-requires
+further-if-requires c κs =
+    let after-strings = c .before .before .before .before in
+    let start = after-strings .before .before .before .before .before .before in
+    start .pre .0 .slot furtherSlot
+
 returns : tie.Need-returns
 unfolding bodiesOk
 returns c =
-    let after-body = c .before in
+    let after-blocks-ok = c .before .before in
+    let after-body = after-blocks-ok .before in
     let after-strings = after-body .before .before in
     let after-texts = after-strings .before in
     let after-items-if = after-texts .before in
-    rw (c .blocks-ok .ensures, after-body .body .ensures, after-strings .slots-ok2 .ensures, after-texts .slots-ok .ensures, after-items-if .items-if .ensures)
+    rw (c .further-if .ensures, after-blocks-ok .blocks-ok .ensures, after-body .body .ensures, after-strings .slots-ok2 .ensures, after-texts .slots-ok .ensures, after-items-if .items-if .ensures)
 
 pub bodies-ok-spec : {M : Type 1} → statement M
 bodies-ok-spec =
@@ -51,4 +64,7 @@ bodies-ok-spec =
     array-copy-out-body
     body-requires
     blocks-ok-requires
+    array-read-further-if
+    array-copy-out-further-if
+    further-if-requires
     returns)

@@ -13,10 +13,10 @@ use Rattle.writable.proofs.placed.Statement.{statement}
 use Rattle.writable.proofs.placed.Tie as tie
 
 abbrev Inv-loop : tie.InvT-loop
-Inv-loop n there row k₀ k = (k ≤ 16) × (restOk (insideRow n) (thereRow there) row 16 0 ≡ restOk (insideRow n) (thereRow there) row 16 k)
+Inv-loop n there row k₀ k = (k ≤ 17) × (restOk (insideRow n) (thereRow there) row 17 0 ≡ restOk (insideRow n) (thereRow there) row 17 k)
 
 abbrev μ-loop : tie.MeasureT-loop
-μ-loop n there row k₀ k = 16 - k
+μ-loop n there row k₀ k = 17 - k
 
 loop-holds : tie.Need-loop-holds Inv-loop μ-loop
 loop-holds c = (omega arith, refl)
@@ -44,7 +44,7 @@ returns c =
     sym
     (sym (placed-rest n (start .args .q) (start .pre))
     ∙ at .loop .inv .1
-    ∙ rest-bad (insideRow n) (thereRow there) row 16 k (omega arith) (inside-here n there k (getD row k noPlace) (c .before .before .before .if1 .taken) (c .before .inside .ensures) (not-true (c .before .inside .result) (c .if2 .taken))))
+    ∙ rest-bad (insideRow n) (thereRow there) row 17 k (omega arith) (inside-here n there k (getD row k noPlace) (c .before .before .before .if1 .taken) (c .before .inside .ensures) (not-true (c .before .inside .result) (c .if2 .taken))))
 
 add-k : tie.Need-add-k Inv-loop μ-loop
 add-k c = omega arith
@@ -61,8 +61,8 @@ loop-again c =
     let row = start .args .q .places in
     let k = at .loop .k in
     let p = getD row k noPlace in
-    let next : insideRow n (thereRow there k) p ≡ true → restOk (insideRow n) (thereRow there) row 16 0 ≡ restOk (insideRow n) (thereRow there) row 16 (k + 1)
-    = λ e. at .loop .inv .1 ∙ rest-ok (insideRow n) (thereRow there) row 16 k (omega arith) e in (
+    let next : insideRow n (thereRow there k) p ≡ true → restOk (insideRow n) (thereRow there) row 17 0 ≡ restOk (insideRow n) (thereRow there) row 17 (k + 1)
+    = λ e. at .loop .inv .1 ∙ rest-ok (insideRow n) (thereRow there) row 17 k (omega arith) e in (
       omega arith,
       ⊎-elim
           (λ w. next (inside-here n there k p (w .0 .taken) (w .2 .ensures) (not-false (w .2 .result) (w .3 .left))))
@@ -74,7 +74,7 @@ returns-2 : tie.Need-returns-2 Inv-loop μ-loop
 returns-2 c =
     let at = c .before in
     let start = at .before .before .before in
-    sym (sym (placed-rest (start .args .n) (start .args .q) (start .pre)) ∙ at .loop .inv .1 ∙ rest-end _ _ _ 16 (at .loop .k) (omega arith))
+    sym (sym (placed-rest (start .args .n) (start .args .q) (start .pre)) ∙ at .loop .inv .1 ∙ rest-end _ _ _ 17 (at .loop .k) (omega arith))
 
 pub placed-spec : {M : Type 1} → statement M
 placed-spec =

@@ -8,9 +8,9 @@ use Rattle.format.specs.declared.Place.{Place}
 use Rattle.format.specs.declared.Shape.{Shape}
 use Rattle.format.specs.Tests.{noPlace}
 use Rattle.format.specs.Presence.{nameBit}
-use Rattle.format.specs.Bodies.{BodyKind, textKind, stringKind, BodyRow, itemsSlot, stringSlot, blocksSlot, along}
+use Rattle.format.specs.Bodies.{BodyKind, textKind, stringKind, BodyRow, itemsSlot, stringSlot, blocksSlot, furtherSlot, along}
 use Rattle.format.specs.Contents.{bytesAt}
-use Rattle.format.specs.Writing.{every, writableIf, writableItems, writableBlocks, writableRow}
+use Rattle.format.specs.Writing.{every, writableIf, writableItems, writableBlocks, writableFurther, writableRow}
 use Rattle.format.specs.Steps.Shape.{rowIn, rowsFrom}
 
 -- of the slots between the items and the blocks: LinkInfo's texts, then the strings
@@ -27,11 +27,12 @@ rowOk d b p = writableRow b (bytesAt d p)
 unfoldable pub slotsOk : List ℕ → List Place → Shape → ℕ → ℕ → Bool
 slotsOk d ps s k n = every (along noPlace (rowOk d) k (rowsFrom (slotRow (s .there) (s .wide)) k n) ps)
 
--- all of them
-unfoldable pub bodiesOk : List ℕ → List Place → Shape → Bool
+-- all of them; long tells of LinkInfo's head
+unfoldable pub bodiesOk : List ℕ → List Place → Shape → Bool → Bool
 unfolding slotsOk
-bodiesOk d ps s =
+bodiesOk d ps s long =
     writableIf (getD (s .there) itemsSlot false) writableItems (bytesAt d (getD ps itemsSlot noPlace))
     && slotsOk d ps s 1 9
     && slotsOk d ps s 10 5
     && writableBlocks (bytesAt d (getD ps blocksSlot noPlace))
+    && writableIf (getD (s .there) furtherSlot false) (writableFurther long) (bytesAt d (getD ps furtherSlot noPlace))

@@ -17,6 +17,12 @@ network-there-requires c κs = search needs
 info-head-requires : tie.Need-info-head-requires
 info-head-requires c κs = search needs
 
+array-read-head : tie.Need-array-read-head
+array-read-head c = search needs
+
+add-head : tie.Need-add-head
+add-head c = search needs
+
 volume-part-requires : tie.Need-volume-part-requires
 volume-part-requires c κs = search needs
 
@@ -187,6 +193,8 @@ put-info-head-spec =
     local-there-requires
     network-there-requires
     info-head-requires
+    array-read-head
+    add-head
     volume-part-requires
     array-read-local
     add-local

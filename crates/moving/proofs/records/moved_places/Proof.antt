@@ -84,10 +84,13 @@ moved-place-requires-5 c κs =
 array-copy-out-t65 : tie.Need-array-copy-out-t65
 array-copy-out-t65 c = search needs
 
+array-copy-out-t68 : tie.Need-array-copy-out-t68
+array-copy-out-t68 c = search needs
+
 returns : tie.Need-returns
 returns c =
-    let start = c .before .before .before .before .before .before .before .before .before .before .before .before .before .before .before .before .before .before .before .before .before .before .before .before .before in
-    places-are (start .args .unicode) (start .args .gain) (start .args .t3) (c .before .before .before .before .before .before .before .before .before .before .before .before .before .before .unicode-place .ensures) (c .before .before .before .before .before .before .before .before .before .before .before .unicode-place2 .ensures) (c .before .before .before .before .before .before .before .before .before .moved-place .ensures) (c .before .before .before .before .before .before .before .moved-place2 .ensures) (c .before .before .before .before .before .moved-place3 .ensures) (c .before .before .before .moved-place4 .ensures) (c .before .moved-place5 .ensures)
+    let start = c .before .before .before .before .before .before .before .before .before .before .before .before .before .before .before .before .before .before .before .before .before .before .before .before .before .before in
+    places-are (start .args .unicode) (start .args .gain) (start .args .t3) (c .before .before .before .before .before .before .before .before .before .before .before .before .before .before .before .unicode-place .ensures) (c .before .before .before .before .before .before .before .before .before .before .before .before .unicode-place2 .ensures) (c .before .before .before .before .before .before .before .before .before .before .moved-place .ensures) (c .before .before .before .before .before .before .before .before .moved-place2 .ensures) (c .before .before .before .before .before .before .moved-place3 .ensures) (c .before .before .before .before .moved-place4 .ensures) (c .before .before .moved-place5 .ensures)
 
 pub moved-places-spec : {M : Type 1} → statement M
 moved-places-spec =
@@ -118,4 +121,5 @@ moved-places-spec =
     array-copy-out-moved-place-5
     moved-place-requires-5
     array-copy-out-t65
+    array-copy-out-t68
     returns)

@@ -1,2 +1,0 @@
--- What the proofs compare with: nobody has to believe it.
-pub mod Named
