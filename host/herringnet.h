@@ -70,7 +70,7 @@ enum herringnet_number {
     HERRINGNET_TWICE = 14,      /* a block has the known signature of one before it */
     HERRINGNET_STORE = 15,      /* the property store of a block */
     HERRINGNET_NOMAP = 16,      /* a text cannot be moved, or flag bit 7 is already as asked */
-    HERRINGNET_FIELDS = 201,    /* fields are not 49 numbers, or rows not whole rows; tested after PROFILE */
+    HERRINGNET_FIELDS = 201,    /* fields are not 51 numbers, or rows not whole rows; tested after PROFILE */
     HERRINGNET_VALUES = 202,    /* a number of fields does not fit its field; tested next */
     HERRINGNET_PROFILE = 203    /* profile is no number of enum herringnet_profile; tested first */
 };
@@ -124,7 +124,7 @@ enum herringnet_section_name {
     HERRINGNET_SECTION_END = 9
 };
 
-/* The fields of a record, by their place in the slice of 49 numbers (FORMAT: Order of the numbers). A body is a place
+/* The fields of a record, by their place in the slice of 51 numbers (FORMAT: Order of the numbers). A body is a place
  * (AT) and a length (LEN) in the body buffer, both in bytes; no count and no terminator is in it. What is absent counts
  * for nothing in writing, and reading puts 0 there. Present are: the items, LinkInfo and the five strings by bits 0 to
  * 6 of LINK_FLAGS; drive, serial, label and local path by bit 0 of INFO_FLAGS, the network link by bit 1; the device
@@ -180,7 +180,9 @@ enum herringnet_field {
     HERRINGNET_FIELD_ICON_LEN = 46,
     HERRINGNET_FIELD_BLOCKS_AT = 47,
     HERRINGNET_FIELD_BLOCKS_LEN = 48,
-    HERRINGNET_FIELD_COUNT = 49
+    HERRINGNET_FIELD_FURTHER_AT = 49,
+    HERRINGNET_FIELD_FURTHER_LEN = 50,
+    HERRINGNET_FIELD_COUNT = 51
 };
 
 /* Tests a shortcut by all rules (FORMAT: Order of reading). Success: its length. Refusals: 1 to 9, 14, 15. */

@@ -1,10 +1,10 @@
-//! The 49 numbers in which a record crosses the boundary, by name.
+//! The 51 numbers in which a record crosses the boundary, by name.
 //!
 //! [`Record`](crate::Record) is the comfortable form of the same; this order is for callers of
 //! [`boundary`](crate::boundary) and is that of `herringnet.h`.
 
 /// How many numbers a record has at the boundary.
-pub const FIELDS: usize = 49;
+pub const FIELDS: usize = 51;
 
 macro_rules! fields {
     ($($(#[doc = $doc:literal])* $name:ident = $number:literal,)*) => {
@@ -114,4 +114,8 @@ fields! {
     BLOCKS_AT = 47,
     /// The blocks' length.
     BLOCKS_LEN = 48,
+    /// The place of the further bytes of LinkInfo's head.
+    FURTHER_AT = 49,
+    /// Their length.
+    FURTHER_LEN = 50,
 }

@@ -43,7 +43,7 @@ pub use unwritable::Cause;
 use refusal::answer;
 
 /// The requests whose rules this package and its archive follow; docs/requests of the repository has a note of each.
-pub const REQUESTS: [&str; 10] = ["01", "02", "03", "04", "05", "06", "07", "08", "09", "10"];
+pub const REQUESTS: [&str; 11] = ["01", "02", "03", "04", "05", "06", "07", "08", "09", "10", "11"];
 
 /// The SHA-256 of the archive that is linked, in hex.
 pub const ARCHIVE_DIGEST: &str = env!("HERRINGNET_DIGEST");
@@ -232,7 +232,7 @@ pub fn to_unicode_into_under(shortcut: &[u8], out: &mut [u8], profile: Profile) 
 /// # Errors
 ///
 /// As [`check`], then [`Fault::NoMap`] for a unit that is not in the table, a Unicode text that differs or a shortcut
-/// without the bit. The example of [`to_unicode`] has both ways.
+/// without the bit, then [`Fault::Unwritable`] for a head with further bytes. The example of [`to_unicode`] has both ways.
 pub fn to_bytes(shortcut: &[u8]) -> Result<Vec<u8>, Refusal> {
     to_bytes_under(shortcut, Profile::Strict)
 }
@@ -262,7 +262,11 @@ pub fn to_bytes_into(shortcut: &[u8], out: &mut [u8]) -> Result<usize, Refusal> 
 ///
 /// As [`to_bytes_under`], then [`Fault::Room`]. A refusal changes no byte of `out`.
 pub fn to_bytes_into_under(shortcut: &[u8], out: &mut [u8], profile: Profile) -> Result<usize, Refusal> {
-    answer(boundary::to_bytes(shortcut, out, profile.number()))
+    answer(boundary::to_bytes(shortcut, out, profile.number())).map_err(|refusal| match refusal.fault {
+        // The result is never longer than the shortcut, so nothing else makes it unwritable.
+        Fault::Unwritable => Refusal { cause: Some(unwritable::FURTHER), ..refusal },
+        _ => refusal,
+    })
 }
 
 /// What a move makes: never longer than the longest shortcut, and so never short of room there.

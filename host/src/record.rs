@@ -103,7 +103,7 @@ pub struct Info<'a> {
     pub network: Option<Network<'a>>,
     /// The suffix.
     pub suffix: &'a [u8],
-    /// The Unicode texts, which a long head has and a short one lacks.
+    /// The Unicode texts and the further bytes, which a long head has and a short one lacks.
     pub unicode: Option<InfoUnicode<'a>>,
 }
 
@@ -123,19 +123,21 @@ impl<'a> Info<'a> {
         Info { suffix, ..self }
     }
 
-    /// The same with a long head and these Unicode texts.
+    /// The same with a long head, and these Unicode texts and further bytes.
     pub fn with_unicode(self, unicode: InfoUnicode<'a>) -> Info<'a> {
         Info { unicode: Some(unicode), ..self }
     }
 }
 
-/// The Unicode texts of a LinkInfo with a long head.
+/// What a LinkInfo has by its long head: the Unicode texts, and the head's further bytes.
 #[derive(Clone, Debug, Default, PartialEq, Eq)]
 pub struct InfoUnicode<'a> {
     /// The local path; empty, and not looked at, where [`Info::local`] is absent.
     pub local: &'a [u8],
     /// The suffix.
     pub suffix: &'a [u8],
+    /// The bytes of the head from 0x24 to its end; empty for a head of exactly 0x24 bytes.
+    pub further: &'a [u8],
 }
 
 /// Volume and local path.
@@ -427,6 +429,7 @@ impl<'a> Taken<'a> {
             unicode: (self.number(fields::LONG) == 1).then(|| InfoUnicode {
                 local: self.body(fields::LOCAL_UNICODE_AT),
                 suffix: self.body(fields::SUFFIX_UNICODE_AT),
+                further: self.body(fields::FURTHER_AT),
             }),
         }
     }
@@ -515,6 +518,7 @@ impl Put {
         if let Some(unicode) = &info.unicode {
             self.body(fields::LOCAL_UNICODE_AT, info.local.as_ref().map(|_| unicode.local));
             self.body(fields::SUFFIX_UNICODE_AT, Some(unicode.suffix));
+            self.body(fields::FURTHER_AT, Some(unicode.further));
         }
     }
 

@@ -39,7 +39,7 @@ pub enum Fault {
     Store,
     /// 16: a text cannot be moved, or flag bit 7 is already as asked.
     NoMap,
-    /// 201, of the boundary alone: the slice of fields has not 49 numbers.
+    /// 201, of the boundary alone: the slice of fields has not 51 numbers.
     Fields,
     /// 202, of the boundary alone: a field's number does not fit its field.
     Values,
@@ -67,7 +67,7 @@ const TABLE: [(Fault, u8, &str, &str); 19] = [
     (Fault::Twice, 14, "TWICE", "a known block stands there twice"),
     (Fault::Store, 15, "STORE", "the property store of a block is wrong"),
     (Fault::NoMap, 16, "NOMAP", "a text cannot be moved, or it is already as asked"),
-    (Fault::Fields, 201, "FIELDS", "a record has 49 numbers"),
+    (Fault::Fields, 201, "FIELDS", "a record has 51 numbers"),
     (Fault::Values, 202, "VALUES", "a number does not fit its field"),
     (Fault::Profile, 203, "PROFILE", "there is no such profile"),
 ];

@@ -24,6 +24,9 @@ impl fmt::Display for Cause {
     }
 }
 
+/// Why a shortcut whose head has further bytes cannot be moved home.
+pub const FURTHER: Cause = Cause { field: "further bytes", why: "a short head has none" };
+
 /// The first string whose kind is not that of LinkFlags bit 7.
 pub fn other_kind(record: &Record) -> Option<Cause> {
     let unicode = record.header.is_unicode();
@@ -80,7 +83,9 @@ fn info<'a>(record: &Record<'a>) -> Vec<Part<'a>> {
     }
     parts.push(("suffix", byte_why(info.suffix), with_info(Info::default().with_suffix(info.suffix))));
     if let Some(unicode) = &info.unicode {
-        let alone = |local, suffix| with_info(Info { unicode: Some(InfoUnicode { local, suffix }), ..Info::default() });
+        let alone = |local, suffix| {
+            with_info(Info::default().with_unicode(InfoUnicode { local, suffix, ..InfoUnicode::default() }))
+        };
         let mut path = alone(unicode.local, b"");
         if let (Some(info), Some(_)) = (&mut path.info, &info.local) {
             info.local = Some(empty_local());

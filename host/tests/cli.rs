@@ -258,7 +258,7 @@ fn network() -> Vec<u8> {
         device: Some(b"Z:"),
         unicode: Some(NetworkUnicode { net: b"\\\0\xE9\0", device: b"Z\0" }),
     };
-    let unicode = InfoUnicode { local: b"Z\0\x00\xD8", suffix: b"\x3D\xD8\x00\xDE" };
+    let unicode = InfoUnicode { local: b"Z\0\x00\xD8", suffix: b"\x3D\xD8\x00\xDE", further: b"\x01\0\xFFv" };
     let header = Header { creation: u64::MAX, icon_index: -7, command: 7, hotkey: 0x0646, ..Header::default() };
     Record {
         header,
@@ -310,14 +310,18 @@ fn move_says_what_stands_against_it() {
     s.put("unit.lnk", &with_arguments(0xA0, &[2, 0, 0x41, 0, 0x81, 0]));
     let mut other = Record::read(SAMPLE).unwrap();
     let info = other.info.as_mut().unwrap();
-    info.unicode = Some(InfoUnicode { local: b"C\0", suffix: b"" });
+    info.unicode = Some(InfoUnicode { local: b"C\0", suffix: b"", further: b"v2" });
     s.put("other.lnk", &other.to_vec().unwrap());
+    let twin: Vec<u8> = br"C:\test\a.txt".iter().flat_map(|&byte| [byte, 0]).collect();
+    let mut further = other.clone();
+    further.info.as_mut().unwrap().unicode.as_mut().unwrap().local = &twin;
+    s.put("further.lnk", &further.to_vec().unwrap());
     let rows: [(&str, &str, &str); 5] = [
         ("--to-unicode", "a.lnk", "LinkFlags bit 7 is set already"),
         ("--to-bytes", "z.lnk", "LinkFlags bit 7 is clear already"),
         ("--to-unicode", "byte.lnk", "arguments: the byte 0x81 at 79 is not assigned in windows-1252"),
         ("--to-bytes", "unit.lnk", "arguments: the unit 0x0081 at 80 is not in windows-1252"),
-        ("--to-bytes", "other.lnk", "Unicode local path: the text at 335 is not the translation of the byte text"),
+        ("--to-bytes", "other.lnk", "Unicode local path: the text at 337 is not the translation of the byte text"),
     ];
     for (way, file, why) in rows {
         let reason = "refused 16 NOMAP at 0: a text cannot be moved, or it is already as asked";
@@ -325,6 +329,9 @@ fn move_says_what_stands_against_it() {
     }
     let cut = "herringnet: cut.lnk: refused 2 CUT at 76: it is cut off inside a field or a part\n";
     s.run(&["move", "--to-bytes", "cut.lnk"]).is(1, "", cut);
+    let further = "herringnet: further.lnk: refused 11 UNWRITABLE at 0: no shortcut reads as this record; \
+                   further bytes: a short head has none\n";
+    s.run(&["move", "--to-bytes", "further.lnk"]).is(1, "", further);
 }
 
 #[test]

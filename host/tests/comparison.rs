@@ -125,6 +125,32 @@ fn both_agree_on_moves_at_the_limit() {
     }
 }
 
+/// Heads of every length up to 0x60, some longer and the longest: what is written has each of their bytes.
+#[test]
+fn both_agree_on_heads_of_every_length() {
+    let mut comparison = Comparison::new();
+    let far = [0x100, 0x1000, 0x8000, inputs::LONGEST_HEAD - 1, inputs::LONGEST_HEAD];
+    let heads: Vec<usize> = std::iter::once(0x1C).chain(0x24..=0x60).chain(far).collect();
+    for (number, &head) in (0..).zip(&heads) {
+        let shortcut = inputs::headed(head);
+        for again in 0..40 {
+            comparison.compare(40 * number + again, &shortcut);
+        }
+        let (mut fields, mut out) = ([0; FIELDS], vec![0; LIMIT]);
+        assert_eq!(proved::read(&shortcut, &mut fields, 0), 256 * shortcut.len() as u64);
+        let further = if head == 0x1C { [0, 0] } else { [76 + 0x24, head as u64 - 0x24] };
+        assert_eq!(fields[FIELDS - 2..], further);
+        assert_eq!(proved::write(&fields, &shortcut, &mut out, 0), 256 * shortcut.len() as u64);
+        assert!(out[..shortcut.len()] == shortcut[..]);
+        let loose = inputs::loose(head.min(0x8000), &mut inputs::random_of(number));
+        comparison.compare(number, &loose);
+    }
+    assert_eq!(comparison.verdicts.counts[0], 41 * heads.len() as u64);
+    for (number, row) in (0..).zip(inputs::heads()) {
+        comparison.compare(number, &row);
+    }
+}
+
 /// A header with these LinkFlags, arguments of one character, and a terminal block.
 fn with_arguments(flags: u32, character: &[u8]) -> Vec<u8> {
     let mut shortcut = vec![0x4C, 0, 0, 0, 0x01, 0x14, 0x02, 0, 0, 0, 0, 0, 0xC0, 0, 0, 0, 0, 0, 0, 0x46];

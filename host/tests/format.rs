@@ -274,10 +274,41 @@ fn a_shortcut_moved_to_unicode() {
 #[test]
 fn a_long_head() {
     let local = Local { drive: 3, serial: 0x1234_5678, label: Label::Unicode(b"T\0"), path: br"C:\" };
-    let unicode = InfoUnicode { local: b"C\0:\0\\\0", suffix: b"" };
+    let unicode = InfoUnicode { local: b"C\0:\0\\\0", ..InfoUnicode::default() };
     let info = Info::default().with_local(local).with_unicode(unicode);
     let shortcut = Record { header: Header::default(), info: Some(info), ..Record::default() }.to_vec().unwrap();
     assert_eq!(shortcut[76..shortcut.len() - 4], bytes(&blocks(under("LinkInfo with a long head"))[0]));
+}
+
+#[test]
+fn further_bytes() {
+    let text = under("LinkInfo with further bytes");
+    let mut shortcut = Record::default().to_vec().unwrap()[..76].to_vec();
+    shortcut[20] = 2;
+    shortcut.extend(bytes(&blocks(text)[0]));
+    assert_eq!(Record::read(&shortcut).unwrap().to_vec().unwrap(), shortcut);
+    let mut fields = [0; FIELDS];
+    assert_eq!(boundary::read(&shortcut, &mut fields, 0), 256 * shortcut.len() as u64);
+    let mut expected = [0; FIELDS];
+    for (number, value) in [(0, 2), (10, 1), (31, 120), (35, 121), (47, 123), (49, 112), (50, 8)] {
+        expected[number] = value;
+    }
+    assert_eq!(fields, expected);
+    let rows = table(text);
+    assert!(rows.len() > 8);
+    for row in rows {
+        let mut fields = fields;
+        for change in row[0].split(':').next().unwrap().split(", ") {
+            if let Some((place, value)) = change.split_once(" is ") {
+                fields[number(place) as usize] = number(value);
+            }
+        }
+        let answer = boundary::write(&fields, &shortcut, &mut [0; 200], 0);
+        let expected = row[1].strip_prefix("0, length ").map_or_else(|| number(row[1]), |length| 256 * number(length));
+        assert_eq!(answer, expected, "{}", row[0]);
+    }
+    shortcut[20] = 0x82;
+    assert_eq!(boundary::to_bytes(&shortcut, &mut [0; 200], 0), 11);
 }
 
 #[test]

@@ -143,7 +143,7 @@ fn same_key(blocks: &[u8]) -> Vec<Record<'_>> {
     let info = network.info.as_mut().unwrap();
     let names = Some(NetworkUnicode { net: b"n\0", device: b"d\0" });
     info.network = Some(Network { provider: Some(7), net: br"\\other", device: Some(b"Z:"), unicode: names });
-    info.unicode = Some(InfoUnicode { local: b"D\0", suffix: b"s\0" });
+    info.unicode = Some(InfoUnicode { local: b"D\0", suffix: b"s\0", further: b"f" });
     let mut volume = plain.clone();
     let label = Label::Unicode(b"L\0");
     volume.info.as_mut().unwrap().local = Some(Local { drive: 5, serial: 99, label, path: br"C:\bin" });

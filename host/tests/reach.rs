@@ -1,4 +1,5 @@
-//! The comparison's inputs often have what a cache key depends on, property stores of every shape, and what 95 forgives.
+//! The comparison's inputs often have what a cache key depends on, property stores of every shape, heads of every length,
+//! and what 95 forgives.
 
 mod independent;
 mod inputs;
@@ -131,6 +132,44 @@ fn inputs_have_stores_of_every_shape() {
         }
     }
     are_often(accepted, counts, STORES.map(|row| row.0));
+}
+
+type HeadTrait = (&'static str, fn(bool, &[u8]) -> bool);
+
+/// By whether LinkInfo's head is long, and by its further bytes.
+const HEADS: [HeadTrait; 6] = [
+    ("a short head", |long, _| !long),
+    ("a head of 0x24 bytes", |long, further| long && further.is_empty()),
+    ("further bytes", |_, further| !further.is_empty()),
+    ("a zero among them", |_, further| further.contains(&0)),
+    ("a head of 0x2C bytes", |_, further| further.len() == 8),
+    ("a head of more than 0x40", |_, further| further.len() > 0x1C),
+];
+
+#[test]
+fn inputs_have_heads_of_every_length() {
+    let mut counts = [0; HEADS.len()];
+    let (mut accepted, mut lengths) = (0, [0; 0x1D]);
+    for bytes in (0..INPUTS).map(inputs::input) {
+        let record = match independent::read(&bytes, Profile::Strict) {
+            Ok(record) => record,
+            Err(_) => continue,
+        };
+        accepted += 1;
+        if record.header.link_flags & 2 != 0 {
+            let further = record.info.further_bytes.of(&bytes).unwrap();
+            counts
+                .iter_mut()
+                .zip(HEADS)
+                .for_each(|(count, row)| *count += u64::from(row.1(record.info.long_head, further)));
+            if let Some(count) = lengths.get_mut(further.len()).filter(|_| record.info.long_head) {
+                *count += 1;
+            }
+        }
+    }
+    println!("heads from 0x24 to 0x40: {:?}", lengths);
+    assert!(lengths.iter().all(|&count| count > 10));
+    are_often(accepted, counts, HEADS.map(|row| row.0));
 }
 
 /// What 95 forgives in a shortcut that strict refuses.

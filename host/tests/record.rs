@@ -47,8 +47,11 @@ fn info(choice: u32) -> Info<'static> {
     info.local = there(9).then_some(local);
     info.network = there(11).then_some(network);
     // The long head has no bit of its own: it comes with every second combination of the others.
-    info.unicode = (choice.count_ones() % 2 == 0)
-        .then_some(InfoUnicode { local: if there(9) { b"l\0" } else { b"" }, suffix: b"s\x02" });
+    info.unicode = (choice.count_ones() % 2 == 0).then_some(InfoUnicode {
+        local: if there(9) { b"l\0" } else { b"" },
+        suffix: b"s\x02",
+        further: if there(1) { b"\0further" } else { b"" },
+    });
     info
 }
 
@@ -93,7 +96,7 @@ fn full_bytes() -> Vec<u8> {
     [&header, &items[..], &full_info(), strings, blocks].concat()
 }
 
-/// Its LinkInfo: long head, volume, local path, network link, suffix, Unicode local path, Unicode suffix.
+/// Its LinkInfo: long head with four further bytes, volume, local path, network link, suffix, Unicode local path, Unicode suffix.
 fn full_info() -> Vec<u8> {
     let volume = [&numbers(&[26, 3, 0xFFFF_FFFE, 0x14, 0x14]), &b"L\x01M\x01\0\0"[..]].concat();
     let network = [
@@ -102,8 +105,8 @@ fn full_info() -> Vec<u8> {
     ]
     .concat();
     let texts = b"suffix\0l\0\0\0s\x02\0\0";
-    let head = [36 + 26 + 9 + 53 + 15, 36, 3, 36, 62, 71, 124, 131, 135];
-    [&numbers(&head), &volume, &b"C:\\local\0"[..], &network, texts].concat()
+    let head = [40 + 26 + 9 + 53 + 15, 40, 3, 40, 66, 75, 128, 135, 139];
+    [&numbers(&head), &b"more"[..], &volume, &b"C:\\local\0"[..], &network, texts].concat()
 }
 
 fn numbers(row: &[u32]) -> Vec<u8> {
@@ -113,7 +116,7 @@ fn numbers(row: &[u32]) -> Vec<u8> {
 #[test]
 fn every_field_stands_where_the_format_has_it() {
     let full = record((1 << CHOICES) - 1);
-    let unicode = InfoUnicode { local: b"l\0", suffix: b"s\x02" };
+    let unicode = InfoUnicode { local: b"l\0", suffix: b"s\x02", further: b"more" };
     let full = Record { info: full.info.map(|info| info.with_unicode(unicode)), ..full };
     assert_eq!(full.to_vec().unwrap(), full_bytes());
     assert_eq!(Record::read(&full_bytes()).unwrap().info, full.info);
@@ -168,7 +171,7 @@ fn presence_follows_from_what_is_there() {
     assert_eq!(Record::default().to_vec().unwrap().len(), 80);
     // Texts beside an absent local path or device are not looked at.
     let (local, device) = (b"odd".as_slice(), b"\0\0".as_slice());
-    let mut info = Info::default().with_unicode(InfoUnicode { local, suffix: b"" });
+    let mut info = Info::default().with_unicode(InfoUnicode { local, ..InfoUnicode::default() });
     info.network = Some(Network { unicode: Some(NetworkUnicode { net: b"", device }), ..Network::default() });
     let shortcut = Record { info: Some(info), ..Record::default() }.to_vec().unwrap();
     let read = Record::read(&shortcut).unwrap().info.unwrap();
@@ -193,6 +196,25 @@ fn wrong_records_are_unwritable() {
     assert_eq!(refused(Record { blocks: b"\x04\0\0\0", ..Record::default() }).number(), 11);
 }
 
+/// A head with further bytes is read, written and rewritten with them, and does not go home.
+#[test]
+fn further_bytes_are_kept() {
+    for further in [&b""[..], b"\0", b"\x01\0\0\0\xFF\xFF\xFF\xFF", &[7; 60_000]] {
+        let unicode = InfoUnicode { further, ..InfoUnicode::default() };
+        let header = Header { flags: 0x80, ..Header::default() };
+        let record = Record { header, info: Some(Info::default().with_unicode(unicode)), ..Record::default() };
+        let shortcut = record.to_vec().unwrap();
+        assert_eq!((shortcut.len(), &shortcut[112..112 + further.len()]), (119 + further.len(), further));
+        assert_eq!(Record::read(&shortcut).unwrap().info, record.info);
+        let (loose, home) = (loosened(&shortcut), herringnet::to_bytes(&shortcut));
+        assert_eq!(Record::read(&loose).unwrap().to_vec().unwrap(), shortcut);
+        match further {
+            b"" => assert_eq!(home.unwrap().len(), 109),
+            _ => assert_eq!(home.unwrap_err().cause.unwrap().field, "further bytes"),
+        }
+    }
+}
+
 /// A wrong record, the field that is to be named and a part of the reason.
 type Wrong<'a> = (Record<'a>, &'static str, &'static str);
 
@@ -203,8 +225,8 @@ fn wrong_infos(long: &[u8]) -> Vec<Wrong<'_>> {
     let network = Network { net: b"n", device: Some(b"d"), ..Network::default() };
     let with_network = |network| with(Info::default().with_network(network));
     let names = |net, device| Some(NetworkUnicode { net, device });
-    let path = InfoUnicode { local: b"odd", suffix: b"" };
-    let suffix = InfoUnicode { local: b"", suffix: b"a\0\0\0" };
+    let path = InfoUnicode { local: b"odd", ..InfoUnicode::default() };
+    let suffix = InfoUnicode { suffix: b"a\0\0\0", ..InfoUnicode::default() };
     vec![
         (with_local(Local { drive: 7, ..local.clone() }), "drive type", "above 6"),
         (with_local(Local { label: Label::Byte(b"\0"), ..local.clone() }), "volume label", "zero"),

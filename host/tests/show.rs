@@ -77,7 +77,7 @@ fn everything(blocks: &[u8]) -> Vec<u8> {
     let info = Info::default().with_local(local).with_network(network).with_suffix(b"cc.exe");
     let header = Header { flags: 0x80, creation: 1, access: 2, write: 3, hotkey: 0x0646, ..Header::default() };
     let mut record = Record { header, items: Some(b"\x05\0one\x06\0four"), blocks, ..Record::default() };
-    record.info = Some(info.with_unicode(InfoUnicode { local: b"D\0:\0", suffix: b"c\0" }));
+    record.info = Some(info.with_unicode(InfoUnicode { local: b"D\0:\0", suffix: b"c\0", further: b"\0v2" }));
     for name in StringName::ALL {
         record.set(name, name.words()).unwrap();
     }

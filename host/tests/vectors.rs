@@ -73,9 +73,9 @@ fn the_expected_output_is_that_of_the_independent_side() {
     assert!(expected(&rows()) == EXPECTED);
 }
 
-/// The last rows: two blocks of one kind, property stores, and large ones.
+/// The last rows: two blocks of one kind, property stores, large ones, and heads of several lengths.
 fn made() -> Vec<Vec<u8>> {
-    [inputs::pairs(), inputs::stores(), inputs::large()].concat()
+    [inputs::pairs(), inputs::stores(), inputs::large(), inputs::heads()].concat()
 }
 
 #[test]

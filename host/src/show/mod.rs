@@ -14,6 +14,9 @@ use crate::text::StringName;
 use crate::{section_under, sections_under, target_under, Profile, Record, Refusal, SectionName};
 use field::Field;
 
+/// The bytes of the shortest long head of LinkInfo: its further bytes stand after these.
+const SHORTEST_LONG: usize = 0x24;
+
 /// Everything in a shortcut, as lines of a name and a value.
 ///
 /// # Errors
@@ -57,7 +60,8 @@ pub fn shown_under(shortcut: &[u8], profile: Profile) -> Result<Vec<Field>, Refu
         Some(list) => blocks::item_list(list.start + 2, record.items.unwrap_or_default()),
         None => Field::absent("items"),
     });
-    fields.push(record.info.as_ref().map_or(Field::absent("link info"), info));
+    let start = section_under(shortcut, SectionName::Info, 0, profile).map_or(0, |section| section.start);
+    fields.push(record.info.as_ref().map_or(Field::absent("link info"), |whole| info(start, whole)));
     for name in StringName::ALL {
         fields.push(record.string(name).map_or(Field::absent(name.words()), |text| Field::text(name.words(), text)));
     }
@@ -89,7 +93,8 @@ fn numbered(name: &'static str, number: u32, line: impl std::fmt::Display, kind:
     Field::new(name, line, Json::object([("number", Json::number(number)), (kind, Json::string(word))]))
 }
 
-fn info(info: &Info) -> Field {
+/// LinkInfo, which starts at this place in the shortcut.
+fn info(start: usize, info: &Info) -> Field {
     let head = if info.unicode.is_some() { "long" } else { "short" };
     let mut fields = Vec::new();
     if let Some(whole) = &info.local {
@@ -104,6 +109,9 @@ fn info(info: &Info) -> Field {
             fields.push(Field::units("Unicode local path", unicode.local));
         }
         fields.push(Field::units("Unicode suffix", unicode.suffix));
+        if !unicode.further.is_empty() {
+            fields.push(Field::piece("further bytes", start + SHORTEST_LONG, unicode.further));
+        }
     }
     Field::new("link info", format!("{} head", head), Json::object([("head", Json::string(head))])).group(fields)
 }

@@ -89,7 +89,7 @@ static void records(const uint8_t *s, size_t n)
 {
     uint64_t fields[HERRINGNET_FIELD_COUNT];
     static uint8_t out[HERRINGNET_LONGEST];
-    answer("read into 48", herringnet_read(s, n, fields, HERRINGNET_FIELD_COUNT - 1, HERRINGNET_PROFILE_STRICT));
+    answer("read into 50", herringnet_read(s, n, fields, HERRINGNET_FIELD_COUNT - 1, HERRINGNET_PROFILE_STRICT));
     answer("read", herringnet_read(s, n, fields, HERRINGNET_FIELD_COUNT, HERRINGNET_PROFILE_STRICT));
     for (int i = 0; i < HERRINGNET_FIELD_COUNT; i++)
         printf("%" PRIu64 "%s", fields[i], i + 1 < HERRINGNET_FIELD_COUNT ? " " : "\n");
@@ -97,6 +97,9 @@ static void records(const uint8_t *s, size_t n)
     answer("write", herringnet_write(fields, HERRINGNET_FIELD_COUNT, s, n, out, sizeof out, HERRINGNET_PROFILE_STRICT));
     printf("%s\n", memcmp(s, out, n) == 0 ? "same bytes" : "other bytes");
     answer("write from less", herringnet_write(fields, HERRINGNET_FIELD_COUNT, s, n - 5, out, sizeof out, HERRINGNET_PROFILE_STRICT));
+    fields[HERRINGNET_FIELD_FURTHER_LEN] = 8;
+    answer("write a short head with more", herringnet_write(fields, HERRINGNET_FIELD_COUNT, s, n, out, sizeof out, HERRINGNET_PROFILE_STRICT));
+    fields[HERRINGNET_FIELD_FURTHER_LEN] = 0;
     fields[HERRINGNET_FIELD_ATTRIBUTES] = 8;
     answer("write wrong", herringnet_write(fields, HERRINGNET_FIELD_COUNT, s, n, out, sizeof out, HERRINGNET_PROFILE_STRICT));
     fields[HERRINGNET_FIELD_LONG] = 2;

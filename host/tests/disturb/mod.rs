@@ -11,6 +11,9 @@ use crate::inputs::Random;
 
 /// Where the places and lengths of the bodies begin among the numbers.
 const BODIES: usize = 17;
+/// The pair of the blocks, and that of the further bytes of LinkInfo's head.
+const BLOCKS: usize = 47;
+const FURTHER: usize = 49;
 
 struct Disturbed<'a> {
     fields: Vec<u64>,
@@ -42,9 +45,10 @@ impl Disturbed<'_> {
             74..=83 => self.number(random),
             84..=86 => self.swapped(random),
             87..=88 => self.blocks_again(),
-            89..=90 => self.fields.resize(random.pick(&[0, 1, 48, 50]), 0),
+            89..=90 => self.fields.resize(random.pick(&[0, 1, 49, 50, 52]), 0),
             91..=93 => self.body.truncate(random.below(self.body.len() + 1)),
-            94..=97 => self.absent_junk(random),
+            94..=95 => self.absent_junk(random),
+            96..=97 => self.further(random),
             _ => self.body_byte(random),
         }
     }
@@ -52,12 +56,12 @@ impl Disturbed<'_> {
     /// The number of a body, mostly one that has bytes.
     fn any_body(&self, random: &mut Random) -> usize {
         for _ in 0..6 {
-            let at = BODIES + 2 * random.below(16);
+            let at = BODIES + 2 * random.below(17);
             if self.fields[at] != 0 {
                 return at;
             }
         }
-        BODIES + 2 * random.below(16)
+        BODIES + 2 * random.below(17)
     }
 
     fn place_past_end(&mut self, random: &mut Random) {
@@ -152,17 +156,27 @@ impl Disturbed<'_> {
 
     /// The blocks and all of them once more, so that every known one stands twice.
     fn blocks_again(&mut self) {
-        let (at, length) = (self.fields[FIELDS - 2] as usize, self.fields[FIELDS - 1] as usize);
+        let (at, length) = (self.fields[BLOCKS] as usize, self.fields[BLOCKS + 1] as usize);
         if let Some(blocks) = at.checked_add(length).and_then(|end| self.body.get(at..end)) {
             let twice = blocks.repeat(2);
-            self.fields[FIELDS - 2..].copy_from_slice(&[self.body.len() as u64, twice.len() as u64]);
+            self.fields[BLOCKS..BLOCKS + 2].copy_from_slice(&[self.body.len() as u64, twice.len() as u64]);
             self.body.extend(twice);
         }
     }
 
-    /// Numbers where the reader put zeros, many of them in what is absent.
+    /// Other further bytes, of a head that is as it was or of the other kind.
+    fn further(&mut self, random: &mut Random) {
+        let (place, length) = (random.below(self.body.len() + 1), random.pick(&[0, 0, 1, 8, 28, 300]));
+        self.fields[FURTHER..FURTHER + 2].copy_from_slice(&[place as u64, length as u64]);
+        if random.chance(30) {
+            self.fields[10] ^= 1;
+        }
+    }
+
+    /// Numbers where the reader put zeros, most of them in what is absent. The further bytes are absent only with LinkInfo.
     fn absent_junk(&mut self, random: &mut Random) {
-        for at in 9..FIELDS {
+        let end = if self.fields[0] & 2 == 0 { FIELDS } else { FURTHER };
+        for at in 9..end {
             if self.fields[at] == 0 && random.chance(30) {
                 self.fields[at] = if [10, 13, 16].contains(&at) { 1 } else { random.next() >> 33 };
             }

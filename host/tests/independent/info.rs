@@ -141,6 +141,7 @@ fn read_pieces(part: Stretch, head: &Head) -> Result<Info, Wrong> {
     info.suffix = part.text(head.size, head.suffix).map_err(wrong(24))?;
     spans[3] = Span::of(info.suffix, 1);
     if head.long {
+        info.further_bytes = Body::new(part.place + 0x24, head.size - 0x24);
         if head.flags & 1 != 0 {
             info.unicode_local_path = part.unicode_text(head.size, head.unicode_local_path).map_err(wrong(28))?;
             spans[4] = Span::of(info.unicode_local_path, 2);

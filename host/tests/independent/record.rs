@@ -3,7 +3,7 @@
 use super::Profile;
 
 /// The count of numbers that a record has at the boundary.
-pub const FIELDS: usize = 49;
+pub const FIELDS: usize = 51;
 
 #[derive(Clone, Copy, PartialEq, Eq, Debug, Default)]
 pub struct Body {
@@ -93,6 +93,8 @@ pub struct Info {
     pub suffix: Body,
     pub unicode_local_path: Body,
     pub unicode_suffix: Body,
+    /// What a long head has after its first 0x24 bytes.
+    pub further_bytes: Body,
 }
 
 #[derive(Clone, PartialEq, Eq, Debug, Default)]
@@ -156,6 +158,7 @@ impl Record {
         put_body(fields, 7, info.suffix);
         put_body(fields, 8, info.unicode_local_path);
         put_body(fields, 9, info.unicode_suffix);
+        put_body(fields, 16, info.further_bytes);
     }
 
     /// None for numbers that are no record.
@@ -218,6 +221,7 @@ fn info_from(fields: &[u64]) -> Option<Info> {
         suffix: body_from(fields, 7)?,
         unicode_local_path: body_from(fields, 8)?,
         unicode_suffix: body_from(fields, 9)?,
+        further_bytes: body_from(fields, 16)?,
     })
 }
 

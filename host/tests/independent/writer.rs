@@ -26,6 +26,8 @@ struct InfoContents<'a> {
     suffix: &'a [u8],
     unicode_local_path: &'a [u8],
     unicode_suffix: &'a [u8],
+    /// There with the short head too, where it must be empty.
+    further_bytes: &'a [u8],
 }
 
 #[derive(PartialEq, Debug, Default)]
@@ -154,6 +156,7 @@ impl<'a> InfoContents<'a> {
             self.network.gather(&info.network, body)?;
         }
         self.suffix = info.suffix.of(body)?;
+        self.further_bytes = info.further_bytes.of(body)?;
         if self.long_head {
             if self.has_local() {
                 self.unicode_local_path = info.unicode_local_path.of(body)?;
@@ -173,7 +176,7 @@ impl<'a> InfoContents<'a> {
 
     fn head_length(&self) -> usize {
         if self.long_head {
-            0x24
+            0x24 + capped(self.further_bytes)
         } else {
             0x1C
         }
@@ -205,6 +208,7 @@ impl<'a> InfoContents<'a> {
             && is_text(self.suffix)
             && is_unicode_text(self.unicode_local_path)
             && is_unicode_text(self.unicode_suffix)
+            && (self.long_head || self.further_bytes.is_empty())
     }
 
     fn put(&self, pen: &mut Pen) {
@@ -220,6 +224,7 @@ impl<'a> InfoContents<'a> {
         if self.long_head {
             pen.offset(&mut next, local, self.unicode_local_path.len() + 2);
             pen.offset(&mut next, true, self.unicode_suffix.len() + 2);
+            pen.bytes(self.further_bytes);
         }
         self.put_pieces(pen);
     }

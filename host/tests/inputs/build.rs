@@ -261,7 +261,10 @@ impl Draft {
         };
         let head = match random.chance(45) {
             false => 0x1C,
-            true => random.pick(&[0x24, 0x24, 0x24, 0x25, 0x26, 0x28, 0x2C, 0x40]),
+            true => {
+                let (any, far) = (random.from_to(0x24, 0x40), random.pick(&[0x41, 0x64, 0x100, 0x400]));
+                random.pick(&[0x24, 0x24, 0x24, 0x2C, any, any, any, far])
+            }
         };
         self.bytes.resize(base + head.min(0x24), 0);
         self.random_bytes(random, head.saturating_sub(0x24));

@@ -50,7 +50,7 @@ fn absent(info: &[u8]) -> Vec<usize> {
 
 /// No place, a place at an edge, or one that would be legal: the start of a piece, or of any byte after the head.
 fn value(draft: &Draft, base: usize, random: &mut Random) -> usize {
-    let head = usize::from(draft.bytes[base + 4]);
+    let head = usize::from(draft.bytes[base + 4]) | usize::from(draft.bytes[base + 5]) << 8;
     let size = draft.bytes.len() - base;
     let piece = random.pick(&draft.pieces.iter().map(|piece| piece.start - base).collect::<Vec<_>>());
     let (near, any) = (head + random.below(16), random.below(1 << 32));

@@ -5,6 +5,7 @@
 
 mod build;
 mod damage;
+mod heads;
 mod large;
 mod leftovers;
 mod moving;
@@ -14,6 +15,8 @@ mod store;
 mod stores;
 
 pub use build::Draft;
+#[allow(unused_imports)]
+pub use heads::{headed, heads, loose, LONGEST_HEAD};
 #[allow(unused_imports)]
 pub use large::large;
 #[allow(unused_imports)]

@@ -64,7 +64,8 @@ impl Maker<'_> {
         let (flags, long) = (self.random.below(4), self.random.chance(50));
         let (local, suffix) = (self.text(1), self.text(1));
         let twins = [self.twin(&local), self.twin(&suffix)];
-        info(flags, [&local, &suffix], long.then_some(twins))
+        let further = if self.slips && self.random.chance(30) { self.text(0) } else { Vec::new() };
+        info(flags, [&local, &suffix], long.then_some((twins, further)))
     }
 
     fn shortcut(&mut self) -> Vec<u8> {
@@ -85,12 +86,14 @@ impl Maker<'_> {
     }
 }
 
-/// LinkInfo with these flags, local path and suffix, and with the long head their twins.
-fn info(flags: usize, texts: [&[u8]; 2], twins: Option<[Vec<u8>; 2]>) -> Vec<u8> {
-    let head = if twins.is_some() { 0x24 } else { 0x1C };
-    let (is_local, is_network, is_long) = (flags & 1 != 0, flags & 2 != 0, twins.is_some());
+/// LinkInfo with these flags, local path and suffix, and with the long head their twins and its further bytes.
+fn info(flags: usize, texts: [&[u8]; 2], long: Option<([Vec<u8>; 2], Vec<u8>)>) -> Vec<u8> {
+    let (is_local, is_network, is_long) = (flags & 1 != 0, flags & 2 != 0, long.is_some());
+    let (twins, further) = long.unwrap_or_default();
+    let fields = if is_long { 9 } else { 7 };
+    let head = 4 * fields + further.len();
     let [local, suffix] = texts.map(|text| [text, &[0]].concat());
-    let [local_twin, suffix_twin] = twins.unwrap_or_default().map(|twin| [&twin[..], &[0, 0]].concat());
+    let [local_twin, suffix_twin] = twins.map(|twin| [&twin[..], &[0, 0]].concat());
     let pieces = [
         (is_local, VOLUME.to_vec()),
         (is_local, local),
@@ -105,8 +108,8 @@ fn info(flags: usize, texts: [&[u8]; 2], twins: Option<[Vec<u8>; 2]>) -> Vec<u8>
         body.extend(piece);
     }
     let numbers = [head + body.len(), head, flags].into_iter().chain(offsets);
-    let front = numbers.take(head / 4).flat_map(|number| (number as u32).to_le_bytes());
-    front.chain(body).collect()
+    let front = numbers.take(fields).flat_map(|number| (number as u32).to_le_bytes());
+    front.chain(further).chain(body).collect()
 }
 
 /// An accepted shortcut; nine of ten can be moved, to Unicode or to bytes.
