@@ -156,6 +156,8 @@ pub enum Fault {
     Twice,
     Store,
     NoMap,
+    Shelf,
+    Entry,
 }
 
 // Accepted with the length, or refused with the fault and its position.
@@ -272,6 +274,8 @@ pub fn number_of(f: Fault) -> u8
         Fault::Twice => 14,
         Fault::Store => 15,
         Fault::NoMap => 16,
+        Fault::Shelf => 17,
+        Fault::Entry => 18,
     }
 }
 

@@ -9,7 +9,7 @@ use Rattle.format.specs.Numbers.{numberOf, answerNumber, answerValue}
 use Rattle.scheduler.specs.Code.{codeOf}
 
 module _ {v : Verdict} {n : ℕ} (e : v ≡ Accepted n) where
-  pub accepted-small : answerValue v ≤ 131073 → n ≤ 131073
+  pub accepted-small : answerValue v ≤ 4194820 → n ≤ 4194820
   unfolding answerValue
   accepted-small h = rw e at h
 
@@ -18,7 +18,7 @@ module _ {v : Verdict} {n : ℕ} (e : v ≡ Accepted n) where
   accepted-code = rw e (omega arith)
 
 module _ {v : Verdict} {f : Fault} {p : ℕ} (e : v ≡ Refused f p) where
-  pub refused-small : answerValue v ≤ 131073 → p ≤ 131073
+  pub refused-small : answerValue v ≤ 4194820 → p ≤ 4194820
   unfolding answerValue
   refused-small h = rw e at h
 

@@ -38,7 +38,7 @@ module _ (profile : Profile) (s f : List ℕ) where
         (rw n (rw e at c), rw (n, v))
 
     module _ {n : ℕ} (t : g .verdict ≡ Accepted n) where
-      pub read-small : n ≤ 131073
+      pub read-small : n ≤ 4194820
       read-small = let v : reading profile s .verdict ≡ Accepted n = rw e at t in accepted-small v (check-small profile s)
 
       pub read-filled : {x : List ℕ} → x ≡ fieldsOf (g .held) → (256 * n ≡ readCode profile s f) × (x ≡ readFields profile s f)

@@ -5,3 +5,4 @@ pub mod StoreLaws
 pub mod PathLaws
 pub mod OneOutcome
 pub mod SpotLaws
+pub mod ShelfLaws

@@ -14,6 +14,12 @@ use Rattle.scheduler.proofs.herringnet_fault as herringnet-fault
 use Rattle.scheduler.proofs.herringnet_store_list as herringnet-store-list
 use Rattle.scheduler.proofs.herringnet_store_write as herringnet-store-write
 use Rattle.scheduler.proofs.herringnet_path_block as herringnet-path-block
+use Rattle.scheduler.proofs.herringnet_shelf_check as herringnet-shelf-check
+use Rattle.scheduler.proofs.herringnet_shelf_entry as herringnet-shelf-entry
+use Rattle.scheduler.proofs.herringnet_shelf_one as herringnet-shelf-one
+use Rattle.scheduler.proofs.herringnet_shelf_build as herringnet-shelf-build
+use Rattle.scheduler.proofs.herringnet_shelf_from_old as herringnet-shelf-from-old
+use Rattle.scheduler.proofs.herringnet_shelf_to_old as herringnet-shelf-to-old
 
 pub herringnet-check-one-outcome : OneAnswer herringnet-check.ended herringnet-check.Reads.Post
 herringnet-check-one-outcome κs a r q s t p o = p ∙ sym o
@@ -50,3 +56,21 @@ herringnet-store-write-one-outcome κs a r q s t p o = (p .0 ∙ sym (o .0), p .
 
 pub herringnet-path-block-one-outcome : OneOutcome herringnet-path-block.ended (λ κs s. now (s .1 .1 .1 .1 .1 .0)) herringnet-path-block.Reads.Post
 herringnet-path-block-one-outcome κs a r q s t p o = (p .0 ∙ sym (o .0), p .1 .0 ∙ sym (o .1 .0))
+
+pub herringnet-shelf-check-one-outcome : OneAnswer herringnet-shelf-check.ended herringnet-shelf-check.Reads.Post
+herringnet-shelf-check-one-outcome κs a r q s t p o = p ∙ sym o
+
+pub herringnet-shelf-entry-one-outcome : OneAnswer herringnet-shelf-entry.ended herringnet-shelf-entry.Reads.Post
+herringnet-shelf-entry-one-outcome κs a r q s t p o = p ∙ sym o
+
+pub herringnet-shelf-one-one-outcome : OneAnswer herringnet-shelf-one.ended herringnet-shelf-one.Reads.Post
+herringnet-shelf-one-one-outcome κs a r q s t p o = p ∙ sym o
+
+pub herringnet-shelf-build-one-outcome : OneOutcome herringnet-shelf-build.ended (λ κs s. now (s .1 .1 .0)) herringnet-shelf-build.Reads.Post
+herringnet-shelf-build-one-outcome κs a r q s t p o = (p .0 ∙ sym (o .0), p .1 ∙ sym (o .1))
+
+pub herringnet-shelf-from-old-one-outcome : OneOutcome herringnet-shelf-from-old.ended (λ κs s. now (s .1 .0)) herringnet-shelf-from-old.Reads.Post
+herringnet-shelf-from-old-one-outcome κs a r q s t p o = (p .0 ∙ sym (o .0), p .1 ∙ sym (o .1))
+
+pub herringnet-shelf-to-old-one-outcome : OneOutcome herringnet-shelf-to-old.ended (λ κs s. now (s .1 .0)) herringnet-shelf-to-old.Reads.Post
+herringnet-shelf-to-old-one-outcome κs a r q s t p o = (p .0 ∙ sym (o .0), p .1 ∙ sym (o .1))

@@ -27,7 +27,7 @@ use Rattle.scheduler.specs.Paths.{pathCode, pathWritten, PathEndsOf}
 use Rattle.scheduler.proofs.PositionLaws.{writable-few}
 
 -- what is written is a shortcut
-pub path-small : (profile : Profile) (r : Record) (d : List ℕ) (signature : ℕ) (text unicode out : List ℕ) → answerValue (pathAnswer profile r d signature text unicode out) ≤ 131073
+pub path-small : (profile : Profile) (r : Record) (d : List ℕ) (signature : ℕ) (text unicode out : List ℕ) → answerValue (pathAnswer profile r d signature text unicode out) ≤ 4194820
 unfolding answerValue pathAnswer pathWriting
 path-small profile r d signature text unicode out =
     let c = withPath (pathBlock signature text unicode) (contents d r) in
@@ -38,7 +38,7 @@ path-small profile r d signature text unicode out =
     no = refused UNWRITABLE nowhere
 
     go : (w : List ℕ) (a s t u e f g : Bool) → (f ≡ true → length w ≤ most)
-        → answerValue (verdictOf (cond a (cond s (cond t (cond u (cond e (cond f (cond g (got w (length w)) (refused ROOM nowhere)) no) no) no) no) no) (refused PLACE nowhere))) ≤ 131073
+        → answerValue (verdictOf (cond a (cond s (cond t (cond u (cond e (cond f (cond g (got w (length w)) (refused ROOM nowhere)) no) no) no) no) no) (refused PLACE nowhere))) ≤ 4194820
     go w true true true true true true true h = omega (arith, h refl)
     go w true true true true true true false h = omega arith
     go w true true true true true false g h = omega arith

@@ -24,16 +24,16 @@ use Rattle.scheduler.specs.Code.{codeOf}
 use Rattle.scheduler.specs.Records.{FIELDS}
 use Rattle.scheduler.specs.Stores.{storeWriteCode, storeWrittenRows, StoreEndsOf}
 
-pub store-list-small : (profile : Profile) (s out : List ℕ) → answerValue (storeListAnswer profile s out) ≤ 131073
+pub store-list-small : (profile : Profile) (s out : List ℕ) → answerValue (storeListAnswer profile s out) ≤ 4194820
 unfolding answerValue storeListAnswer storeList
 store-list-small profile s out = go (shortcut profile s) refl
   where
-    either : (w : List ℕ) (n : ℕ) → n ≤ 65536 → (b : Bool) → answerValue (verdictOf (cond b (got w n) (refused ROOM nowhere))) ≤ 131073
+    either : (w : List ℕ) (n : ℕ) → n ≤ 65536 → (b : Bool) → answerValue (verdictOf (cond b (got w n) (refused ROOM nowhere))) ≤ 4194820
     either w n h true = omega arith
     either w n h false = omega arith
 
     go : (o : Outcome Sections) → shortcut profile s ≡ o
-        → answerValue (verdictOf (andThen o (λ c n. tests noSection (leb (length (allNumbers (rowsOf s c))) (length out) else ROOM at 0 ∷ []) (got (allNumbers (rowsOf s c)) (length (rowsOf s c)))))) ≤ 131073
+        → answerValue (verdictOf (andThen o (λ c n. tests noSection (leb (length (allNumbers (rowsOf s c))) (length out) else ROOM at 0 ∷ []) (got (allNumbers (rowsOf s c)) (length (rowsOf s c)))))) ≤ 4194820
     go (got c n) i = either (allNumbers (rowsOf s c)) (length (rowsOf s c)) (omega (arith, rows-few s c, (shortcut-whole profile s c n i) .limit)) (leb (length (allNumbers (rowsOf s c))) (length out))
     go (refused f q) i = omega (arith, positions-small profile s f q i)
 
@@ -42,7 +42,7 @@ writable-few : (es : List Entry) → writableStore es ≡ true → length (store
 unfolding writableStore
 writable-few es e = leb-true (length (storeBytes es)) mostStore (and-true (entriesFit 0 es) (leb (length (storeBytes es)) mostStore) e .1)
 
-pub store-write-small : (ns d out : List ℕ) → answerValue (storeWriteAnswer ns d out) ≤ 131073
+pub store-write-small : (ns d out : List ℕ) → answerValue (storeWriteAnswer ns d out) ≤ 4194820
 unfolding answerValue storeWriteAnswer storeWriting
 store-write-small ns d out =
     let es = entries d (rowsFrom ns) in
@@ -50,7 +50,7 @@ store-write-small ns d out =
     go w (rowsPlaced (length d) (rowsFrom ns)) (eqb (length ns % 6) 0 && writableStore es) (leb (length w) (length out)) (λ e. writable-few es (and-true (eqb (length ns % 6) 0) (writableStore es) e .1))
   where
     go : (w : List ℕ) (a b c : Bool) → (b ≡ true → length w ≤ mostStore)
-        → answerValue (verdictOf (cond a (cond b (cond c (got w (length w)) (refused ROOM nowhere)) (refused UNWRITABLE nowhere)) (refused PLACE nowhere))) ≤ 131073
+        → answerValue (verdictOf (cond a (cond b (cond c (got w (length w)) (refused ROOM nowhere)) (refused UNWRITABLE nowhere)) (refused PLACE nowhere))) ≤ 4194820
     go w true true true h = omega (arith, h refl)
     go w true true false h = omega arith
     go w true false c h = omega arith

@@ -3,3 +3,4 @@ pub mod Profiles
 pub mod Records
 pub mod Stores
 pub mod Paths
+pub mod Shelves

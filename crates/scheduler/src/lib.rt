@@ -1,6 +1,7 @@
 // What the scheduler calls (FORMAT: The C answers): a number for each answer, its number and its value in one.
 use format::Profile;
 use format::Verdict;
+use shelving::Fetched;
 ghost use mathlib.Core.Path.{_≡_};
 ghost use Prim.Native.Nat.{_≤_};
 ghost use Rattle.format.specs.Numbers.{answerValue};
@@ -10,14 +11,19 @@ ghost use Rattle.format.specs.Key.{keyAnswer, keyOutput};
 ghost use Rattle.format.specs.Moving.{toUnicodeAnswer, toUnicodeOutput, toBytesAnswer, toBytesOutput};
 ghost use Rattle.format.specs.Listing.{sectionPlace};
 ghost use Rattle.format.specs.StoreList.{storeListAnswer, storeListOutput};
+ghost use Rattle.shelving.specs.Shelf.{shelfAnswer, entryAnswer, oneAnswer};
+ghost use Rattle.shelving.specs.Building.{buildAnswer, buildOutput};
+ghost use Rattle.shelving.specs.OldForm.{fromOldAnswer, fromOldOutput, toOldAnswer, toOldOutput};
+ghost use Rattle.shelving.specs.Steps.Fetches.{FetchSmall};
 ghost use Rattle.scheduler.specs.Code.{codeOf, faultCode, sectionCode};
 ghost use Rattle.scheduler.specs.Profiles.{PROFILE, profileOf, underProfile};
 ghost use Rattle.scheduler.specs.Records.{readCode, readFields, writeCode, writtenFields, EndsOf};
 ghost use Rattle.scheduler.specs.Stores.{storeWriteCode, storeWrittenRows, StoreEndsOf};
 ghost use Rattle.scheduler.specs.Paths.{pathCode, pathWritten, PathEndsOf};
+ghost use Rattle.scheduler.specs.Shelves.{fetchCode};
 
 fn code_of(v: Verdict) -> u64
-    requires { ⌜ answerValue v ≤ 131073 ⌝ }
+    requires { ⌜ answerValue v ≤ 4194820 ⌝ }
     ensures { λ r. ⌜ r ≡ codeOf v ⌝ }
 {
     match v {
@@ -213,5 +219,67 @@ pub extern "C" fn herringnet_path_block(
     }
     let q = fields::record_from(f);
     let v = pathing::path_block(q, d, signature, text, unicode, out, profile_of(profile));
+    code_of(v)
+}
+
+#[no_mangle]
+pub extern "C" fn herringnet_shelf_check(s: &[u8]) -> u64
+    ensures { λ r. ⌜ r ≡ codeOf (shelfAnswer (now (s .entry))) ⌝ }
+{
+    let v = shelving::shelf_check(s);
+    code_of(v)
+}
+
+fn fetch_code(g: Fetched) -> u64
+    requires { ⌜ FetchSmall g ⌝ }
+    ensures { λ r. ⌜ r ≡ fetchCode g ⌝ }
+{
+    let v = g.verdict;
+    let Verdict::Accepted(_) = v else {
+        return code_of(v);
+    };
+    256 * (g.place.len as u64 + 65537 * (g.place.at as u64))
+}
+
+#[no_mangle]
+pub extern "C" fn herringnet_shelf_entry(s: &[u8], number: usize) -> u64
+    ensures { λ r. ⌜ r ≡ fetchCode (entryAnswer (now (s .entry)) number) ⌝ }
+{
+    let g = shelving::shelf_entry(s, number);
+    fetch_code(g)
+}
+
+#[no_mangle]
+pub extern "C" fn herringnet_shelf_one(s: &[u8], number: usize) -> u64
+    ensures { λ r. ⌜ r ≡ fetchCode (oneAnswer (now (s .entry)) number) ⌝ }
+{
+    let g = shelving::shelf_one(s, number);
+    fetch_code(g)
+}
+
+#[no_mangle]
+pub extern "C" fn herringnet_shelf_build(lengths: &[u64], bodies: &[u8], out: &mut [u8]) -> u64
+    ensures answer { λ r. ⌜ r ≡ codeOf (buildAnswer (now (lengths .entry)) (now (bodies .entry)) (now (out .entry))) ⌝ }
+    ensures output { λ _. ⌜ now (out .exit) ≡ buildOutput (now (lengths .entry)) (now (bodies .entry)) (now (out .entry)) ⌝ }
+{
+    let v = shelving::shelf_build(lengths, bodies, out);
+    code_of(v)
+}
+
+#[no_mangle]
+pub extern "C" fn herringnet_shelf_from_old(old: &[u8], out: &mut [u8]) -> u64
+    ensures answer { λ r. ⌜ r ≡ codeOf (fromOldAnswer (now (old .entry)) (now (out .entry))) ⌝ }
+    ensures output { λ _. ⌜ now (out .exit) ≡ fromOldOutput (now (old .entry)) (now (out .entry)) ⌝ }
+{
+    let v = shelving::shelf_from_old(old, out);
+    code_of(v)
+}
+
+#[no_mangle]
+pub extern "C" fn herringnet_shelf_to_old(s: &[u8], out: &mut [u8]) -> u64
+    ensures answer { λ r. ⌜ r ≡ codeOf (toOldAnswer (now (s .entry)) (now (out .entry))) ⌝ }
+    ensures output { λ _. ⌜ now (out .exit) ≡ toOldOutput (now (s .entry)) (now (out .entry)) ⌝ }
+{
+    let v = shelving::shelf_to_old(s, out);
     code_of(v)
 }

@@ -1,0 +1,13 @@
+pub mod PutLaws
+pub mod ApartLaws
+pub mod TableLaws
+pub mod OldLaws
+pub mod EntryLaws
+pub mod CallLaws
+pub mod FileLaws
+pub mod RoundLaws
+pub mod ShelfLaws
+pub mod Demands
+pub mod OneOutcome
+pub mod Rows
+pub mod SmallLaws

@@ -1,0 +1,5 @@
+pub mod Shelf
+pub mod Building
+pub mod OldForm
+pub mod Promises
+pub mod Steps
