@@ -46,12 +46,20 @@ extern "C" {
 #define HERRINGNET_FAULT_START(answer) (HERRINGNET_VALUE(answer) / 65537 % 65537)
 #define HERRINGNET_FAULT_SECTION(answer) ((unsigned)(HERRINGNET_VALUE(answer) / 65537 / 65537))
 
+/* The two parts of the value that herringnet_shelf_entry and herringnet_shelf_one answer. A start on a shelf may pass
+ * 65,536, so that here the length is the low part. */
+#define HERRINGNET_ENTRY_START(answer) (HERRINGNET_VALUE(answer) / 65537)
+#define HERRINGNET_ENTRY_LENGTH(answer) (HERRINGNET_VALUE(answer) % 65537)
+
+/* The most entries that a shelf may have. */
+#define HERRINGNET_MOST_ENTRIES 64
+
 /* The most bytes that a shortcut may have. */
 #define HERRINGNET_LONGEST 65536
 
 /* The numbers of answers (FORMAT: Numbers). A position is the first byte of the field found wrong, 65,536 for LONG, the
- * first byte after the terminal block for TRAIL, and 0 from PLACE to NOTARGET, for NOMAP and from 201 on (FORMAT:
- * Positions). */
+ * first byte after the terminal block for TRAIL, the entry's number for ENTRY, and 0 from PLACE to NOTARGET, for NOMAP
+ * and SHELF, and from 201 on (FORMAT: Positions). */
 enum herringnet_number {
     HERRINGNET_OK = 0,
     HERRINGNET_LONG = 1,        /* over 65,536 bytes */
@@ -70,6 +78,8 @@ enum herringnet_number {
     HERRINGNET_TWICE = 14,      /* a block has the known signature of one before it */
     HERRINGNET_STORE = 15,      /* the property store of a block */
     HERRINGNET_NOMAP = 16,      /* a text cannot be moved, or flag bit 7 is already as asked */
+    HERRINGNET_SHELF = 17,      /* count, table, lengths or number do not fit a shelf */
+    HERRINGNET_ENTRY = 18,      /* an entry of a shelf is refused */
     HERRINGNET_FIELDS = 201,    /* fields are not 51 numbers, or rows not whole rows; tested after PROFILE */
     HERRINGNET_VALUES = 202,    /* a number of fields does not fit its field; tested next */
     HERRINGNET_PROFILE = 203    /* profile is no number of enum herringnet_profile; tested first */
@@ -103,6 +113,8 @@ static inline const char *herringnet_name(unsigned number)
     case HERRINGNET_TWICE: return "TWICE";
     case HERRINGNET_STORE: return "STORE";
     case HERRINGNET_NOMAP: return "NOMAP";
+    case HERRINGNET_SHELF: return "SHELF";
+    case HERRINGNET_ENTRY: return "ENTRY";
     case HERRINGNET_FIELDS: return "FIELDS";
     case HERRINGNET_VALUES: return "VALUES";
     case HERRINGNET_PROFILE: return "PROFILE";
@@ -278,6 +290,35 @@ uint64_t herringnet_store_write(const uint64_t *rows, size_t rows_len, const uin
 uint64_t herringnet_path_block(const uint64_t *fields, size_t fields_len, const uint8_t *body, size_t body_len,
                                uint32_t signature, const uint8_t *text, size_t text_len, const uint8_t *unicode,
                                size_t unicode_len, uint8_t *out, size_t out_len, uint32_t profile);
+
+/* Tests all of a shelf: a count of at most HERRINGNET_MOST_ENTRIES, a table of start and length for each entry, the
+ * entries end to end up to the file's end, each of them a shortcut that herringnet_check accepts as strict (FORMAT:
+ * Shelf tests). No function of the shelf takes a profile. All numbers have four bytes. Success: the number of entries.
+ * Refusals: SHELF, then ENTRY with the number of the first bad entry, from 0, as its value. */
+uint64_t herringnet_shelf_check(const uint8_t *shelf, size_t shelf_len);
+
+/* Says where the entry of this number, from 0, stands: HERRINGNET_ENTRY_START and HERRINGNET_ENTRY_LENGTH of the answer.
+ * It tests all of the shelf, as every call on one but the next does. Refusals: SHELF, also for a number that is not on
+ * the shelf, then ENTRY. */
+uint64_t herringnet_shelf_entry(const uint8_t *shelf, size_t shelf_len, size_t number);
+
+/* The same wherever herringnet_shelf_entry accepts. It tests the whole table, and then of the entries the one asked for
+ * alone, so that one is found without reading the others. Refusals: SHELF as there, then ENTRY with this number. */
+uint64_t herringnet_shelf_one(const uint8_t *shelf, size_t shelf_len, size_t number);
+
+/* Writes a shelf into out. The bodies of its entries stand end to end, and lengths has a number for each of them.
+ * Success: its length. Refusals: SHELF for more than HERRINGNET_MOST_ENTRIES lengths or where their sum, which does not
+ * wrap, is not bodies_len; ENTRY; ROOM, in this order. */
+uint64_t herringnet_shelf_build(const uint64_t *lengths, size_t lengths_len, const uint8_t *bodies, size_t bodies_len,
+                                uint8_t *out, size_t out_len);
+
+/* Writes the shelf of a file in the old form, a length of four bytes and the shortcut, again and again, into out.
+ * Success: its length. Refusals: SHELF for a length that is cut or passes the file's end and for more than
+ * HERRINGNET_MOST_ENTRIES entries; ENTRY; ROOM, in this order. */
+uint64_t herringnet_shelf_from_old(const uint8_t *old, size_t old_len, uint8_t *out, size_t out_len);
+
+/* Writes the old form of a shelf into out. Success: its length. Refusals: as herringnet_shelf_check, then ROOM. */
+uint64_t herringnet_shelf_to_old(const uint8_t *shelf, size_t shelf_len, uint8_t *out, size_t out_len);
 
 #ifdef __cplusplus
 }

@@ -1,7 +1,7 @@
 //! The proved library and the independent implementation, timed on the same shortcuts in one run.
 //!
 //! Without words it prints tables. `speed count SHAPE CALL N --proved` (or `--independent`) makes
-//! N calls of one side and ends, so that instructions can be counted from outside.
+//! N calls of one side and ends, so that instructions can be counted from outside; `speed length SHAPE` prints a length.
 
 #[path = "../tests/independent/mod.rs"]
 mod independent;
@@ -23,6 +23,7 @@ const COPY_SETTING: &str = "glibc.cpu.x86_rep_movsb_threshold=1000000000";
 
 /// A shortcut with all that the calls need.
 struct Case {
+    shape: String,
     shortcut: Vec<u8>,
     /// The shortcut with strings of bytes and with Unicode ones; empty where it cannot be moved.
     in_bytes: Vec<u8>,
@@ -41,7 +42,7 @@ struct Call {
     independent: Side,
 }
 
-const CALLS: [Call; 9] = [
+const CALLS: [Call; 11] = [
     Call {
         name: "check",
         proved: |case| proved::check(&case.shortcut, 0),
@@ -93,6 +94,17 @@ const CALLS: [Call; 9] = [
         proved: |case| proved::to_bytes(&case.in_unicode, &mut case.out, 0),
         independent: |case| independent::boundary_to_bytes(&case.in_unicode, &mut case.out, 0),
     },
+    // The last of 64 on a shelf: with a test of all entries, and of this one alone.
+    Call {
+        name: "entry",
+        proved: |case| proved::shelf_entry(&case.shortcut, 63),
+        independent: |case| independent::boundary_shelf_entry(&case.shortcut, 63),
+    },
+    Call {
+        name: "one",
+        proved: |case| proved::shelf_one(&case.shortcut, 63),
+        independent: |case| independent::boundary_shelf_one(&case.shortcut, 63),
+    },
 ];
 
 /// The path block that is put in.
@@ -106,11 +118,23 @@ impl Case {
         let mut record = [0; FIELDS];
         independent::boundary_read(&shortcut, &mut record, 0);
         let [in_bytes, in_unicode] = both_kinds(&shortcut);
-        Case { shortcut, in_bytes, in_unicode, record, fields: [0; FIELDS], out: vec![0; LIMIT] }
+        Case {
+            shape: shape.to_string(),
+            shortcut,
+            in_bytes,
+            in_unicode,
+            record,
+            fields: [0; FIELDS],
+            out: vec![0; LIMIT],
+        }
     }
 
-    /// A refused shortcut has no record to write, and not all can be moved.
+    /// A refused shortcut has no record to write, not all can be moved, and a shelf has calls of its own.
     fn can(&self, call: &Call) -> bool {
+        let on_shelf = ["entry", "one"].contains(&call.name);
+        if on_shelf != (self.shape == shapes::SHELF) {
+            return false;
+        }
         match call.name {
             "write" | "path_block" => independent::check(&self.shortcut, Profile::Strict).is_ok(),
             "to_unicode" | "to_bytes" => !self.in_unicode.is_empty(),
@@ -140,7 +164,8 @@ fn main() {
     match words[..] {
         [] => tables(),
         ["count", shape, call, count, side] => count_calls(shape, call, count, side),
-        _ => stop("speed [count SHAPE CALL N --proved|--independent]"),
+        ["length", shape] => println!("{}", Case::new(shape).shortcut.len()),
+        _ => stop("speed [count SHAPE CALL N --proved|--independent | length SHAPE]"),
     }
 }
 
@@ -258,6 +283,7 @@ fn tables() {
     for shape in shapes::LONG {
         rows(&format!("{}-64", shape));
     }
+    rows(shapes::SHELF);
     println!("\nNanoseconds per byte, proved / independent:\n");
     println!("| Shape | Call | 4 KiB | 16 KiB | 64 KiB |");
     println!("|---|---|---|---|---|");

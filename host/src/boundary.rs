@@ -1,4 +1,4 @@
-//! The twelve proved functions, as they stand in the archive.
+//! The eighteen proved functions, as they stand in the archive.
 //!
 //! Every answer is one number (FORMAT: C numbers): its number, 0 for success, + 256 × a value, which is the length
 //! of a success or the position of a refusal. A refusal changes no byte of `out` and no number of `fields`. The other
@@ -72,9 +72,34 @@ extern "C" {
         out_len: usize,
         profile: u32,
     ) -> u64;
+
+    // pub extern "C" fn herringnet_shelf_check(s: &[u8]) -> u64
+    fn herringnet_shelf_check(s: *const u8, s_len: usize) -> u64;
+
+    // pub extern "C" fn herringnet_shelf_entry(s: &[u8], number: usize) -> u64
+    fn herringnet_shelf_entry(s: *const u8, s_len: usize, number: usize) -> u64;
+
+    // pub extern "C" fn herringnet_shelf_one(s: &[u8], number: usize) -> u64
+    fn herringnet_shelf_one(s: *const u8, s_len: usize, number: usize) -> u64;
+
+    // pub extern "C" fn herringnet_shelf_build(lengths: &[u64], bodies: &[u8], out: &mut [u8]) -> u64
+    fn herringnet_shelf_build(
+        lengths: *const u64,
+        lengths_len: usize,
+        bodies: *const u8,
+        bodies_len: usize,
+        out: *mut u8,
+        out_len: usize,
+    ) -> u64;
+
+    // pub extern "C" fn herringnet_shelf_from_old(old: &[u8], out: &mut [u8]) -> u64
+    fn herringnet_shelf_from_old(old: *const u8, old_len: usize, out: *mut u8, out_len: usize) -> u64;
+
+    // pub extern "C" fn herringnet_shelf_to_old(s: &[u8], out: &mut [u8]) -> u64
+    fn herringnet_shelf_to_old(s: *const u8, s_len: usize, out: *mut u8, out_len: usize) -> u64;
 }
 
-// In all twelve calls pointer and length come from one slice, and a slice that is written to is borrowed by
+// In all eighteen calls pointer and length come from one slice, and a slice that is written to is borrowed by
 // nobody else: that is all that the functions need, since they have no other condition.
 
 /// The verdict on a shortcut; the value of a success is its length.
@@ -166,6 +191,46 @@ pub fn path_block(
             profile,
         )
     }
+}
+
+/// Tests all of a shelf; the value of a success is the number of its entries.
+pub fn shelf_check(shelf: &[u8]) -> u64 {
+    unsafe { herringnet_shelf_check(shelf.as_ptr(), shelf.len()) }
+}
+
+/// Where an entry stands on a shelf of which all is tested: the value is its length + 65,537 × its start.
+pub fn shelf_entry(shelf: &[u8], number: usize) -> u64 {
+    unsafe { herringnet_shelf_entry(shelf.as_ptr(), shelf.len(), number) }
+}
+
+/// The same where of the entries only the one asked for is tested.
+pub fn shelf_one(shelf: &[u8], number: usize) -> u64 {
+    unsafe { herringnet_shelf_one(shelf.as_ptr(), shelf.len(), number) }
+}
+
+/// Writes a shelf of the bodies, which stand end to end and have these lengths, to the front of `out`; the value of a
+/// success is its length.
+pub fn shelf_build(lengths: &[u64], bodies: &[u8], out: &mut [u8]) -> u64 {
+    unsafe {
+        herringnet_shelf_build(
+            lengths.as_ptr(),
+            lengths.len(),
+            bodies.as_ptr(),
+            bodies.len(),
+            out.as_mut_ptr(),
+            out.len(),
+        )
+    }
+}
+
+/// Writes the shelf of a file in the old form to the front of `out`; the value of a success is its length.
+pub fn shelf_from_old(old: &[u8], out: &mut [u8]) -> u64 {
+    unsafe { herringnet_shelf_from_old(old.as_ptr(), old.len(), out.as_mut_ptr(), out.len()) }
+}
+
+/// Writes the old form of a shelf to the front of `out`; the value of a success is its length.
+pub fn shelf_to_old(shelf: &[u8], out: &mut [u8]) -> u64 {
+    unsafe { herringnet_shelf_to_old(shelf.as_ptr(), shelf.len(), out.as_mut_ptr(), out.len()) }
 }
 
 /// Two calls of the system for the command line, which Rust 1.63's library has no safe form of.

@@ -20,6 +20,7 @@ mod profile;
 pub mod record;
 mod refusal;
 mod section;
+pub mod shelf;
 pub mod show;
 mod spot;
 pub mod store;
@@ -34,6 +35,7 @@ pub use refusal::{Fault, Refusal};
 pub use section::{
     listed, listing, listing_under, section, section_under, sections, sections_under, Section, SectionName,
 };
+pub use shelf::Shelf;
 pub use spot::{Spot, WrongField};
 pub use store::Store;
 pub use text::{StringName, Text};
@@ -43,7 +45,7 @@ pub use unwritable::Cause;
 use refusal::answer;
 
 /// The requests whose rules this package and its archive follow; docs/requests of the repository has a note of each.
-pub const REQUESTS: [&str; 11] = ["01", "02", "03", "04", "05", "06", "07", "08", "09", "10", "11"];
+pub const REQUESTS: [&str; 12] = ["01", "02", "03", "04", "05", "06", "07", "08", "09", "10", "11", "12"];
 
 /// The SHA-256 of the archive that is linked, in hex.
 pub const ARCHIVE_DIGEST: &str = env!("HERRINGNET_DIGEST");

@@ -14,6 +14,7 @@ fn main() -> ExitCode {
     match parse(env::args_os().skip(1)) {
         Ok(Plan::Print(text)) => ExitCode::from(print(&text) as u8),
         Ok(Plan::Run(run)) => ExitCode::from(run.all() as u8),
+        Ok(Plan::Shelve(shelving)) => ExitCode::from(shelving.all() as u8),
         Err(why) => {
             // Nobody could be told more than the status says.
             let _ = write!(io::stderr(), "herringnet: {}\nherringnet: see herringnet --help\n", why);

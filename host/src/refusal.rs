@@ -39,6 +39,10 @@ pub enum Fault {
     Store,
     /// 16: a text cannot be moved, or flag bit 7 is already as asked.
     NoMap,
+    /// 17: count or table of a shelf, lengths that do not fit, or a number that is not on the shelf.
+    Shelf,
+    /// 18: an entry of a shelf that reading refuses; the position is its number, from 0.
+    Entry,
     /// 201, of the boundary alone: the slice of fields has not 51 numbers.
     Fields,
     /// 202, of the boundary alone: a field's number does not fit its field.
@@ -50,7 +54,7 @@ pub enum Fault {
 }
 
 /// Number, name and reason of every fault that has a name.
-const TABLE: [(Fault, u8, &str, &str); 19] = [
+const TABLE: [(Fault, u8, &str, &str); 21] = [
     (Fault::Long, 1, "LONG", "it has more than 65,536 bytes"),
     (Fault::Cut, 2, "CUT", "it is cut off inside a field or a part"),
     (Fault::Magic, 3, "MAGIC", "header size or class identifier is not that of a shortcut"),
@@ -67,6 +71,8 @@ const TABLE: [(Fault, u8, &str, &str); 19] = [
     (Fault::Twice, 14, "TWICE", "a known block stands there twice"),
     (Fault::Store, 15, "STORE", "the property store of a block is wrong"),
     (Fault::NoMap, 16, "NOMAP", "a text cannot be moved, or it is already as asked"),
+    (Fault::Shelf, 17, "SHELF", "count, table, lengths or number do not fit a shelf"),
+    (Fault::Entry, 18, "ENTRY", "the entry of this number is refused"),
     (Fault::Fields, 201, "FIELDS", "a record has 51 numbers"),
     (Fault::Values, 202, "VALUES", "a number does not fit its field"),
     (Fault::Profile, 203, "PROFILE", "there is no such profile"),
@@ -118,7 +124,8 @@ impl fmt::Display for Fault {
 pub struct Refusal {
     /// Why.
     pub fault: Fault,
-    /// The first byte of the field found wrong; 65,536 for LONG; 0 where the fault has no position.
+    /// The first byte of the field found wrong; 65,536 for LONG; the entry's number for ENTRY; 0 where the fault has no
+    /// position.
     pub position: usize,
     /// The field that makes a record unwritable, where it was found; `None` for every other fault.
     pub cause: Option<Cause>,

@@ -2,7 +2,7 @@
 use herringnet::fields::{BLOCKS_AT, FIELDS};
 use herringnet::record::{Header, Info, InfoUnicode, Label, Local, Record};
 use herringnet::show::text::Hex;
-use herringnet::{boundary, key, listing, target, Profile};
+use herringnet::{boundary, key, listing, shelf, target, Profile};
 
 const PAGE: &str = include_str!("../../docs/FORMAT.md");
 
@@ -268,6 +268,30 @@ fn a_shortcut_moved_to_unicode() {
                 assert_eq!((answer % 256, out.iter().all(|&byte| byte == 0xEE)), (number(refused), true))
             }
         }
+    }
+}
+
+#[test]
+fn a_shelf_of_two() {
+    let text = under("A shelf of two");
+    let z = Record::default().to_vec().unwrap();
+    let file = [&bytes(&blocks(text)[0])[..], &z, &z].concat();
+    assert_eq!((boundary::shelf_check(&file), file.len()), (256 * 2, 180));
+    assert!(text.contains("= 1,677,767,680.") && boundary::shelf_entry(&file, 1) == 1_677_767_680);
+    let length = [0x50, 0, 0, 0];
+    let old = [&length[..], &z, &length, &z].concat();
+    assert_eq!(shelf::to_old(&file).unwrap(), old);
+    assert_eq!(shelf::from_old(&old).unwrap(), file);
+    let rows = table(text);
+    assert!(rows.len() > 14);
+    for row in rows {
+        let (fault, position) = row[1].split_once(" at ").unwrap();
+        assert_eq!(
+            boundary::shelf_check(&changed(file.clone(), row[0])),
+            number(fault) + 256 * number(position),
+            "{}",
+            row[0]
+        );
     }
 }
 

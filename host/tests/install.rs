@@ -171,7 +171,7 @@ fn completed(prefix: &Path, words: &[&str]) -> Vec<String> {
 fn bash_completes_words() {
     let prefix = installed("install_bash");
     let commands = ["check", "list", "target", "key", "show", "store", "rewrite", "set", "move"];
-    let all = [&commands[..], &["help", "--help", "--version"]].concat();
+    let all = [&commands[..], &["shelf", "help", "--help", "--version"]].concat();
     assert_eq!(completed(&prefix, &["herringnet", ""]), all);
     for command in commands {
         assert_eq!(completed(&prefix, &["herringnet", command, "--pro"]), ["--profile"]);
@@ -183,6 +183,10 @@ fn bash_completes_words() {
     assert_eq!(completed(&prefix, &["herringnet", "rewrite", "--s"]), ["--suffix"]);
     assert_eq!(completed(&prefix, &["herringnet", "set", "--da"]), ["--darwin", "--darwin-bytes"]);
     assert_eq!(completed(&prefix, &["herringnet", "check", "a"]), [""]);
+    assert_eq!(completed(&prefix, &["herringnet", "shelf", "f"]), ["fetch", "from-old"]);
+    assert_eq!(completed(&prefix, &["herringnet", "shelf", "fetch", "--o"]), ["--one", "--output"]);
+    assert_eq!(completed(&prefix, &["herringnet", "shelf", "check", "f"]), [""]);
+    assert_eq!(completed(&prefix, &["herringnet", "shelf", "check", "--pro"]), [""]);
 }
 
 #[test]
@@ -190,7 +194,7 @@ fn the_manual_has_every_command_and_option() {
     let prefix = installed("install_man");
     let page = fs::read_to_string(prefix.join("share/man/man1/herringnet.1")).unwrap();
     let herringnet = |words: &[&str]| program(prefix.join("bin/herringnet")).args(words).output().unwrap();
-    for command in ["check", "list", "target", "key", "show", "store", "rewrite", "set", "move"] {
+    for command in ["check", "list", "target", "key", "show", "store", "rewrite", "set", "move", "shelf"] {
         assert!(page.contains(&format!("\n.SS {}\n", command)));
         let help = herringnet(&["help", command]);
         for line in text(&help.stdout).lines().filter(|line| line.starts_with("  -")) {

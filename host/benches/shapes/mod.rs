@@ -9,6 +9,7 @@ struct Texts<'a> {
 }
 
 pub const SMALL: [&str; 3] = ["local", "network", "environment"];
+pub const SHELF: &str = "shelf";
 pub const LONG: [&str; 8] = ["string", "letters", "items", "blocks", "store", "texts", "overlap", "unended"];
 
 /// A small shape by its name, or a long one by its name, a hyphen and its KiB.
@@ -17,6 +18,7 @@ pub fn shape(name: &str) -> Option<Vec<u8>> {
         "local" => Some(local()),
         "network" => Some(network()),
         "environment" => Some(environment()),
+        SHELF => Some(shelf()),
         _ => {
             let (kind, kibibytes) = name.rsplit_once('-')?;
             long(kind, kibibytes.parse::<usize>().ok()? * 1024)
@@ -36,6 +38,19 @@ fn long(kind: &str, length: usize) -> Option<Vec<u8>> {
         "unended" => Some(unended_text(length)),
         _ => None,
     }
+}
+
+/// A full shelf of small shortcuts.
+fn shelf() -> Vec<u8> {
+    let entry = local();
+    let mut bytes = Vec::new();
+    put(&mut bytes, 64);
+    for number in 0..64 {
+        put(&mut bytes, (4 + 8 * 64 + number * entry.len()) as u32);
+        put(&mut bytes, entry.len() as u32);
+    }
+    (0..64).for_each(|_| bytes.extend(&entry));
+    bytes
 }
 
 fn header(flags: u32) -> Vec<u8> {

@@ -1,13 +1,15 @@
 //! What a command has to say of one shortcut, as lines and as JSON.
 use super::command::Command;
 use super::input::Input;
+use super::shelf::explained;
 use herringnet::json::Json;
+use herringnet::shelf::bad_entry;
 use herringnet::show::field::{members, text_json, Field};
 use herringnet::show::stores::storages;
 use herringnet::show::text::{Bytes, Hex, Spaced};
 use herringnet::show::{lines, shown_under};
-use herringnet::{check_under, fault_under, key_under, listed, sections_under, target_under};
-use herringnet::{Profile, Refusal, Section, Spot, Store, Text, WrongField};
+use herringnet::{check_under, fault_under, key, key_under, listed, sections_under, target_under};
+use herringnet::{Profile, Refusal, Section, Shelf, Spot, Store, Text, WrongField};
 use std::ops::Range;
 
 /// The answer to a command.
@@ -18,6 +20,8 @@ pub enum Answer<'a> {
     Listing(Vec<Section<'a>>),
     Target(Vec<u8>),
     Key(Vec<u8>),
+    /// The keys of all entries of a shelf.
+    Keys(Vec<Vec<u8>>),
     Fields(Vec<Field>),
 }
 
@@ -31,9 +35,15 @@ impl<'a> Answer<'a> {
             Command::Key => key_under(shortcut, profile).map(Answer::Key),
             Command::Show => shown_under(shortcut, profile).map(Answer::Fields),
             Command::Store => Store::read_under(shortcut, profile).map(|store| Answer::Fields(vec![storages(&store)])),
-            Command::Rewrite | Command::Set | Command::Move => return None,
+            Command::Rewrite | Command::Set | Command::Move | Command::Shelf => return None,
         };
         Some(answer.map_err(|refusal| Refused::new(command, (shortcut, profile), refusal)))
+    }
+
+    /// The keys of all entries of a shelf.
+    pub fn on_shelf(bytes: &'a [u8]) -> Result<Answer<'a>, Refused<'a>> {
+        let keys = Shelf::read(bytes).and_then(|shelf| shelf.entries().map(key).collect());
+        keys.map(Answer::Keys).map_err(|refusal| Refused { refusal, shortcut: bytes, spot: None, on_shelf: true })
     }
 
     /// The lines, without the last line feed.
@@ -43,6 +53,7 @@ impl<'a> Answer<'a> {
             Answer::Listing(sections) => listed(sections).trim_end().to_string(),
             Answer::Target(text) => Bytes(text).to_string(),
             Answer::Key(bytes) => Hex(bytes).to_string(),
+            Answer::Keys(keys) => keys.iter().map(|key| format!("{}\n", Hex(key))).collect::<String>(),
             Answer::Fields(fields) => lines(fields).trim_end().to_string(),
         }
     }
@@ -59,6 +70,7 @@ impl<'a> Answer<'a> {
             }
             Answer::Target(text) => one("target", text_json(&Text::of(false, text))),
             Answer::Key(bytes) => one("key", Json::string(Hex(bytes))),
+            Answer::Keys(keys) => one("keys", Json::Array(keys.iter().map(|key| Json::string(Hex(key))).collect())),
             Answer::Fields(fields) => members(fields).collect(),
         }
     }
@@ -97,12 +109,14 @@ pub struct Refused<'a> {
     shortcut: &'a [u8],
     /// The section at fault, if the command says it.
     spot: Option<Spot>,
+    /// Whether it is a shelf that is refused.
+    on_shelf: bool,
 }
 
 impl<'a> Refused<'a> {
     fn new(command: Command, (shortcut, profile): (&'a [u8], Profile), refusal: Refusal) -> Refused<'a> {
         let spot = if command == Command::Check { fault_under(shortcut, profile) } else { None };
-        Refused { refusal, shortcut, spot }
+        Refused { refusal, shortcut, spot, on_shelf: false }
     }
 
     /// The words of a line.
@@ -112,6 +126,7 @@ impl<'a> Refused<'a> {
                 let Refusal { fault, position, .. } = self.refusal;
                 format!("refused {} at {}: {}", fault, position, spot.explained(self.shortcut))
             }
+            None if self.on_shelf => explained(&self.refusal, bad_entry(self.shortcut, &self.refusal)),
             None => self.refusal.to_string(),
         }
     }

@@ -3,6 +3,7 @@ use super::command::Command;
 use super::input::Input;
 use super::options::{choices, Asks, Choice};
 use super::run::{Output, Run};
+use super::shelf::{Shelving, Task};
 use super::{help, manual};
 use herringnet::show::text::Name;
 use herringnet::{PathKind, PathTexts, Profile};
@@ -16,6 +17,8 @@ pub enum Plan {
     Print(String),
     /// Work on shortcuts.
     Run(Run),
+    /// Work on a shelf.
+    Shelve(Shelving),
 }
 
 /// The plan, or why the words make no sense.
@@ -25,6 +28,7 @@ pub fn parse(mut words: impl Iterator<Item = OsString>) -> Result<Plan, String> 
         Some("--help" | "-h" | "help") => help_for(words),
         Some("--version" | "-V") => only(words, version()),
         word => match word.and_then(Command::of) {
+            Some(Command::Shelf) => shelve(words),
             Some(command) => run(command, words),
             None => Err(format!("there is no command {}", shown(&first))),
         },
@@ -73,6 +77,30 @@ fn run(command: Command, mut words: impl Iterator<Item = OsString>) -> Result<Pl
     given.plan(command)
 }
 
+/// The same for `shelf`: its task comes first, and after `fetch` the number.
+fn shelve(mut words: impl Iterator<Item = OsString>) -> Result<Plan, String> {
+    let first = words.next().ok_or("shelf needs to be told what to do")?;
+    let task = match first.to_str() {
+        Some("-h" | "--help") => return Ok(Plan::Print(help::of(Command::Shelf))),
+        Some("fetch") => Task::Fetch(number(words.next())?),
+        word => word.and_then(Task::of).ok_or_else(|| format!("shelf has no {}", shown(&first)))?,
+    };
+    let mut given = Given::default();
+    while let Some(word) = words.next() {
+        if given.take(Command::Shelf, word, &mut words)? {
+            return Ok(Plan::Print(help::of(Command::Shelf)));
+        }
+    }
+    given.shelving(task)
+}
+
+/// The number of an entry.
+fn number(word: Option<OsString>) -> Result<usize, String> {
+    let word = word.ok_or("fetch needs a NUMBER")?;
+    let number = word.to_str().and_then(|word| word.parse().ok());
+    number.ok_or_else(|| format!("{} is no number of an entry", shown(&word)))
+}
+
 /// What has been given so far.
 #[derive(Default)]
 struct Given {
@@ -91,6 +119,8 @@ struct Given {
     path_bytes: Vec<(PathKind, OsString)>,
     /// The ways to move, true for Unicode.
     ways: Vec<bool>,
+    shelf: bool,
+    one: bool,
     files_only: bool,
 }
 
@@ -125,6 +155,8 @@ impl Given {
             Asks::Json => self.json = true,
             Asks::Raw => self.raw = true,
             Asks::Hex => self.hex = true,
+            Asks::Shelf => self.shelf = true,
+            Asks::One => self.one = true,
             Asks::InPlace => self.outputs.push(Output::InPlace),
             Asks::ToUnicode => self.ways.push(true),
             Asks::ToBytes => self.ways.push(false),
@@ -161,6 +193,7 @@ impl Given {
             raw: self.raw,
             hex: self.hex,
             to_unicode: self.ways.pop().unwrap_or(false),
+            shelf: self.shelf,
             output: self.outputs.pop().unwrap_or(Output::Standard),
             paths,
             several,
@@ -189,6 +222,29 @@ impl Given {
         })
     }
 
+    /// The plan for a shelf, if what was given fits together.
+    fn shelving(mut self, task: Task) -> Result<Plan, String> {
+        if self.inputs.is_empty() && task != Task::Build {
+            self.inputs.push(Input::Standard);
+        }
+        let from_standard = self.inputs.iter().filter(|input| matches!(input, Input::Standard));
+        let wrong = [
+            (from_standard.count() > 1, "standard input can be read only once"),
+            (self.outputs.len() > 1, "-o may stand once"),
+            (!self.outputs.is_empty() && !task.makes_bytes(), "-o goes with build, fetch, from-old and to-old"),
+            (self.outputs.is_empty() && task == Task::Build, "build needs -o SHELF"),
+            (self.inputs.len() > 1 && !task.takes_several(), "there can be one input"),
+            (self.one && !matches!(task, Task::Fetch(_)), "--one goes with fetch"),
+        ];
+        match wrong.iter().find(|(is_wrong, _)| *is_wrong) {
+            Some((_, why)) => Err(why.to_string()),
+            None => {
+                let output = self.outputs.pop().unwrap_or(Output::Standard);
+                Ok(Plan::Shelve(Shelving { task, inputs: self.inputs, one: self.one, output }))
+            }
+        }
+    }
+
     /// The first thing that does not fit together with the others.
     fn clash(&self, command: Command, several: bool) -> Option<&'static str> {
         let from_standard = self.inputs.iter().chain(&self.lists).filter(|input| matches!(input, Input::Standard));
@@ -200,6 +256,7 @@ impl Given {
             (self.outputs.len() > 1, "-o, --in-place and --suffix exclude each other, and each may stand once"),
             (self.lists.len() > 1, "--files-from may stand once"),
             (self.profiles.len() > 1, "--profile may stand once"),
+            (self.shelf && !self.profiles.is_empty(), "--shelf excludes --profile: a shelf is strict"),
             (self.recursive && self.inputs.is_empty() && self.lists.is_empty(), "-r needs a FILE to go through"),
             (self.all_files && !self.recursive, "--all-files goes with -r"),
             (self.raw && (self.json || self.zero), "--raw excludes --json and -0"),

@@ -12,6 +12,7 @@ pub enum Command {
     Rewrite,
     Set,
     Move,
+    Shelf,
 }
 
 /// What help says of a command, beside its options.
@@ -24,7 +25,7 @@ struct Page {
     text: &'static str,
 }
 
-const PAGES: [Page; 9] = [
+const PAGES: [Page; 10] = [
     Page {
         word: "check",
         line: "say of each shortcut whether it is accepted, or which field is wrong, and why",
@@ -70,7 +71,8 @@ name. Where standard input is the only input, the key stands alone. A refused sh
 and is told of on standard error. Two accepted shortcuts have equal keys exactly if these are
 equal: LinkFlags bit 7, the target text, the arguments, the working directory, and the text of
 bytes in the first environment block (A0000001) up to its zero. What is absent differs from what
-is empty. A shortcut without a target has a key too.
+is empty. A shortcut without a target has a key too. With --shelf each FILE is a shelf, and every
+entry has a line: the key, the number of the entry, and the file's name as before.
 ",
     },
     Page {
@@ -149,11 +151,37 @@ text it was, and which byte or unit at which place in the file:
 Files are written as rewrite writes them.
 ",
     },
+    Page {
+        word: "shelf",
+        line: "build, check, list and take apart a shelf: one file with up to 64 shortcuts",
+        usage: &[
+            "build -o SHELF FILE..",
+            "list [SHELF]",
+            "fetch NUMBER [--one] [-o FILE] [SHELF]",
+            "check [SHELF]..",
+            "from-old [-o SHELF] [OLD]",
+            "to-old [-o OLD] [SHELF]",
+        ],
+        text: "\
+A shelf is one file with a table and up to 64 shortcuts, each of which has to be accepted. They
+have the numbers from 0 on.
+  build     makes a shelf of the FILEs, in their order
+  list      prints ok and the number of entries, then for each its number, start and length;
+            for a refused shelf one line: refused, number, position
+  fetch     writes the entry of this number
+  check     prints a line for each SHELF: ok and the number of its entries, or why it is refused
+  from-old  makes a shelf of the old form: a length in four bytes and a shortcut, again and again
+  to-old    makes the old form again
+What build, fetch, from-old and to-old make goes to standard output, or to the file after -o, which
+is replaced all at once. All of them test every entry; fetch --one tests of the entries only the
+one that it writes. A refusal with ENTRY has the number of the first bad entry as its position.
+",
+    },
 ];
 
 impl Command {
     /// All of them, each at its number.
-    pub const ALL: [Command; 9] = [
+    pub const ALL: [Command; 10] = [
         Command::Check,
         Command::List,
         Command::Target,
@@ -163,6 +191,7 @@ impl Command {
         Command::Rewrite,
         Command::Set,
         Command::Move,
+        Command::Shelf,
     ];
 
     /// The command with this word.
@@ -184,9 +213,10 @@ impl Command {
         self.page().line
     }
 
-    /// What can stand after its word.
-    pub fn usage(self) -> &'static [&'static str] {
-        self.page().usage
+    /// The ways to call it, from its word on. The usage of `shelf` has its options, since they come after the task.
+    pub fn calls(self) -> Vec<String> {
+        let options = if self == Command::Shelf { "" } else { "[OPTION].. " };
+        self.page().usage.iter().map(|usage| format!("{} {}{}", self.word(), options, usage)).collect()
     }
 
     /// What it does, at length.
@@ -196,7 +226,7 @@ impl Command {
 
     /// Whether it writes files, so that it goes on when nobody reads its lines.
     pub fn writes(self) -> bool {
-        matches!(self, Command::Rewrite | Command::Set | Command::Move)
+        matches!(self, Command::Rewrite | Command::Set | Command::Move | Command::Shelf)
     }
 
     /// Whether a refusal is its answer, and not a complaint.

@@ -45,8 +45,7 @@ Exit status:
 
 /// The help for a command.
 pub fn of(command: Command) -> String {
-    let usage = command.usage().iter().map(|words| format!("herringnet {} [OPTION].. {}\n", command.word(), words));
-    let usage: Vec<String> = usage.collect();
+    let usage: Vec<String> = command.calls().iter().map(|call| format!("herringnet {}\n", call)).collect();
     let options: String = choices(command)
         .map(|choice| {
             let next = format!("\n{:24}", "");

@@ -31,6 +31,11 @@ impl Input {
         self.first(LONGEST as u64 + 1)
     }
 
+    /// All bytes: a shelf has many shortcuts in it, and every byte of a file counts for its answer.
+    pub fn all_bytes(&self) -> io::Result<Vec<u8>> {
+        self.first(u64::MAX)
+    }
+
     /// The files that a list names, each name ended by this byte.
     pub fn listed(&self, end: u8) -> io::Result<Vec<Input>> {
         let mut bytes = self.first(u64::MAX)?;

@@ -2,15 +2,15 @@
 use super::command::Command;
 use super::help::{PRINTED, STATUS};
 use super::options::{choices, CHOICES};
+use super::shelf::Task;
 
 /// The manual page, for man.
 pub fn page() -> String {
     let mut page = format!(".TH HERRINGNET 1 \"\" \"herringnet {}\"\n", env!("CARGO_PKG_VERSION"));
     page += ".SH NAME\nherringnet \\- check, list, show and rewrite Windows shortcuts\n.SH SYNOPSIS\n";
     for command in Command::ALL {
-        for usage in command.usage() {
-            let words = format!("{} [OPTION].. {}", command.word(), usage);
-            page += &format!(".B herringnet\n{}\n.br\n", escaped(&words));
+        for call in command.calls() {
+            page += &format!(".B herringnet\n{}\n.br\n", escaped(&call));
         }
     }
     page += ".SH DESCRIPTION\nThe answers are those of a proved library, for every file, refused ones too.\n";
@@ -45,9 +45,11 @@ fn escaped(text: &str) -> String {
     lines.collect::<Vec<String>>().join("\n")
 }
 
-/// The completion for bash: commands first, then the options of the command, and names of files everywhere.
+/// The completion for bash: commands first, after `shelf` what it is to do, then the options of the command, and names of
+/// files everywhere.
 pub fn completion() -> String {
     let commands = Command::ALL.map(Command::word).join(" ");
+    let tasks = Task::WORDS.map(|row| row.0).join(" ");
     let cases: String = Command::ALL
         .map(|command| {
             let words: Vec<&str> = choices(command).flat_map(|choice| choice.words.iter().copied()).collect();
@@ -67,6 +69,9 @@ _herringnet() {{
     case ${{COMP_WORDS[1]}} in
     help) COMPREPLY=($(compgen -W '{commands} man bash' -- \"$current\")); return ;;
 {cases}    esac
+    case $COMP_CWORD${{COMP_WORDS[1]}} in
+    2shelf) COMPREPLY=($(compgen -W '{tasks} -h --help' -- \"$current\")); return ;;
+    esac
     case $current in
     -*) COMPREPLY=($(compgen -W \"$words\" -- \"$current\")) ;;
     esac
@@ -74,6 +79,7 @@ _herringnet() {{
 complete -o default -F _herringnet herringnet
 ",
         commands = commands,
-        cases = cases
+        cases = cases,
+        tasks = tasks
     )
 }

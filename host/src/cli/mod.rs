@@ -9,5 +9,6 @@ mod input;
 mod manual;
 mod options;
 mod run;
+mod shelf;
 mod streams;
 mod walk;

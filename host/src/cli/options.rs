@@ -13,6 +13,8 @@ pub enum Asks {
     Json,
     Raw,
     Hex,
+    Shelf,
+    One,
     Output,
     InPlace,
     Suffix,
@@ -44,17 +46,29 @@ pub struct Choice {
 
 const PRINTING: &[Command] =
     &[Command::Check, Command::List, Command::Target, Command::Key, Command::Show, Command::Store];
+/// Those that take shortcuts, file by file.
+const EACH: &[Command] = &[
+    Command::Check,
+    Command::List,
+    Command::Target,
+    Command::Key,
+    Command::Show,
+    Command::Store,
+    Command::Rewrite,
+    Command::Set,
+    Command::Move,
+];
 const WRITING: &[Command] = &[Command::Rewrite, Command::Set, Command::Move];
 const SET: &[Command] = &[Command::Set];
 const MOVE: &[Command] = &[Command::Move];
 
 /// All options, in the order of help.
-pub const CHOICES: [Choice; 20] = [
+pub const CHOICES: [Choice; 22] = [
     Choice {
         asks: Asks::Recursive,
         words: &["-r", "--recursive"],
         value: None,
-        commands: &Command::ALL,
+        commands: EACH,
         lines: &[
             "go through each FILE that is a folder, and the folders in it, by name;",
             "files whose names end in .lnk in any case are taken, links are not",
@@ -65,14 +79,14 @@ pub const CHOICES: [Choice; 20] = [
         asks: Asks::AllFiles,
         words: &["--all-files"],
         value: None,
-        commands: &Command::ALL,
+        commands: EACH,
         lines: &["with -r: take files of every name"],
     },
     Choice {
         asks: Asks::FilesFrom,
         words: &["--files-from"],
         value: Some("LIST"),
-        commands: &Command::ALL,
+        commands: EACH,
         lines: &[
             "after the FILEs, take those that the file LIST names, one on a line",
             "(with -0, each ended by a zero byte); LIST - is standard input",
@@ -82,7 +96,7 @@ pub const CHOICES: [Choice; 20] = [
         asks: Asks::Zero,
         words: &["-0", "--null"],
         value: None,
-        commands: &Command::ALL,
+        commands: EACH,
         lines: &[
             "end what is printed for a file with a zero byte in the place of its",
             "last line feed, and print names as they are; names in LIST end so too",
@@ -92,7 +106,7 @@ pub const CHOICES: [Choice; 20] = [
         asks: Asks::Profile,
         words: &["--profile"],
         value: Some("PROFILE"),
-        commands: &Command::ALL,
+        commands: EACH,
         lines: &[
             "strict, or 95 for shortcuts of Windows 95: attribute bit 15 is kept, and",
             "unused offsets in LinkInfo's own head may hold anything; else strict",
@@ -123,10 +137,24 @@ pub const CHOICES: [Choice; 20] = [
         ],
     },
     Choice {
+        asks: Asks::Shelf,
+        words: &["--shelf"],
+        value: None,
+        commands: &[Command::Key],
+        lines: &["take each FILE for a shelf, and print the keys of all its entries"],
+    },
+    Choice {
+        asks: Asks::One,
+        words: &["--one"],
+        value: None,
+        commands: &[Command::Shelf],
+        lines: &["with fetch: test the table and the entry that is written, and no other"],
+    },
+    Choice {
         asks: Asks::Output,
         words: &["-o", "--output"],
         value: Some("OUTPUT"),
-        commands: WRITING,
+        commands: &[Command::Rewrite, Command::Set, Command::Move, Command::Shelf],
         lines: &["write to OUTPUT; an older file there is replaced; - is standard output"],
     },
     Choice {

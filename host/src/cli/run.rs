@@ -5,6 +5,7 @@ use super::console::{Console, Outcome};
 use super::files::{replace, with_suffix, write_new};
 use super::input::{reason, Input};
 use super::walk::Walk;
+use herringnet::show::text::Hex;
 use herringnet::{to_bytes_under, to_unicode_under, unmapped_under};
 use herringnet::{Fault, PathKind, PathTexts, Profile, Record, Refusal};
 use std::ffi::OsString;
@@ -34,6 +35,8 @@ pub struct Run {
     pub hex: bool,
     /// The way of a move.
     pub to_unicode: bool,
+    /// Whether each input is a shelf.
+    pub shelf: bool,
     pub output: Output,
     /// The path blocks to put in, in the order of the words.
     pub paths: Vec<(PathKind, PathTexts)>,
@@ -99,10 +102,17 @@ impl Run {
     }
 
     fn one(&self, input: &Input, console: &mut Console) {
-        let bytes = match input.bytes() {
+        let bytes = match self.shelf {
+            true => input.all_bytes(),
+            false => input.bytes(),
+        };
+        let bytes = match bytes {
             Ok(bytes) => bytes,
             Err(error) => return self.unread(input, &error, console),
         };
+        if self.shelf {
+            return self.answer(input, Answer::on_shelf(&bytes), console);
+        }
         match Answer::to(self.command, &bytes, self.profile) {
             Some(answer) => self.answer(input, answer, console),
             None => self.write(&Read { input, bytes: &bytes }, console),
@@ -116,6 +126,11 @@ impl Run {
         match answer {
             answer if self.json => console.record(object(input, &answer).to_string().into_bytes()),
             Ok(Answer::Target(text)) if self.raw => console.write(&text),
+            Ok(Answer::Keys(keys)) => {
+                for (number, key) in keys.iter().enumerate() {
+                    self.print(input, &format!("{} {}", Hex(key), number), console);
+                }
+            }
             Ok(answer) => self.print(input, &answer.text(), console),
             Err(refused) if self.command.answers_refusals() => {
                 self.print(input, &self.refused(&refused), console);
@@ -156,7 +171,7 @@ impl Run {
                 let gap: &[u8] = if console.has_written() && !self.zero { b"\n" } else { b"" };
                 [gap, &name, b":\n", text].concat()
             }
-            Command::Target | Command::List | Command::Show | Command::Store => text.to_vec(),
+            Command::Target | Command::List | Command::Show | Command::Store | Command::Shelf => text.to_vec(),
         });
     }
 

@@ -196,6 +196,40 @@ static void stores(uint8_t *s, size_t n)
     answer("rows of nothing", herringnet_store_list(NULL, 0, NULL, 0, HERRINGNET_PROFILE_STRICT));
 }
 
+static void entry(const char *what, uint64_t a)
+{
+    printf("%s %u %zu %zu\n", what, HERRINGNET_NUMBER(a), HERRINGNET_ENTRY_START(a), HERRINGNET_ENTRY_LENGTH(a));
+}
+
+/* The shortcut twice, on a shelf and in the old form. */
+static void shelves(const uint8_t *s, size_t n)
+{
+    static uint8_t bodies[1000], shelf[1000], old[1000], again[1000];
+    uint64_t lengths[HERRINGNET_MOST_ENTRIES + 1] = {n, n};
+    memcpy(bodies, s, n);
+    memcpy(bodies + n, s, n);
+    answer("shelf in 937", herringnet_shelf_build(lengths, 2, bodies, 2 * n, shelf, 937));
+    answer("shelf", herringnet_shelf_build(lengths, 2, bodies, 2 * n, shelf, 938));
+    answer("shelf check", herringnet_shelf_check(shelf, 938));
+    answer("shelf one less", herringnet_shelf_check(shelf, 937));
+    entry("entry 1", herringnet_shelf_entry(shelf, 938, 1));
+    answer("entry 2", herringnet_shelf_entry(shelf, 938, 2));
+    answer("to old in 925", herringnet_shelf_to_old(shelf, 938, old, 925));
+    answer("to old", herringnet_shelf_to_old(shelf, 938, old, 926));
+    answer("from old", herringnet_shelf_from_old(old, 926, again, sizeof again));
+    printf("%s\n", memcmp(shelf, again, 938) == 0 ? "same bytes" : "other bytes");
+    answer("from one less", herringnet_shelf_from_old(old, 925, again, sizeof again));
+    shelf[20] ^= 1;
+    answer("entry 1 by a bad one", herringnet_shelf_entry(shelf, 938, 1));
+    entry("one 1 by a bad one", herringnet_shelf_one(shelf, 938, 1));
+    answer("one 0, bad", herringnet_shelf_one(shelf, 938, 0));
+    lengths[1] = UINT64_MAX;
+    lengths[2] = n + 1;
+    answer("shelf of a sum that wraps", herringnet_shelf_build(lengths, 3, bodies, 2 * n, again, sizeof again));
+    answer("shelf of 65", herringnet_shelf_build(lengths, HERRINGNET_MOST_ENTRIES + 1, bodies, 2 * n, again, sizeof again));
+    answer("shelf of none", herringnet_shelf_build(NULL, 0, NULL, 0, again, sizeof again));
+}
+
 static void names(void)
 {
     for (unsigned number = 0; number < 256; number++)
@@ -218,6 +252,7 @@ int main(void)
     records(s, n);
     paths(s, n);
     profiles(s, n);
+    shelves(s, n);
     stores(s, n);
     names();
     return 0;

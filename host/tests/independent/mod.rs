@@ -10,6 +10,7 @@ mod moving;
 mod path;
 mod profile;
 mod record;
+mod shelf;
 mod store;
 mod texts;
 mod writer;
@@ -24,6 +25,8 @@ pub use moving::{code_page, to_bytes, to_unicode};
 pub use path::path_block;
 pub use profile::Profile;
 pub use record::*;
+#[allow(unused_imports)]
+pub use shelf::*;
 #[allow(unused_imports)]
 pub use store::{store, store_list, store_write, Entry};
 #[allow(unused_imports)]
