@@ -149,7 +149,7 @@ pub blocks-walked : (before : List ℕ) (p : ℕ) (s lengths : List ℕ) (n : �
 blocks-walked before p s lengths n e = walked (length s) before p s lengths n (omega arith) e
 
 -- a block's signature is among its own bytes
-same-slot : (n : ℕ) (t s : List ℕ) → take n t ≡ take n s → 8 ≤ n → slotAt t ≡ slotAt s
+pub same-slot : (n : ℕ) (t s : List ℕ) → take n t ≡ take n s → 8 ≤ n → slotAt t ≡ slotAt s
 same-slot n t s e h = ap slotOf (number-same 4 n t s 4 e (omega arith))
 
 -- only the blocks' own bytes matter, and that a terminal block of any value follows

@@ -5,7 +5,7 @@ use mathlib.Core.Bool.{Bool, true, false, _&&_, cond}
 use Prim.Native.Nat.{ℕ, _+_, _-_, _≤_, _<_}
 use native.Mathlib.Omega.{arith}
 use lib.ListN.{length, take, drop, length-take, length-drop}
-use lib.Seq.{length-take-le}
+use lib.Seq.{length-take-le, drop-drop}
 use lib.Dec.{leb}
 use borrow.Author.Tests.{leb-true, le-leb, ltb-true}
 use Rattle.octets.specs.Numbers.{u16At, u32At}
@@ -40,7 +40,7 @@ use Rattle.format.proofs.HeaderLaws.{header-size}
 use Rattle.format.proofs.ItemsLaws.{itemsValue}
 use Rattle.format.proofs.InfoLaws.{infoValue, head-inside}
 use Rattle.format.proofs.BlockLaws.{blocks-walked}
-use Rattle.format.proofs.PlaceLaws.{found-elim, Always, chain-always, then-always, section-always, Lies, chain-lies, then-lies, found-lies, section-lies, inside-last, inside-more}
+use Rattle.format.proofs.PlaceLaws.{found-elim, Always, chain-always, then-always, section-always, Lies, chain-lies, then-lies, found-lies, section-lies, inside-append, inside-last, inside-without, inside-more}
 
 -- ---- zeros for what is absent; the blocks of a walk
 
@@ -410,3 +410,52 @@ module _ (profile : Profile) (f : List ℕ) where
   read-inside c n e h =
       inside-last (length f) (c .1 .0 .read) (c .1 .1 .0 .read .further) (drop 2 (tailBodies (c .1)))
       (inside-more (0 + n) (length f) (tailBodies (c .1)) (omega arith) (sections-lie .inside 0 c n e))
+
+-- ---- the bodies before the blocks end before the blocks start
+
+-- `last` is where the blocks start
+record Before {A : Type 0} (f : List ℕ) (P : Reader A) (last : A → ℕ) (bodies : A → List Place) : Type 0 where
+  late : (p : ℕ) (a : A) (n : ℕ) → P p (drop p f) ≡ got a n → p ≤ last a
+  before : (p : ℕ) (a : A) (n : ℕ) → P p (drop p f) ≡ got a n → allInside (last a) (bodies a) ≡ true
+
+module _ (f : List ℕ) where
+  chain-before : {A B : Type 0} {P : Reader A} (Q : A → Reader B) {R : A → List Row} {K : A → List Place} {last : B → ℕ} {L : B → List Place}
+      → Lies f P R K → ((a : A) → Before f (Q a) last L) → Before f (chain P Q) (λ c. last (c .1)) (λ c. K (c .0) ++ L (c .1))
+  chain-before {P = P} Q {K = K} {last = last} {L = L} F G = record {
+    late = λ p c k e.
+        chain-elim P Q p (drop p f) (λ c k. p ≤ last (c .1)) (λ a n b m i j. omega (arith, (G a) .late (p + n) b m (rw drop-drop at j))) c k e;
+    before = λ p c k e.
+        chain-elim P Q p (drop p f) (λ c k. allInside (last (c .1)) (K (c .0) ++ L (c .1)) ≡ true)
+        (λ a n b m i j.
+        let h : Q a (p + n) (drop (p + n) f) ≡ got b m = rw drop-drop at j in
+        inside-append (last b) (K a) (L b) (inside-more (p + n) (last b) (K a) ((G a) .late (p + n) b m h) (F .inside p a n i)) ((G a) .before (p + n) b m h))
+        c k e;
+  }
+
+  then-before : {A B : Type 0} {P : Reader A} {Q : Reader B} {R : A → List Row} {K : A → List Place} {last : B → ℕ} {L : B → List Place}
+      → Lies f P R K → Before f Q last L → Before f (P then Q) (λ c. last (c .1)) (λ c. K (c .0) ++ L (c .1))
+  then-before {Q = Q} F G = chain-before (λ a. Q) F (λ a. G)
+
+  blocks-before : Before f (found blocks) (λ c. c .start) (λ c. [])
+  blocks-before = record { late = λ p c n e. blocks-last .late p (drop p f) c n e; before = λ p c n e. refl }
+
+  abbrev frontBodies : Tail → List Place
+  frontBodies c =
+      let (items, (info, (name, (relative, (workdir, (arguments, (icon, blocks))))))) = c in
+      (items .read ∷ [])
+      ++ (infoBodies (info .read) ++ ((name .read ∷ []) ++ ((relative .read ∷ []) ++ ((workdir .read ∷ []) ++ ((arguments .read ∷ []) ++ ((icon .read ∷ []) ++ []))))))
+
+  tail-before : (profile : Profile) (flags : ℕ) → Before f (tail profile flags) (λ c. c .1 .1 .1 .1 .1 .1 .1 .start) frontBodies
+  tail-before profile flags =
+      then-before (section-lies f items 1 (λ b. b ∷ []) (itemsThere flags) noPlace (none-inside profile f) (items-inside f))
+      (then-before (section-lies f (info profile) 2 infoBodies (infoThere flags) noInfo (no-info-inside profile f) (info-inside profile f))
+      (then-before (string-lies profile f flags nameBit 3)
+      (then-before (string-lies profile f flags relativeBit 4)
+      (then-before (string-lies profile f flags workdirBit 5) (then-before (string-lies profile f flags argumentsBit 6) (then-before (string-lies profile f flags iconBit 7) blocks-before))))))
+
+  -- the slots before that of the blocks
+  pub read-before : (profile : Profile) (c : Sections) (n : ℕ) → sections profile 0 f ≡ got c n → allInside (blocksOf c .start) (take 15 (recordOf c .places)) ≡ true
+  unfolding sections
+  read-before profile c n e =
+      inside-without (blocksOf c .start) (c .1 .0 .read) (c .1 .1 .0 .read .further) (drop 2 (frontBodies (c .1)))
+      (chain-before (λ (h : Section Header). tail profile (h .read .flags)) (found-lies f (header profile) 0 (λ h. []) (λ p a n e. refl)) (λ h. tail-before profile (h .read .flags)) .before 0 c n e)

@@ -44,6 +44,7 @@ pub mod StoreReads
 pub mod StoreWrites
 pub mod StoreDemands
 pub mod PathRows
+pub mod SalvageRows
 pub mod PathLaws
 pub mod PathDemands
 pub mod KeyDemands
@@ -57,5 +58,10 @@ pub mod ProfileLaws
 pub mod ProbeLaws
 pub mod ProfileRows
 pub mod HeadRows
+pub mod MendLaws
+pub mod SharedLaws
+pub mod SalvageLaws
+pub mod SalvageDemands
+pub mod SalvageKeyDemands
 pub mod AnswerLaws
 pub mod OneOutcome

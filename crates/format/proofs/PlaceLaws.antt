@@ -89,7 +89,7 @@ end-to-end-append : (p m q : ℕ) (xs ys : List Row) → EndToEnd p xs m → End
 end-to-end-append p m q [] ys c d = rw c d
 end-to-end-append p m q (x ∷ xs) ys c d = (c .0, end-to-end-append (p + x .len) m q xs ys (c .1) d)
 
-inside-append : (n : ℕ) (xs ys : List Place) → allInside n xs ≡ true → allInside n ys ≡ true → allInside n (xs ++ ys) ≡ true
+pub inside-append : (n : ℕ) (xs ys : List Place) → allInside n xs ≡ true → allInside n ys ≡ true → allInside n (xs ++ ys) ≡ true
 inside-append n [] ys c d = d
 inside-append n (x ∷ xs) ys c d =
     let i = and-true (leb (x .at + x .len) n) (allInside n xs) c in
@@ -101,6 +101,12 @@ inside-last n w x xs c =
     let i = and-true (leb (w .at + w .len) n) (allInside n (x ∷ xs)) c in
     let j = and-true (leb (x .at + x .len) n) (allInside n xs) (i .1) in
     and-both (leb (w .at + w .len) n) _ (i .0) (inside-append n xs (x ∷ []) (j .1) (and-both (leb (x .at + x .len) n) true (j .0) refl))
+
+-- the second of them left out
+pub inside-without : (n : ℕ) (w x : Place) (xs : List Place) → allInside n (w ∷ x ∷ xs) ≡ true → allInside n (w ∷ xs) ≡ true
+inside-without n w x xs c =
+    let i = and-true (leb (w .at + w .len) n) (allInside n (x ∷ xs)) c in
+    and-both (leb (w .at + w .len) n) (allInside n xs) (i .0) (and-true (leb (x .at + x .len) n) (allInside n xs) (i .1) .1)
 
 pub inside-more : (m n : ℕ) (xs : List Place) → m ≤ n → allInside m xs ≡ true → allInside n xs ≡ true
 inside-more m n [] h c = refl

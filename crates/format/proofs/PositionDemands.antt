@@ -28,7 +28,7 @@ Told s (got c n) = Unit {0}
 Told s (refused f w) = Refusal s f w
 
 -- the header alone has as much
-four-read : (profile : Profile) (s : List ℕ) (c : Sections) (n : ℕ) → sections profile 0 s ≡ got c n → 4 ≤ n
+pub four-read : (profile : Profile) (s : List ℕ) (c : Sections) (n : ℕ) → sections profile 0 s ≡ got c n → 4 ≤ n
 unfolding sections
 four-read profile s c n e =
     chain-elim (found (header profile)) (λ h. tail profile (h .read .flags)) 0 s (λ c n. 4 ≤ n)

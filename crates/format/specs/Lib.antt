@@ -25,5 +25,6 @@ pub mod Codepage
 pub mod Moving
 pub mod Demands
 pub mod PathWriting
+pub mod Salvage
 pub mod Probes
 pub mod Steps

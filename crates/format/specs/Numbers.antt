@@ -2,7 +2,7 @@
 use Prim.Native.Nat.{ℕ}
 use mathlib.Core.Path.{_≡_}
 use Rattle.format.specs.declared.Fault.{Fault}
-use Rattle.format.specs.declared.Fault.the-variants.{Long, Cut, Magic, Head, Items, Info, Piece, Block, Trail, Place, Unwritable, Room, NoTarget, Twice, Store, NoMap, Shelf, Entry}
+use Rattle.format.specs.declared.Fault.the-variants.{Long, Cut, Magic, Head, Items, Info, Piece, Block, Trail, Place, Unwritable, Room, NoTarget, Twice, Store, NoMap, Shelf, Entry, Lost}
 use Rattle.format.specs.declared.Verdict.{Verdict}
 use Rattle.format.specs.declared.Verdict.the-variants.{Accepted, Refused}
 use Rattle.format.specs.Tests.{Outcome, got, refused}
@@ -27,6 +27,7 @@ numberOf Store = 15
 numberOf NoMap = 16
 numberOf Shelf = 17
 numberOf Entry = 18
+numberOf Lost = 19
 
 -- an accepted answer is 0 OK
 unfoldable pub answerNumber : Verdict → ℕ

@@ -158,6 +158,7 @@ pub enum Fault {
     NoMap,
     Shelf,
     Entry,
+    Lost,
 }
 
 // Accepted with the length, or refused with the fault and its position.
@@ -190,6 +191,22 @@ pub struct Faulted {
 pub struct Reading {
     pub verdict: Verdict,
     pub held: Record,
+}
+
+// What can be kept of a shortcut: the number it was refused with, how many of its first bytes, and whether a zero terminal goes behind them.
+pub struct Rescue {
+    pub can: bool,
+    pub number: u8,
+    pub kept: usize,
+    pub mended: bool,
+}
+
+// What salvage answers: its verdict, the number that the shortcut was refused with, and how many of its bytes are kept and dropped.
+pub struct Salvaged {
+    pub verdict: Verdict,
+    pub number: u8,
+    pub kept: usize,
+    pub dropped: usize,
 }
 
 // ---- zeros, for what is absent and beside a refusal: constants, since functions made a check a tenth dearer
@@ -276,6 +293,7 @@ pub fn number_of(f: Fault) -> u8
         Fault::NoMap => 16,
         Fault::Shelf => 17,
         Fault::Entry => 18,
+        Fault::Lost => 19,
     }
 }
 

@@ -3,6 +3,7 @@ pub mod CodeLaws
 pub mod FieldLaws
 pub mod StoreLaws
 pub mod PathLaws
+pub mod SalvageLaws
 pub mod OneOutcome
 pub mod SpotLaws
 pub mod ShelfLaws

@@ -20,6 +20,7 @@ use Rattle.scheduler.proofs.herringnet_shelf_one as herringnet-shelf-on
 use Rattle.scheduler.proofs.herringnet_shelf_build as herringnet-shelf-build
 use Rattle.scheduler.proofs.herringnet_shelf_from_old as herringnet-shelf-from-old
 use Rattle.scheduler.proofs.herringnet_shelf_to_old as herringnet-shelf-to-old
+use Rattle.scheduler.proofs.herringnet_salvage as herringnet-salvage
 
 pub herringnet-check-one-outcome : OneAnswer herringnet-check.ended herringnet-check.Reads.Post
 herringnet-check-one-outcome κs a r q s t p o = p ∙ sym o
@@ -74,3 +75,6 @@ herringnet-shelf-from-old-one-outcome κs a r q s t p o = (p .0 ∙ sym (o .0), 
 
 pub herringnet-shelf-to-old-one-outcome : OneOutcome herringnet-shelf-to-old.ended (λ κs s. now (s .1 .0)) herringnet-shelf-to-old.Reads.Post
 herringnet-shelf-to-old-one-outcome κs a r q s t p o = (p .0 ∙ sym (o .0), p .1 ∙ sym (o .1))
+
+pub herringnet-salvage-one-outcome : OneOutcome herringnet-salvage.ended (λ κs s. now (s .1 .0)) herringnet-salvage.Reads.Post
+herringnet-salvage-one-outcome κs a r q s t p o = (p .0 ∙ sym (o .0), p .1 .0 ∙ sym (o .1 .0))

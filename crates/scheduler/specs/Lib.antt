@@ -4,3 +4,4 @@ pub mod Records
 pub mod Stores
 pub mod Paths
 pub mod Shelves
+pub mod Salvages

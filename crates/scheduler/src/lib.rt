@@ -11,16 +11,18 @@ ghost use Rattle.format.specs.Key.{keyAnswer, keyOutput};
 ghost use Rattle.format.specs.Moving.{toUnicodeAnswer, toUnicodeOutput, toBytesAnswer, toBytesOutput};
 ghost use Rattle.format.specs.Listing.{sectionPlace};
 ghost use Rattle.format.specs.StoreList.{storeListAnswer, storeListOutput};
+ghost use Rattle.format.specs.Salvage.{salvageAnswer, salvageOutput};
 ghost use Rattle.shelving.specs.Shelf.{shelfAnswer, entryAnswer, oneAnswer};
 ghost use Rattle.shelving.specs.Building.{buildAnswer, buildOutput};
 ghost use Rattle.shelving.specs.OldForm.{fromOldAnswer, fromOldOutput, toOldAnswer, toOldOutput};
 ghost use Rattle.shelving.specs.Steps.Fetches.{FetchSmall};
-ghost use Rattle.scheduler.specs.Code.{codeOf, faultCode, sectionCode};
+ghost use Rattle.scheduler.specs.Code.{codeOf, faultCode, sectionCode, salvageCode};
 ghost use Rattle.scheduler.specs.Profiles.{PROFILE, profileOf, underProfile};
 ghost use Rattle.scheduler.specs.Records.{readCode, readFields, writeCode, writtenFields, EndsOf};
 ghost use Rattle.scheduler.specs.Stores.{storeWriteCode, storeWrittenRows, StoreEndsOf};
 ghost use Rattle.scheduler.specs.Paths.{pathCode, pathWritten, PathEndsOf};
 ghost use Rattle.scheduler.specs.Shelves.{fetchCode};
+ghost use Rattle.scheduler.specs.Salvages.{SalvageCodeEnds};
 
 fn code_of(v: Verdict) -> u64
     requires { ⌜ answerValue v ≤ 4194820 ⌝ }
@@ -282,4 +284,18 @@ pub extern "C" fn herringnet_shelf_to_old(s: &[u8], out: &mut [u8]) -> u64
 {
     let v = shelving::shelf_to_old(s, out);
     code_of(v)
+}
+
+#[no_mangle]
+pub extern "C" fn herringnet_salvage(s: &[u8], out: &mut [u8]) -> u64
+    ensures answer { λ r. ⌜ r ≡ salvageCode (salvageAnswer (now (s .entry)) (now (out .entry))) ⌝ }
+    ensures output { λ _. ⌜ now (out .exit) ≡ salvageOutput (now (s .entry)) (now (out .entry)) ⌝ }
+    ensures saved { λ r. ⌜ SalvageCodeEnds (now (s .entry)) (now (out .entry)) r (now (out .exit)) ⌝ }
+{
+    let g = salvaging::salvage(s, out);
+    let v = g.verdict;
+    let Verdict::Accepted(_) = v else {
+        return code_of(v);
+    };
+    256 * (g.number as u64 + 256 * (g.kept as u64 + 131072 * (g.dropped as u64)))
 }
