@@ -54,6 +54,12 @@ extern "C" {
 /* The most entries that a shelf may have. */
 #define HERRINGNET_MOST_ENTRIES 64
 
+/* The three parts of the value that herringnet_salvage answers: the number that the shortcut was refused with, 0 for an
+ * accepted one, and how many of its bytes are kept and dropped. */
+#define HERRINGNET_SALVAGE_WAS(answer) ((unsigned)(HERRINGNET_VALUE(answer) % 256))
+#define HERRINGNET_SALVAGE_KEPT(answer) (HERRINGNET_VALUE(answer) / 256 % 131072)
+#define HERRINGNET_SALVAGE_DROPPED(answer) (HERRINGNET_VALUE(answer) / 256 / 131072)
+
 /* The most bytes that a shortcut may have. */
 #define HERRINGNET_LONGEST 65536
 
@@ -80,6 +86,7 @@ enum herringnet_number {
     HERRINGNET_NOMAP = 16,      /* a text cannot be moved, or flag bit 7 is already as asked */
     HERRINGNET_SHELF = 17,      /* count, table, lengths or number do not fit a shelf */
     HERRINGNET_ENTRY = 18,      /* an entry of a shelf is refused */
+    HERRINGNET_LOST = 19,       /* nothing of the shortcut can be salvaged */
     HERRINGNET_FIELDS = 201,    /* fields are not 51 numbers, or rows not whole rows; tested after PROFILE */
     HERRINGNET_VALUES = 202,    /* a number of fields does not fit its field; tested next */
     HERRINGNET_PROFILE = 203    /* profile is no number of enum herringnet_profile; tested first */
@@ -115,6 +122,7 @@ static inline const char *herringnet_name(unsigned number)
     case HERRINGNET_NOMAP: return "NOMAP";
     case HERRINGNET_SHELF: return "SHELF";
     case HERRINGNET_ENTRY: return "ENTRY";
+    case HERRINGNET_LOST: return "LOST";
     case HERRINGNET_FIELDS: return "FIELDS";
     case HERRINGNET_VALUES: return "VALUES";
     case HERRINGNET_PROFILE: return "PROFILE";
@@ -319,6 +327,14 @@ uint64_t herringnet_shelf_from_old(const uint8_t *old, size_t old_len, uint8_t *
 
 /* Writes the old form of a shelf into out. Success: its length. Refusals: as herringnet_shelf_check, then ROOM. */
 uint64_t herringnet_shelf_to_old(const uint8_t *shelf, size_t shelf_len, uint8_t *out, size_t out_len);
+
+/* Puts what can be saved of a shortcut into out, as strict: an accepted one as it is; one that is refused with TRAIL
+ * without the bytes behind its terminal block; one that is refused with CUT, BLOCK, TWICE or STORE at a block, or for
+ * want of a terminal block, up to there, with a zero terminal of four bytes behind it. What is written is accepted. Success:
+ * HERRINGNET_SALVAGE_WAS, and the bytes kept and dropped, which add up to shortcut_len; what is written is as long as
+ * what is kept, and four bytes longer if the shortcut was refused with CUT, BLOCK, TWICE or STORE. Refusals: LOST for
+ * every other shortcut and where the result would be over HERRINGNET_LONGEST bytes, then ROOM (FORMAT: Salvage). */
+uint64_t herringnet_salvage(const uint8_t *shortcut, size_t shortcut_len, uint8_t *out, size_t out_len);
 
 #ifdef __cplusplus
 }

@@ -42,7 +42,7 @@ struct Call {
     independent: Side,
 }
 
-const CALLS: [Call; 11] = [
+const CALLS: [Call; 12] = [
     Call {
         name: "check",
         proved: |case| proved::check(&case.shortcut, 0),
@@ -104,6 +104,11 @@ const CALLS: [Call; 11] = [
         name: "one",
         proved: |case| proved::shelf_one(&case.shortcut, 63),
         independent: |case| independent::boundary_shelf_one(&case.shortcut, 63),
+    },
+    Call {
+        name: "salvage",
+        proved: |case| proved::salvage(&case.shortcut, &mut case.out),
+        independent: |case| independent::boundary_salvage(&case.shortcut, &mut case.out),
     },
 ];
 

@@ -1,4 +1,4 @@
-//! The eighteen proved functions, as they stand in the archive.
+//! The nineteen proved functions, as they stand in the archive.
 //!
 //! Every answer is one number (FORMAT: C numbers): its number, 0 for success, + 256 × a value, which is the length
 //! of a success or the position of a refusal. A refusal changes no byte of `out` and no number of `fields`. The other
@@ -97,9 +97,12 @@ extern "C" {
 
     // pub extern "C" fn herringnet_shelf_to_old(s: &[u8], out: &mut [u8]) -> u64
     fn herringnet_shelf_to_old(s: *const u8, s_len: usize, out: *mut u8, out_len: usize) -> u64;
+
+    // pub extern "C" fn herringnet_salvage(s: &[u8], out: &mut [u8]) -> u64
+    fn herringnet_salvage(s: *const u8, s_len: usize, out: *mut u8, out_len: usize) -> u64;
 }
 
-// In all eighteen calls pointer and length come from one slice, and a slice that is written to is borrowed by
+// In all nineteen calls pointer and length come from one slice, and a slice that is written to is borrowed by
 // nobody else: that is all that the functions need, since they have no other condition.
 
 /// The verdict on a shortcut; the value of a success is its length.
@@ -231,6 +234,12 @@ pub fn shelf_from_old(old: &[u8], out: &mut [u8]) -> u64 {
 /// Writes the old form of a shelf to the front of `out`; the value of a success is its length.
 pub fn shelf_to_old(shelf: &[u8], out: &mut [u8]) -> u64 {
     unsafe { herringnet_shelf_to_old(shelf.as_ptr(), shelf.len(), out.as_mut_ptr(), out.len()) }
+}
+
+/// Puts what can be saved of a shortcut at the front of `out`; the value of a success is the number that it was refused
+/// with + 256 × (bytes kept + 131,072 × bytes dropped), that of a refusal is 0.
+pub fn salvage(shortcut: &[u8], out: &mut [u8]) -> u64 {
+    unsafe { herringnet_salvage(shortcut.as_ptr(), shortcut.len(), out.as_mut_ptr(), out.len()) }
 }
 
 /// Two calls of the system for the command line, which Rust 1.63's library has no safe form of.

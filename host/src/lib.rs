@@ -19,6 +19,7 @@ mod path;
 mod profile;
 pub mod record;
 mod refusal;
+mod salvage;
 mod section;
 pub mod shelf;
 pub mod show;
@@ -32,6 +33,7 @@ pub use path::{PathKind, PathTexts};
 pub use profile::Profile;
 pub use record::Record;
 pub use refusal::{Fault, Refusal};
+pub use salvage::{salvage, salvage_into, Report};
 pub use section::{
     listed, listing, listing_under, section, section_under, sections, sections_under, Section, SectionName,
 };
@@ -45,7 +47,7 @@ pub use unwritable::Cause;
 use refusal::answer;
 
 /// The requests whose rules this package and its archive follow; docs/requests of the repository has a note of each.
-pub const REQUESTS: [&str; 12] = ["01", "02", "03", "04", "05", "06", "07", "08", "09", "10", "11", "12"];
+pub const REQUESTS: [&str; 13] = ["01", "02", "03", "04", "05", "06", "07", "08", "09", "10", "11", "12", "13"];
 
 /// The SHA-256 of the archive that is linked, in hex.
 pub const ARCHIVE_DIGEST: &str = env!("HERRINGNET_DIGEST");

@@ -43,6 +43,8 @@ pub enum Fault {
     Shelf,
     /// 18: an entry of a shelf that reading refuses; the position is its number, from 0.
     Entry,
+    /// 19: nothing of the shortcut can be salvaged.
+    Lost,
     /// 201, of the boundary alone: the slice of fields has not 51 numbers.
     Fields,
     /// 202, of the boundary alone: a field's number does not fit its field.
@@ -54,7 +56,7 @@ pub enum Fault {
 }
 
 /// Number, name and reason of every fault that has a name.
-const TABLE: [(Fault, u8, &str, &str); 21] = [
+const TABLE: [(Fault, u8, &str, &str); 22] = [
     (Fault::Long, 1, "LONG", "it has more than 65,536 bytes"),
     (Fault::Cut, 2, "CUT", "it is cut off inside a field or a part"),
     (Fault::Magic, 3, "MAGIC", "header size or class identifier is not that of a shortcut"),
@@ -73,6 +75,7 @@ const TABLE: [(Fault, u8, &str, &str); 21] = [
     (Fault::NoMap, 16, "NOMAP", "a text cannot be moved, or it is already as asked"),
     (Fault::Shelf, 17, "SHELF", "count, table, lengths or number do not fit a shelf"),
     (Fault::Entry, 18, "ENTRY", "the entry of this number is refused"),
+    (Fault::Lost, 19, "LOST", "nothing of it can be salvaged"),
     (Fault::Fields, 201, "FIELDS", "a record has 51 numbers"),
     (Fault::Values, 202, "VALUES", "a number does not fit its field"),
     (Fault::Profile, 203, "PROFILE", "there is no such profile"),
@@ -175,7 +178,7 @@ mod tests {
         for number in 1..=255 {
             assert_eq!(Fault::of(number).number(), number);
         }
-        assert_eq!((1..=15).map(|n| Fault::of(n).name()).filter(|name| *name == "OTHER").count(), 0);
+        assert_eq!((1..=16).chain(19..=19).map(|n| Fault::of(n).name()).filter(|name| *name == "OTHER").count(), 0);
         assert_eq!(Fault::of(200), Fault::Other(200));
         assert_eq!(
             (Fault::Cut.to_string(), Fault::of(200).to_string()),

@@ -29,6 +29,7 @@ const CALLS: &[(&str, &[&str])] = &[
     ),
     ("writer", &["write"]),
     ("pathing", &["path_block"]),
+    ("salvaging", &["salvage"]),
     ("rewriting", &["rewrite"]),
     ("lines", &["put_verdict", "put_listing", "put_key_line"]),
 ];

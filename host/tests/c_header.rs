@@ -101,7 +101,7 @@ fn numbers_have_the_names_of_the_rust_side() {
         .filter(|(name, _)| !["FIELD_", "SECTION_", "ROW_", "PROFILE_"].iter().any(|part| name.contains(part)));
     let numbers: Vec<(&str, usize)> = numbers.map(|(name, number)| (name.as_str(), *number)).collect();
     assert_eq!(numbers[0], ("OK", 0));
-    assert_eq!(numbers.len(), 22);
+    assert_eq!(numbers.len(), 23);
     for (name, number) in &numbers[1..] {
         assert_eq!(Fault::of(*number as u8).name(), *name);
     }

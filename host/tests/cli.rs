@@ -436,6 +436,67 @@ fn set_refuses_texts_that_do_not_fit() {
 }
 
 #[test]
+fn salvage_writes_what_still_reads() {
+    let s = Shortcuts::new("salvage");
+    let said = s.run(&["salvage", "cut.lnk"]);
+    assert_eq!((said.status, said.out), (0, z()));
+    assert_eq!(said.err, "herringnet: cut.lnk: refused 2 CUT at 76, kept 76, dropped 3\n");
+    s.put("half.lnk", &SAMPLE[..400]);
+    let half = "saved.lnk: refused 2 CUT at 359, kept 359, dropped 41, gone: A0000003\n";
+    s.run(&["salvage", "-o", "saved.lnk", "half.lnk"]).is(0, half, "");
+    assert_eq!(s.get("saved.lnk"), [&SAMPLE[..359], &[0; 4]].concat());
+    let padded = [SAMPLE, b"xyz"].concat();
+    s.put("padded.lnk", &padded);
+    let lines = "padded.lnk.saved: refused 9 TRAIL at 459, kept 459, dropped 3\n\
+                 a.lnk.saved: accepted, kept 459, dropped 0\n";
+    s.run(&["salvage", "--suffix", ".saved", "padded.lnk", "a.lnk"]).is(0, lines, "");
+    assert_eq!((s.get("padded.lnk.saved"), s.get("a.lnk.saved")), (SAMPLE.to_vec(), SAMPLE.to_vec()));
+    s.put("string.lnk", &SAMPLE[..330]);
+    for name in ["long.lnk", "string.lnk"] {
+        let lost = format!("herringnet: {}: refused 19 LOST at 0: nothing of it can be salvaged\n", name);
+        s.run(&["salvage", name]).is(1, "", &lost);
+    }
+    assert_eq!(s.run_on(&["salvage"], "padded.lnk").out, SAMPLE);
+}
+
+#[test]
+fn salvage_says_which_blocks_went() {
+    let s = Shortcuts::new("salvage_blocks");
+    let console = [&12_u32.to_le_bytes()[..], &0xA000_0004_u32.to_le_bytes(), &[0; 4]].concat();
+    let unknown = [&8_u32.to_le_bytes()[..], &0xA000_000A_u32.to_le_bytes()].concat();
+    let small = 4_u32.to_le_bytes().to_vec();
+    let end = vec![0; 4];
+    let cases: [(&[&Vec<u8>], &str); 5] = [
+        (&[&console, &unknown, &console, &unknown, &end], "14 TWICE at 100, kept 96, dropped 24, gone: A0000004, A000000A"),
+        (&[&unknown, &console], "2 CUT at 96, kept 96, dropped 0"),
+        (&[&unknown, &small, &end], "8 BLOCK at 84, kept 84, dropped 8, gone: a block without a signature"),
+        (&[&unknown, &small], "8 BLOCK at 84, kept 84, dropped 4, gone: a block without a signature"),
+        (&[&unknown, &end, &console], "9 TRAIL at 88, kept 88, dropped 12"),
+    ];
+    for (blocks, said) in cases {
+        s.put("blocks.lnk", &[&z()[..76], &blocks.iter().flat_map(|block| block.to_vec()).collect::<Vec<u8>>()].concat());
+        s.run(&["salvage", "-o", "saved.lnk", "blocks.lnk"]).is(0, &format!("saved.lnk: refused {}\n", said), "");
+        s.run(&["check", "saved.lnk"]).is(0, &format!("saved.lnk: ok {}\n", s.get("saved.lnk").len()), "");
+    }
+}
+
+#[test]
+fn salvage_in_place_keeps_a_copy() {
+    let s = Shortcuts::new("salvage_in_place");
+    let padded = [SAMPLE, b"xyz"].concat();
+    s.put("padded.lnk", &padded);
+    let lines = "padded.lnk: refused 9 TRAIL at 459, kept 459, dropped 3\na.lnk: accepted, kept 459, dropped 0\n";
+    s.run(&["salvage", "--in-place", "--keep", ".old", "padded.lnk", "a.lnk"]).is(0, lines, "");
+    assert_eq!((s.get("padded.lnk"), s.get("padded.lnk.old")), (SAMPLE.to_vec(), padded.clone()));
+    assert!(!s.folder.join("a.lnk.old").exists());
+    // A copy that is there already is not replaced, and so the file stays as it is.
+    s.put("padded.lnk", &padded);
+    s.put("padded.lnk.old", b"older");
+    assert_eq!(s.run(&["salvage", "--in-place", "--keep", ".old", "padded.lnk"]).status, 3);
+    assert_eq!((s.get("padded.lnk"), s.get("padded.lnk.old")), (padded, b"older".to_vec()));
+}
+
+#[test]
 fn files_that_cannot_be_read_are_passed_over() {
     let s = Shortcuts::new("unreadable");
     let missing = "herringnet: none.lnk: cannot be read: No such file or directory\n";
@@ -530,7 +591,7 @@ fn words_that_make_no_sense() {
     let see = "herringnet: see herringnet --help\n";
     let once = "an option for a text may stand once, and its bytes only beside it";
     let one_of = "-o, --in-place and --suffix exclude each other, and each may stand once";
-    let wrong: [(&[&str], &str); 35] = [
+    let wrong: [(&[&str], &str); 41] = [
         (&[], "a command is missing"),
         (&["frobnicate"], "there is no command frobnicate"),
         (&["two\nlines"], "there is no command two<U+000A>lines"),
@@ -558,6 +619,12 @@ fn words_that_make_no_sense() {
         (&["check", "--hex", "--json", "a.lnk"], "--hex excludes --json"),
         (&["list", "--hex", "a.lnk"], "list has no option --hex"),
         (&["check", "--files-from", "-", "-"], "standard input can be read only once"),
+        (&["salvage", "--in-place", "a.lnk"], "salvage --in-place needs --keep"),
+        (&["salvage", "--keep", ".old", "a.lnk"], "--keep goes with --in-place"),
+        (&["salvage", "--suffix", ".new", "--keep", ".old", "a.lnk"], "--keep goes with --in-place"),
+        (&["salvage", "--in-place", "--keep", ".a", "--keep", ".b", "a.lnk"], "--keep may stand once"),
+        (&["rewrite", "--in-place", "--keep", ".old", "a.lnk"], "rewrite has no option --keep"),
+        (&["salvage", "--profile", "95", "a.lnk"], "salvage has no option --profile"),
         (&["set", "a.lnk"], "set needs a text to set"),
         (&["set", "--environment"], "--environment needs a value"),
         (&["set", "--darwin", "x", "--darwin", "y", "a.lnk"], once),

@@ -240,6 +240,7 @@ impl Comparison {
         self.putting("target", [proved::target, independent::boundary_target], shortcut, &mut random);
         self.putting("key", [proved::key, independent::boundary_key], shortcut, &mut random);
         self.moves(shortcut, &mut random);
+        self.salvages(shortcut, &mut random);
         let rows = self.store_list(shortcut, &mut random);
         if profile > 1 {
             self.nothing_written(shortcut, &mut random);
@@ -273,6 +274,37 @@ impl Comparison {
         self.write(&Writing { fields, body }, random);
         let call = disturb::path_call(fields, body, 0, random);
         self.path_block(&call, random);
+    }
+
+    /// What is saved is accepted, is saved again as it is, and comes back from behind padding.
+    fn salvages(&mut self, shortcut: &[u8], random: &mut Random) {
+        let saved = match self.salvage(shortcut, random) {
+            Some(saved) => saved,
+            None => return,
+        };
+        if self.salvage(&saved, random).as_ref() != Some(&saved) {
+            self.differ("salvage", "a result is not copied", &|| hex(shortcut));
+        }
+        let padded = [&saved[..], &vec![random.below(256) as u8; random.from_to(1, 9)][..]].concat();
+        if padded.len() <= LIMIT && self.salvage(&padded, random).as_ref() != Some(&saved) {
+            self.differ("salvage", "padding stayed", &|| hex(&saved));
+        }
+        let cut = random.below(saved.len() + 1);
+        self.salvage(&saved[..cut], random);
+    }
+
+    /// Both sides of a call, in rooms about the result's length, and the result where there is one.
+    fn salvage(&mut self, shortcut: &[u8], random: &mut Random) -> Option<Vec<u8>> {
+        let mut whole = vec![0; shortcut.len() + 4];
+        let answer = independent::boundary_salvage(shortcut, &mut whole);
+        let length = saved_length(answer);
+        for room in rooms_about((answer & 0xFF) + 256 * length as u64, random) {
+            self.with_room_by(saved_length, "salvage", room, &|| hex(shortcut), &|out| {
+                (proved::salvage(shortcut, &mut *out.0), independent::boundary_salvage(shortcut, out.1))
+            });
+        }
+        whole.truncate(length);
+        (answer & 0xFF == 0).then_some(whole)
     }
 
     /// Path blocks put into an accepted shortcut's record: once, and into what was made of it.
@@ -502,9 +534,21 @@ impl Comparison {
         }
     }
 
-    /// Both sides on buffers of this room, filled alike and compared whole.
+    /// Both sides on buffers of this room, filled alike and compared whole; the value of a success is the length.
     fn with_room(
         &mut self,
+        call: &str,
+        room: usize,
+        given: &dyn Fn() -> String,
+        both: &dyn Fn((&mut [u8], &mut [u8])) -> (u64, u64),
+    ) -> u64 {
+        self.with_room_by(|answer| (answer >> 8) as usize, call, room, given, both)
+    }
+
+    /// The same where a success tells otherwise how many bytes it wrote.
+    fn with_room_by(
+        &mut self,
+        length: fn(u64) -> usize,
         call: &str,
         room: usize,
         given: &dyn Fn() -> String,
@@ -522,13 +566,19 @@ impl Comparison {
             let outs = [&self.proved_out[..whole], &self.independent_out[..whole]].map(hex);
             self.differ(call, &format!("bytes differ\n{}\n{}", outs[0], outs[1]), &given);
         }
-        let changed = if independent & 0xFF == 0 { (independent >> 8) as usize } else { 0 };
+        let changed = if independent & 0xFF == 0 { length(independent) } else { 0 };
         let rest = &self.independent_out[GUARD + changed..whole];
         if rest.iter().any(|&byte| byte != fill) {
             self.differ(call, "bytes changed after the length", &given);
         }
         independent
     }
+}
+
+/// How many bytes a salvage wrote: those kept, and four more where a terminal was added.
+fn saved_length(answer: u64) -> usize {
+    let (was, kept) = (answer >> 8 & 0xFF, (answer >> 16) as usize % 131_072);
+    kept + if [0, 9].contains(&was) { 0 } else { 4 }
 }
 
 /// Rooms of interest for a call that gave this answer with room enough.

@@ -296,6 +296,35 @@ fn a_shelf_of_two() {
 }
 
 #[test]
+fn damaged_shortcuts() {
+    let letters = &blocks(under("Blocks of one kind"))[0];
+    let rows = table(under("Damaged shortcuts"));
+    assert!(rows.len() > 9);
+    for row in rows {
+        println!("{:?}", row);
+        let after = |text: &str| -> Vec<u8> {
+            let one = |word: &str| match letters.iter().find(|line| line.starts_with(word)) {
+                Some(line) => bytes(&[line]),
+                None if word == "none" => Vec::new(),
+                None => from_hex(word),
+            };
+            [&Record::default().to_vec().unwrap()[..76], &text.split(' ').flat_map(one).collect::<Vec<u8>>()].concat()
+        };
+        let mut out = vec![0xEE; number(row[1]) as usize];
+        let answer = boundary::salvage(&after(row[0]), &mut out);
+        let report = number(row[3]) + 256 * (number(row[4]) + 131_072 * number(row[5]));
+        match row[2].strip_prefix("0, length ") {
+            Some(length) => {
+                let (saved, rest) = out.split_at(number(length) as usize);
+                assert_eq!((answer, saved), (256 * report, &after(row[6])[..]));
+                assert!(rest.iter().all(|&byte| byte == 0xEE));
+            }
+            None => assert_eq!((answer, report, out.iter().all(|&byte| byte == 0xEE)), (number(row[2]), 0, true)),
+        }
+    }
+}
+
+#[test]
 fn a_long_head() {
     let local = Local { drive: 3, serial: 0x1234_5678, label: Label::Unicode(b"T\0"), path: br"C:\" };
     let unicode = InfoUnicode { local: b"C\0:\0\\\0", ..InfoUnicode::default() };

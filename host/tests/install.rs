@@ -167,14 +167,18 @@ fn completed(prefix: &Path, words: &[&str]) -> Vec<String> {
     text(&said.stdout).lines().map(str::to_string).collect()
 }
 
+/// All commands, in the order of help.
+const COMMANDS: [&str; 11] =
+    ["check", "list", "target", "key", "show", "store", "rewrite", "set", "move", "shelf", "salvage"];
+
 #[test]
 fn bash_completes_words() {
     let prefix = installed("install_bash");
-    let commands = ["check", "list", "target", "key", "show", "store", "rewrite", "set", "move"];
-    let all = [&commands[..], &["shelf", "help", "--help", "--version"]].concat();
-    assert_eq!(completed(&prefix, &["herringnet", ""]), all);
-    for command in commands {
-        assert_eq!(completed(&prefix, &["herringnet", command, "--pro"]), ["--profile"]);
+    let all = completed(&prefix, &["herringnet", ""]);
+    assert_eq!(all, [&COMMANDS[..], &["help", "--help", "--version"]].concat());
+    for command in COMMANDS {
+        let profile = if ["shelf", "salvage"].contains(&command) { "" } else { "--profile" };
+        assert_eq!(completed(&prefix, &["herringnet", command, "--pro"]), [profile]);
     }
     assert_eq!(completed(&prefix, &["herringnet", "re"]), ["rewrite"]);
     assert_eq!(completed(&prefix, &["herringnet", "help", "k"]), ["key"]);
@@ -182,6 +186,8 @@ fn bash_completes_words() {
     assert_eq!(completed(&prefix, &["herringnet", "rewrite", "--j"]), [""]);
     assert_eq!(completed(&prefix, &["herringnet", "rewrite", "--s"]), ["--suffix"]);
     assert_eq!(completed(&prefix, &["herringnet", "set", "--da"]), ["--darwin", "--darwin-bytes"]);
+    assert_eq!(completed(&prefix, &["herringnet", "move", "--to-"]), ["--to-unicode", "--to-bytes"]);
+    assert_eq!(completed(&prefix, &["herringnet", "salvage", "--k"]), ["--keep"]);
     assert_eq!(completed(&prefix, &["herringnet", "check", "a"]), [""]);
     assert_eq!(completed(&prefix, &["herringnet", "shelf", "f"]), ["fetch", "from-old"]);
     assert_eq!(completed(&prefix, &["herringnet", "shelf", "fetch", "--o"]), ["--one", "--output"]);
@@ -194,7 +200,7 @@ fn the_manual_has_every_command_and_option() {
     let prefix = installed("install_man");
     let page = fs::read_to_string(prefix.join("share/man/man1/herringnet.1")).unwrap();
     let herringnet = |words: &[&str]| program(prefix.join("bin/herringnet")).args(words).output().unwrap();
-    for command in ["check", "list", "target", "key", "show", "store", "rewrite", "set", "move", "shelf"] {
+    for command in COMMANDS {
         assert!(page.contains(&format!("\n.SS {}\n", command)));
         let help = herringnet(&["help", command]);
         for line in text(&help.stdout).lines().filter(|line| line.starts_with("  -")) {

@@ -1,5 +1,5 @@
 //! The comparison's inputs often have what a cache key depends on, property stores of every shape, heads of every length,
-//! and what 95 forgives.
+//! and what 95 forgives; they are salvaged in every way.
 
 mod independent;
 mod inputs;
@@ -245,10 +245,41 @@ fn inputs_have_what_95_forgives() {
     are_often(forgiven, counts, FORGIVEN.map(|row| row.0));
 }
 
-/// Each count, of a trait with this name, is no small share of the accepted inputs.
-fn are_often<const N: usize>(accepted: u64, counts: [u64; N], names: [&str; N]) {
-    println!("{} inputs, {} accepted", INPUTS, accepted);
-    let percent = counts.map(|count| 100.0 * count as f64 / accepted as f64);
+/// How an input is salvaged: what it was refused with, and whether the section at fault is a block; or why it is lost.
+type Way = (&'static str, fn(&Result<usize, independent::Refusal>, &Result<u8, u8>) -> bool);
+
+const WAYS: [Way; 9] = [
+    ("accepted", |_, saved| *saved == Ok(0)),
+    ("bytes behind the terminal", |_, saved| *saved == Ok(9)),
+    ("cut in a block", |check, saved| *saved == Ok(2) && at(check, 8)),
+    ("cut where a block was due", |check, saved| *saved == Ok(2) && at(check, 9)),
+    ("a block that is wrong", |_, saved| *saved == Ok(8)),
+    ("two blocks of one kind", |_, saved| *saved == Ok(14)),
+    ("a property store that is wrong", |_, saved| *saved == Ok(15)),
+    ("lost by a cut", |check, saved| *saved == Err(19) && matches!(check, Err(refusal) if refusal.number == 2)),
+    ("lost by another number", |check, saved| *saved == Err(19) && matches!(check, Err(refusal) if refusal.number != 2)),
+];
+
+/// Whether it was refused at this section.
+fn at(check: &Result<usize, independent::Refusal>, section: u8) -> bool {
+    matches!(check, Err(refusal) if refusal.section == section)
+}
+
+#[test]
+fn inputs_are_salvaged_in_every_way() {
+    let mut counts = [0; WAYS.len()];
+    for bytes in (0..INPUTS).map(inputs::input) {
+        let check = independent::check(&bytes, Profile::Strict);
+        let saved = independent::salvage(&bytes, &mut vec![0; bytes.len() + 4]).map(|said| said.was);
+        counts.iter_mut().zip(WAYS).for_each(|(count, row)| *count += u64::from(row.1(&check, &saved)));
+    }
+    are_often(INPUTS, counts, WAYS.map(|row| row.0));
+}
+
+/// Each count, of a trait with this name, is no small share of the inputs that can have it.
+fn are_often<const N: usize>(able: u64, counts: [u64; N], names: [&str; N]) {
+    println!("{} inputs, {} of them can have these", INPUTS, able);
+    let percent = counts.map(|count| 100.0 * count as f64 / able as f64);
     for (share, name) in percent.iter().zip(names) {
         println!("{:5.1} % {}", share, name);
     }

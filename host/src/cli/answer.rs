@@ -35,7 +35,7 @@ impl<'a> Answer<'a> {
             Command::Key => key_under(shortcut, profile).map(Answer::Key),
             Command::Show => shown_under(shortcut, profile).map(Answer::Fields),
             Command::Store => Store::read_under(shortcut, profile).map(|store| Answer::Fields(vec![storages(&store)])),
-            Command::Rewrite | Command::Set | Command::Move | Command::Shelf => return None,
+            Command::Rewrite | Command::Set | Command::Move | Command::Shelf | Command::Salvage => return None,
         };
         Some(answer.map_err(|refusal| Refused::new(command, (shortcut, profile), refusal)))
     }

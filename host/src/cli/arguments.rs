@@ -108,6 +108,8 @@ struct Given {
     lists: Vec<Input>,
     outputs: Vec<Output>,
     profiles: Vec<Profile>,
+    /// What is put after the name of a file whose copy is kept.
+    keeps: Vec<OsString>,
     recursive: bool,
     all_files: bool,
     zero: bool,
@@ -161,6 +163,7 @@ impl Given {
             Asks::ToUnicode => self.ways.push(true),
             Asks::ToBytes => self.ways.push(false),
             Asks::Suffix => self.outputs.push(Output::Suffix(suffix(value)?)),
+            Asks::Keep => self.keeps.push(suffix(value)?),
             Asks::Path(kind) => self.paths.push((kind, value)),
             Asks::PathBytes(kind) => self.path_bytes.push((kind, value)),
             Asks::Output => self.outputs.push(match Input::of(value) {
@@ -195,6 +198,7 @@ impl Given {
             to_unicode: self.ways.pop().unwrap_or(false),
             shelf: self.shelf,
             output: self.outputs.pop().unwrap_or(Output::Standard),
+            keep: self.keeps.pop(),
             paths,
             several,
         }))
@@ -250,6 +254,7 @@ impl Given {
         let from_standard = self.inputs.iter().chain(&self.lists).filter(|input| matches!(input, Input::Standard));
         let standard = self.inputs.iter().any(|input| matches!(input, Input::Standard));
         let beside = matches!(self.outputs.first(), Some(Output::InPlace | Output::Suffix(_)));
+        let in_place = matches!(self.outputs.first(), Some(Output::InPlace));
         let to_one_file = matches!(self.outputs.first(), Some(Output::To(_)));
         let wrong = [
             (from_standard.count() > 1, "standard input can be read only once"),
@@ -265,6 +270,9 @@ impl Given {
             (several && to_one_file, "-o takes one input"),
             (command.writes() && several && !beside, "without --in-place or --suffix there can be one input"),
             (beside && standard, "--in-place and --suffix need files"),
+            (self.keeps.len() > 1, "--keep may stand once"),
+            (!self.keeps.is_empty() && !in_place, "--keep goes with --in-place"),
+            (command == Command::Salvage && in_place && self.keeps.is_empty(), "salvage --in-place needs --keep"),
             (command == Command::Set && self.paths.is_empty() && self.path_bytes.is_empty(), "set needs a text to set"),
             (self.paths_clash(), "an option for a text may stand once, and its bytes only beside it"),
             (command == Command::Move && self.ways.len() != 1, "move needs one of --to-unicode and --to-bytes"),

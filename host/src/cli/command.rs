@@ -13,6 +13,7 @@ pub enum Command {
     Set,
     Move,
     Shelf,
+    Salvage,
 }
 
 /// What help says of a command, beside its options.
@@ -25,7 +26,7 @@ struct Page {
     text: &'static str,
 }
 
-const PAGES: [Page; 10] = [
+const PAGES: [Page; 11] = [
     Page {
         word: "check",
         line: "say of each shortcut whether it is accepted, or which field is wrong, and why",
@@ -177,11 +178,28 @@ is replaced all at once. All of them test every entry; fetch --one tests of the 
 one that it writes. A refusal with ENTRY has the number of the first bad entry as its position.
 ",
     },
+    Page {
+        word: "salvage",
+        line: "write what can be saved of a damaged shortcut",
+        usage: &["[FILE]", "-o OUTPUT [FILE]", "--in-place --keep SUFFIX FILE..", "--suffix SUFFIX FILE.."],
+        text: "\
+Writes what still reads of a shortcut that was cut or padded, or has a broken block: without the
+bytes after its terminal block (9), or up to the block at fault and with a new terminal block (2,
+8, 14, 15). An accepted shortcut is copied. All other refused ones are lost (19), and nothing is
+written for them. The line about a file says what it was refused with and where, how many of its
+bytes are kept and dropped, and which blocks went; with standard output it is on standard error:
+  x.lnk: refused 2 CUT at 88, kept 88, dropped 11, gone: A0000004
+
+What was saved is accepted, but it is not what was sent: a block that names the environment may be
+among those that went, and the key with it. Files are written as rewrite writes them, in place
+only with a copy of the damaged file beside it.
+",
+    },
 ];
 
 impl Command {
     /// All of them, each at its number.
-    pub const ALL: [Command; 10] = [
+    pub const ALL: [Command; 11] = [
         Command::Check,
         Command::List,
         Command::Target,
@@ -192,6 +210,7 @@ impl Command {
         Command::Set,
         Command::Move,
         Command::Shelf,
+        Command::Salvage,
     ];
 
     /// The command with this word.
@@ -226,7 +245,7 @@ impl Command {
 
     /// Whether it writes files, so that it goes on when nobody reads its lines.
     pub fn writes(self) -> bool {
-        matches!(self, Command::Rewrite | Command::Set | Command::Move | Command::Shelf)
+        matches!(self, Command::Rewrite | Command::Set | Command::Move | Command::Shelf | Command::Salvage)
     }
 
     /// Whether a refusal is its answer, and not a complaint.

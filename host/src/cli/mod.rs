@@ -9,6 +9,7 @@ mod input;
 mod manual;
 mod options;
 mod run;
+mod saved;
 mod shelf;
 mod streams;
 mod walk;

@@ -18,6 +18,7 @@ pub enum Asks {
     Output,
     InPlace,
     Suffix,
+    Keep,
     Path(PathKind),
     PathBytes(PathKind),
     ToUnicode,
@@ -57,13 +58,26 @@ const EACH: &[Command] = &[
     Command::Rewrite,
     Command::Set,
     Command::Move,
+    Command::Salvage,
 ];
-const WRITING: &[Command] = &[Command::Rewrite, Command::Set, Command::Move];
+/// Of these all that are not strict alone.
+const PROFILED: &[Command] = &[
+    Command::Check,
+    Command::List,
+    Command::Target,
+    Command::Key,
+    Command::Show,
+    Command::Store,
+    Command::Rewrite,
+    Command::Set,
+    Command::Move,
+];
+const WRITING: &[Command] = &[Command::Rewrite, Command::Set, Command::Move, Command::Salvage];
 const SET: &[Command] = &[Command::Set];
 const MOVE: &[Command] = &[Command::Move];
 
 /// All options, in the order of help.
-pub const CHOICES: [Choice; 22] = [
+pub const CHOICES: [Choice; 23] = [
     Choice {
         asks: Asks::Recursive,
         words: &["-r", "--recursive"],
@@ -106,7 +120,7 @@ pub const CHOICES: [Choice; 22] = [
         asks: Asks::Profile,
         words: &["--profile"],
         value: Some("PROFILE"),
-        commands: EACH,
+        commands: PROFILED,
         lines: &[
             "strict, or 95 for shortcuts of Windows 95: attribute bit 15 is kept, and",
             "unused offsets in LinkInfo's own head may hold anything; else strict",
@@ -154,7 +168,7 @@ pub const CHOICES: [Choice; 22] = [
         asks: Asks::Output,
         words: &["-o", "--output"],
         value: Some("OUTPUT"),
-        commands: &[Command::Rewrite, Command::Set, Command::Move, Command::Shelf],
+        commands: &[Command::Rewrite, Command::Set, Command::Move, Command::Salvage, Command::Shelf],
         lines: &["write to OUTPUT; an older file there is replaced; - is standard output"],
     },
     Choice {
@@ -172,6 +186,16 @@ pub const CHOICES: [Choice; 22] = [
         lines: &[
             "write beside each FILE, with SUFFIX put after its name; a file that is",
             "there already is not replaced, but counts as one that cannot be written",
+        ],
+    },
+    Choice {
+        asks: Asks::Keep,
+        words: &["--keep"],
+        value: Some("SUFFIX"),
+        commands: &[Command::Salvage],
+        lines: &[
+            "with --in-place, which needs it: first copy each FILE that changes to a file",
+            "beside it, with SUFFIX put after its name; one that is there stays as it is",
         ],
     },
     Choice {

@@ -4,15 +4,16 @@ use super::command::Command;
 use super::console::{Console, Outcome};
 use super::files::{replace, with_suffix, write_new};
 use super::input::{reason, Input};
+use super::saved::said;
 use super::walk::Walk;
 use herringnet::show::text::Hex;
-use herringnet::{to_bytes_under, to_unicode_under, unmapped_under};
+use herringnet::{salvage, to_bytes_under, to_unicode_under, unmapped_under};
 use herringnet::{Fault, PathKind, PathTexts, Profile, Record, Refusal};
 use std::ffi::OsString;
 use std::io;
-use std::path::PathBuf;
+use std::path::{Path, PathBuf};
 
-/// Where `rewrite`, `set` and `move` put what they write.
+/// Where `rewrite`, `set`, `move` and `salvage` put what they write.
 pub enum Output {
     Standard,
     To(PathBuf),
@@ -38,6 +39,8 @@ pub struct Run {
     /// Whether each input is a shelf.
     pub shelf: bool,
     pub output: Output,
+    /// What is put after the name of a file to keep a copy of it before it is replaced.
+    pub keep: Option<OsString>,
     /// The path blocks to put in, in the order of the words.
     pub paths: Vec<(PathKind, PathTexts)>,
     /// Whether names stand beside the answers: always, if the number of inputs is not known from the words.
@@ -164,7 +167,9 @@ impl Run {
         console.record(match self.command {
             Command::Key if alone => text.to_vec(),
             Command::Key => [text, b" ", &name].concat(),
-            Command::Check | Command::Rewrite | Command::Set | Command::Move => [&name, &b": "[..], text].concat(),
+            Command::Check | Command::Rewrite | Command::Set | Command::Move | Command::Salvage => {
+                [&name, &b": "[..], text].concat()
+            }
             Command::Target if self.several => [&name, &b": "[..], one_colon(text).as_bytes()].concat(),
             Command::List | Command::Show | Command::Store if self.several => {
                 // An empty line stands between two inputs, unless zero bytes part them.
@@ -186,14 +191,18 @@ impl Run {
         Ok(form)
     }
 
-    /// What `rewrite`, `set` or `move` makes, or the words of its refusal.
-    fn made(&self, shortcut: &[u8]) -> Result<Vec<u8>, String> {
+    /// What is to be written for a shortcut, and what `salvage` has to say of it; or the words of the refusal.
+    fn made(&self, shortcut: &[u8]) -> Result<(Vec<u8>, Option<String>), String> {
         let made = match (self.command, self.to_unicode) {
             (Command::Move, true) => to_unicode_under(shortcut, self.profile),
             (Command::Move, false) => to_bytes_under(shortcut, self.profile),
+            (Command::Salvage, _) => {
+                let saved = salvage(shortcut).map_err(|refusal| refusal.to_string());
+                return saved.map(|(bytes, report)| (bytes, Some(said(shortcut, &report))));
+            }
             _ => self.form(shortcut),
         };
-        made.map_err(|refusal| match refusal.fault {
+        made.map(|bytes| (bytes, None)).map_err(|refusal| match refusal.fault {
             Fault::NoMap => {
                 let why = unmapped_under(shortcut, self.to_unicode, self.profile);
                 let why = why.map_or(String::new(), |why| format!("; {}", why));
@@ -203,28 +212,43 @@ impl Run {
         })
     }
 
+    /// Replaces a file, after a copy of it was kept where that is asked for.
+    fn replaced(&self, path: &Path, old: &[u8], new: &[u8]) -> io::Result<()> {
+        if let Some(suffix) = &self.keep {
+            write_new(&with_suffix(path, suffix), old)?;
+        }
+        replace(path, new)
+    }
+
     fn write(&self, read: &Read, console: &mut Console) {
-        let bytes = match self.made(read.bytes) {
-            Ok(bytes) => bytes,
+        let (bytes, report) = match self.made(read.bytes) {
+            Ok(made) => made,
             Err(why) => return console.complain(Outcome::Refused, format!("{}: {}", read.input, why)),
         };
         let (path, written) = match (&self.output, read.input) {
             (Output::To(path), _) => (path.clone(), replace(path, &bytes)),
             (Output::InPlace, Input::File(_)) if read.bytes == bytes => {
                 let why = if self.command == Command::Set { "as it was" } else { "canonical already" };
-                return self.print(read.input, &format!("{} bytes, {}", bytes.len(), why), console);
+                let said = report.unwrap_or_else(|| format!("{} bytes, {}", bytes.len(), why));
+                return self.print(read.input, &said, console);
             }
-            (Output::InPlace, Input::File(path)) => (path.clone(), replace(path, &bytes)),
+            (Output::InPlace, Input::File(path)) => (path.clone(), self.replaced(path, read.bytes, &bytes)),
             (Output::Suffix(suffix), Input::File(path)) => {
                 let path = with_suffix(path, suffix);
                 let written = write_new(&path, &bytes);
                 (path, written)
             }
-            _ => return console.write(&bytes),
+            _ => {
+                if let Some(report) = report {
+                    console.say(format!("{}: {}", read.input, report));
+                }
+                return console.write(&bytes);
+            }
         };
         let output = Input::File(path);
+        let said = report.unwrap_or_else(|| format!("{} bytes, from {}", bytes.len(), read.bytes.len()));
         match written {
-            Ok(()) => self.print(&output, &format!("{} bytes, from {}", bytes.len(), read.bytes.len()), console),
+            Ok(()) => self.print(&output, &said, console),
             Err(error) => {
                 console.complain(Outcome::Failed, format!("{}: cannot be written: {}", output, reason(&error)));
             }

@@ -164,6 +164,22 @@ static void profiles(uint8_t *s, size_t n)
     answer("to bytes 2", herringnet_to_bytes(s, n, out, sizeof out, 2));
 }
 
+static void salvages(const uint8_t *s, size_t n)
+{
+    static uint8_t out[HERRINGNET_LONGEST];
+    memset(out, 0xEE, sizeof out);
+    answer("salvage", herringnet_salvage(s, n, out, sizeof out));
+    printf("%s\n", memcmp(s, out, n) == 0 && out[n] == 0xEE ? "same bytes" : "other bytes");
+    answer("salvage in one less", herringnet_salvage(s, n, out, n - 1));
+    uint64_t less = herringnet_salvage(s, n - 1, out, sizeof out);
+    answer("salvage of one less", less);
+    printf("was %u kept %zu dropped %zu\n", HERRINGNET_SALVAGE_WAS(less), HERRINGNET_SALVAGE_KEPT(less),
+           HERRINGNET_SALVAGE_DROPPED(less));
+    bytes(out + n - 8, 10);
+    answer("salvage of a header", herringnet_salvage(s, 76, out, sizeof out));
+    answer("salvage of nothing", herringnet_salvage(NULL, 0, NULL, 0));
+}
+
 static void numbers(const uint64_t *row, size_t n)
 {
     for (size_t i = 0; i < n; i++)
@@ -253,6 +269,7 @@ int main(void)
     paths(s, n);
     profiles(s, n);
     shelves(s, n);
+    salvages(s, n);
     stores(s, n);
     names();
     return 0;

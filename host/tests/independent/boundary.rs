@@ -1,8 +1,8 @@
 //! The calls as the C boundary gives them: number + 256 x value.
 
 use super::{
-    check, key, path_block, section, store_list, store_write, target, to_bytes, to_unicode, walk, write, Profile,
-    Record, Refusal, FIELDS,
+    check, key, path_block, salvage, section, store_list, store_write, target, to_bytes, to_unicode, walk, write,
+    Profile, Record, Refusal, FIELDS,
 };
 
 pub const WRONG_COUNT: u64 = 201;
@@ -107,4 +107,12 @@ pub fn boundary_path_block(
         Some(record) => answer(path_block(&record, body, (kind, text, unicode), out, profile)),
         None => NO_RECORD,
     })
+}
+
+/// The report is in the answer.
+pub fn boundary_salvage(shortcut: &[u8], out: &mut [u8]) -> u64 {
+    match salvage(shortcut, out) {
+        Ok(said) => 256 * (u64::from(said.was) + 256 * (said.kept as u64 + 131_072 * said.dropped as u64)),
+        Err(number) => u64::from(number),
+    }
 }

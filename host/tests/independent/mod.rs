@@ -10,6 +10,7 @@ mod moving;
 mod path;
 mod profile;
 mod record;
+mod salvage;
 mod shelf;
 mod store;
 mod texts;
@@ -25,6 +26,7 @@ pub use moving::{code_page, to_bytes, to_unicode};
 pub use path::path_block;
 pub use profile::Profile;
 pub use record::*;
+pub use salvage::salvage;
 #[allow(unused_imports)]
 pub use shelf::*;
 #[allow(unused_imports)]
@@ -53,6 +55,7 @@ pub const NOTARGET: u8 = 13;
 pub const TWICE: u8 = 14;
 pub const STORE: u8 = 15;
 pub const NOMAP: u8 = 16;
+pub const LOST: u8 = 19;
 
 pub const SECTION_HEADER: u8 = 0;
 pub const SECTION_ITEMS: u8 = 1;

@@ -59,10 +59,10 @@ pub fn input(number: u64) -> Vec<u8> {
     draft.bytes
 }
 
-/// How often each number was answered, 0 to 16.
+/// How often each number was answered, 0 to 19.
 #[derive(Default)]
 pub struct Tally {
-    pub counts: [u64; 17],
+    pub counts: [u64; 20],
     pub calls: u64,
 }
 
