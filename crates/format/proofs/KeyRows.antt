@@ -17,7 +17,7 @@ use Rattle.format.specs.Key.{keyOf, keyBytes, key}
 use Rattle.format.specs.Probes.{zeros, withSection, Z, dashG1}
 
 -- a block A0000001 with this byte text
-abbrev environmentBlock : List ℕ → List ℕ
+abbrev pub environmentBlock : List ℕ → List ℕ
 environmentBlock text = little 4 788 ++ little 4 0xA0000001 ++ text ++ zeros (780 - length text)
 
 -- Z; P9's arguments, and into a room one too small; arguments that are there and empty; an environment block, and two of them; a shortcut cut short

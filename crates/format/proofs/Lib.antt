@@ -63,5 +63,7 @@ pub mod SharedLaws
 pub mod SalvageLaws
 pub mod SalvageDemands
 pub mod SalvageKeyDemands
+pub mod BeginningLaws
+pub mod BeginningDemands
 pub mod AnswerLaws
 pub mod OneOutcome

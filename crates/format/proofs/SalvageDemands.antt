@@ -101,7 +101,7 @@ zeros-end : (x : List ℕ) → blockSize (drop (length x) (x ++ little 4 0)) < 4
 zeros-end x = rw (drop-at x (little 4 0) (length x) refl) zero-alone
 
 -- as many bytes as were there, and a terminal
-with-terminal : (s : List ℕ) (k : ℕ) → k ≤ length s → length (take k s ++ little 4 0) ≡ k + 4
+pub with-terminal : (s : List ℕ) (k : ℕ) → k ≤ length s → length (take k s ++ little 4 0) ≡ k + 4
 with-terminal s k h = length-append (take k s) (little 4 0) ∙ rw (length-take-le k s h, length-little)
 
 module _ (s : List ℕ) where
@@ -167,7 +167,7 @@ module _ (s : List ℕ) where
 
 module _ (s : List ℕ) where
   -- what can be kept and is no longer than a shortcut
-  abbrev Fit : Rescue → Bool
+  abbrev pub Fit : Rescue → Bool
   Fit r = r .can && leb (length (rescued s r)) most
 
   own-fits : (n : ℕ) → length s ≤ most → Fit (upTo 0 n) ≡ true
@@ -182,7 +182,7 @@ module _ (s : List ℕ) where
       let x = mends-sections Strict .mends 0 s i .1 (at-block (w .section) (and-true (mendable (numberOf f)) (atBlock (w .section)) h .1)) in
       omega (arith, x .is, x .within)
 
-  unfit-lost : Fit (rescue s) ≡ false → Lost s
+  pub unfit-lost : Fit (rescue s) ≡ false → Lost s
   unfolding refusedBy rescueOf numberOf
   unfit-lost h = go (shortcut Strict s) refl
     where

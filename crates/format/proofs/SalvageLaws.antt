@@ -42,19 +42,19 @@ accepts w c e = rw e
 -- ---- rows
 
 -- the blocks' rows but the terminal's
-abbrev bodyRows : ℕ → List ℕ → List Row
+abbrev pub bodyRows : ℕ → List ℕ → List Row
 bodyRows p [] = []
 bodyRows p (n ∷ ns) = record { name = 8; start = p; len = n } ∷ bodyRows (p + n) ns
 
 abbrev terminalRow : ℕ → Row
 terminalRow p = record { name = 9; start = p; len = 4 }
 
-abbrev frontRows : Sections → List Row
+abbrev pub frontRows : Sections → List Row
 frontRows c =
     let (header, (items, (info, (name, (relative, (workdir, (arguments, (icon, blocks)))))))) = c in
     row 0 header ++ (row 1 items ++ (row 2 info ++ (row 3 name ++ (row 4 relative ++ (row 5 workdir ++ (row 6 arguments ++ row 7 icon))))))
 
-rows-split : (c : Sections) (p : ℕ) (ls : List ℕ) → blocksOf c .start ≡ p → blocksOf c .read ≡ ls → rowsOf c ≡ frontRows c ++ blockRows p ls
+pub rows-split : (c : Sections) (p : ℕ) (ls : List ℕ) → blocksOf c .start ≡ p → blocksOf c .read ≡ ls → rowsOf c ≡ frontRows c ++ blockRows p ls
 rows-split c p ls e f = rw (← e, ← f) (sym (simp append-assoc))
 
 body-split : (p : ℕ) (ls : List ℕ) → blockRows p ls ≡ bodyRows p ls ++ terminalRow (p + sum ls) ∷ []
@@ -62,7 +62,7 @@ body-split p [] = let z : p + 0 ≡ p = omega arith in rw z
 body-split p (n ∷ ns) = let z : p + (n + sum ns) ≡ p + n + sum ns = omega arith in ap (λ (l : List Row). record { name = 8; start = p; len = n } ∷ l) (body-split (p + n) ns ∙ rw z)
 
 -- more blocks after the same ones
-body-longer : (p : ℕ) (ls rest : List ℕ) → blockRows p (ls ++ rest) ≡ bodyRows p ls ++ blockRows (p + sum ls) rest
+pub body-longer : (p : ℕ) (ls rest : List ℕ) → blockRows p (ls ++ rest) ≡ bodyRows p ls ++ blockRows (p + sum ls) rest
 body-longer p [] rest = let z : p + 0 ≡ p = omega arith in rw z
 body-longer p (n ∷ ns) rest =
     let z : p + (n + sum ns) ≡ p + n + sum ns = omega arith in

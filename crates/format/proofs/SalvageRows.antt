@@ -17,6 +17,7 @@ use Rattle.format.specs.Blocks.{slotOf, sizeFits, insideTests, blocksFro
 use Rattle.format.specs.Shortcut.{sections, shortcut, faulted}
 use Rattle.format.specs.Writing.{outputOf}
 use Rattle.format.specs.Salvage.{refusedBy, rescueOf, rescue, salvaging, salvageAnswer, salvageOutput}
+use Rattle.format.proofs.KeyRows.{environmentBlock}
 use Rattle.format.specs.Probes.{answers, headerOf, withSection, Z, dashG1, lent, zeros}
 
 -- a file and a room; number and value of the answer, the number that the file was refused with, its bytes kept and dropped, and the buffer afterwards
@@ -100,6 +101,8 @@ rows =
     ∷ saved (headerOf 0xA0 0 ++ dashG1) 2 84 0 (withSection 0xA0 dashG1)
     -- P9's arguments without bit 7: what follows three bytes of text is taken for a block
     ∷ saved (withSection 0x20 dashG1) 2 81 7 (withSection 0x20 (take 5 dashG1))
+    -- cut inside its environment block: the environment is gone
+    ∷ saved (take 400 (withSection 0 (environmentBlock (0x61 ∷ [])))) 2 76 324 Z
     -- all other refusals: nothing, a cut header, another header, an item list, the CUT of one, of LinkInfo and of a string
     ∷ lost []
     ∷ lost (take 75 (headerOf 0 0))

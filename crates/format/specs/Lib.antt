@@ -26,5 +26,6 @@ pub mod Moving
 pub mod Demands
 pub mod PathWriting
 pub mod Salvage
+pub mod Beginnings
 pub mod Probes
 pub mod Steps

@@ -8,6 +8,7 @@ pub mod FileLaws
 pub mod RoundLaws
 pub mod ShelfLaws
 pub mod Demands
+pub mod BeginningDemands
 pub mod OneOutcome
 pub mod Rows
 pub mod SmallLaws

@@ -3,6 +3,7 @@ use mathlib.Core.Path.{_≡_, refl}
 use mathlib.Core.List.{List, [], _∷_, _++_, map}
 use mathlib.Core.Bool.{false}
 use Prim.Native.Nat.{ℕ}
+use lib.ListN.{take}
 use Rattle.octets.specs.Numbers.{number, numberAt, little}
 use Rattle.octets.specs.Parts.{put}
 use Rattle.format.specs.declared.Fault.{Fault}
@@ -123,3 +124,9 @@ there = refl
 pub back : toOldOutput two (zeros 169) ≡ oldTwo ++ zeros 1
 unfolding number numberAt little put identifierOk signed slotOf sizeFits insideTests blocksFrom sections shortcut reading acceptedEntry shelfRows shelfTests shelfEntries filed oldBytes outputOf toOld toOldOutput
 back = refl
+
+-- its beginnings: none of its bytes and all up to the end of an entry are of the old form again; three bytes of a length, and a cut entry, are not
+pub old-beginnings : map (λ k. fromOldAnswer (take k oldTwo) (zeros 180)) (0 ∷ 3 ∷ 83 ∷ 84 ∷ 87 ∷ 167 ∷ 168 ∷ [])
+    ≡ Accepted 4 ∷ Refused SHELF 0 ∷ Refused SHELF 0 ∷ Accepted 92 ∷ Refused SHELF 0 ∷ Refused SHELF 0 ∷ Accepted 180 ∷ []
+unfolding number numberAt little identifierOk signed slotOf sizeFits insideTests blocksFrom sections shortcut reading acceptedEntry shelfBytes filed oldFits oldEntries fromOld fromOldAnswer
+old-beginnings = refl
