@@ -7,7 +7,7 @@ use native.Mathlib.Omega.{arith}
 use native.Mathlib.Nat.{zero-add}
 use lib.ListN.{length, getD}
 use lib.Dec.{eqb, ltb}
-use borrow.Author.Tests.{ltb-false, eqb-true, eqb-false, eq-eqb, ne-eqb}
+use borrow.Author.Tests.{ltb-false, lt-ltb, eqb-true, ne-eqb, not-true}
 use Rattle.format.specs.Codepage.{unassigned, noByte, windows1252, unitOf, assigned, byteOf, inTable}
 use Rattle.format.proofs.Bools.{or-true, clash}
 use Rattle.format.proofs.CodepageLaws.{atAll, one-of-all, table-long, assigned-back, known-small, known-back, byte-most}
@@ -18,7 +18,6 @@ any-default [] k a b h = absurd (omega arith)
 any-default (x ∷ xs) zero a b h = refl
 any-default (x ∷ xs) (suc k) a b h = any-default xs k a b (omega arith)
 
--- the constant of the code is the table
 pub table-read : (b : ℕ) → b < 256 → getD windows1252 b 0 ≡ unitOf b
 unfolding unitOf
 table-read b h = any-default windows1252 b 0 unassigned (omega (arith, table-long))
@@ -43,6 +42,28 @@ no-mark : unitOf (candidateOf unassigned) < unassigned
 unfolding windows1252 unitOf candidateOf
 no-mark = omega arith
 
+-- a unit of the table has its byte as candidate
+pub candidate-known : (u : ℕ) → inTable u ≡ true → candidateOf u ≡ byteOf u
+candidate-known u e = let (k, a) = known-back u e in sym (ap candidateOf k) ∙ candidate-back (byteOf u) (known-small u e) a
+
+abbrev ownBelow : ℕ → ℕ → Bool
+ownBelow b u = not (ltb b 128) || eqb u b
+
+own-below-all : atAll ownBelow 0 windows1252 ≡ true
+unfolding windows1252
+own-below-all = refl
+
+-- a unit below 128 is its own byte
+pub low-byte : (u : ℕ) → u < 128 → u ≡ byteOf u
+unfolding unitOf
+low-byte u h =
+    or-true (not (ltb u 128)) (eqb (unitOf u) u) (rw zero-add at (one-of-all ownBelow 0 windows1252 own-below-all u unassigned (omega (arith, table-long))))
+    (λ m. clash (lt-ltb u 128 h) (not-true (ltb u 128) m))
+    (λ k.
+    let e : unitOf u ≡ u = eqb-true (unitOf u) u k in
+    let a : assigned u ≡ true = ap not (ne-eqb (unitOf u) unassigned (λ z. omega arith)) in
+    sym (sym (ap byteOf e) ∙ assigned-back u (omega arith) a))
+
 module _ (u : ℕ) {b : ℕ} (c : b ≡ candidateOf u) where
   pub candidate-found : b < 256 → unitOf b ≡ u → b ≡ byteOf u
   candidate-found h e = sym (assigned-back b h (go (eqb (unitOf b) unassigned) refl)) ∙ ap byteOf e
@@ -58,8 +79,5 @@ module _ (u : ℕ) {b : ℕ} (c : b ≡ candidateOf u) where
   candidate-missing n = go (inTable u) refl
     where
       go : (t : Bool) → inTable u ≡ t → noByte ≡ byteOf u
-      go true e =
-          let (k, a) = known-back u e in
-          let same : b ≡ byteOf u = c ∙ sym (ap candidateOf k) ∙ candidate-back (byteOf u) (known-small u e) a in
-          absurd (n (ap unitOf same ∙ k))
+      go true e = absurd (n (ap unitOf (c ∙ candidate-known u e) ∙ known-back u e .0))
       go false e = omega (arith, byte-most u, ltb-false (byteOf u) noByte e)

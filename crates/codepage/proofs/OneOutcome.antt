@@ -2,19 +2,11 @@
 use mathlib.Core.Path.{sym, _∙_}
 use denote.Ref.{now}
 use Rattle.octets.proofs.Outcomes.{OneAnswer, OneOutcome}
-use Rattle.codepage.proofs.unit_of as unit-of
-use Rattle.codepage.proofs.byte_of as byte-of
 use Rattle.codepage.proofs.texts.all_assigned as all-assigned
 use Rattle.codepage.proofs.texts.all_in_table as all-in-table
 use Rattle.codepage.proofs.texts.is_translation as is-translation
 use Rattle.codepage.proofs.texts.put_units as put-units
 use Rattle.codepage.proofs.texts.put_bytes as put-bytes
-
-pub unit-of-one-outcome : OneAnswer unit-of.ended unit-of.Reads.Post
-unit-of-one-outcome κs a r q s t p o = p ∙ sym o
-
-pub byte-of-one-outcome : OneAnswer byte-of.ended byte-of.Reads.Post
-byte-of-one-outcome κs a r q s t p o = p ∙ sym o
 
 pub all-assigned-one-outcome : OneAnswer all-assigned.ended all-assigned.Reads.Post
 all-assigned-one-outcome κs a r q s t p o = p ∙ sym o

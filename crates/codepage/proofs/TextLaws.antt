@@ -18,7 +18,7 @@ use Rattle.octets.proofs.WroteLaws.{wrote-none, wrote-number, wrote-one, join, 
 use Rattle.format.specs.Writing.{every}
 use Rattle.format.specs.Codepage.{unassigned, noByte, unitOf, assigned, byteOf, inTable, toUnits, allAssigned, toBytes, allInTable, isTranslation}
 use Rattle.format.proofs.Bools.{and-true, and-both, and-assoc, or-true, by-order, same-truth, clash}
-use Rattle.format.proofs.CodepageLaws.{unit-small, units-long, units-append, bytes-long, byte-most, known-small, same-equal}
+use Rattle.format.proofs.CodepageLaws.{unit-small, units-long, units-append, bytes-long, byte-most, same-equal}
 
 -- ---- the units of a text by their places
 
@@ -220,9 +220,9 @@ module _ (out₀ : List ℕ) (at : ℕ) (x : List ℕ) where
     unfolding toBytes
     all-bytes e = reword w (rw (e, ← units-count x, take-length (units x))) e
 
--- a character of a text that is all in the table has a byte
-pub byte-fits : (x : List ℕ) → allInTable x ≡ true → (i : ℕ) → i < length x / 2 → {v b : ℕ} → v ≡ u16At x (2 * i) → b ≡ byteOf v → b < 256
-byte-fits x t i h {v} {b} e f = rw (f, e, ← unit-at x i h) (known-small (getD (units x) i 0) (go (units x) i (inside x i h) t))
+-- each character of a text that is all in the table is in it
+pub known-at : (x : List ℕ) → allInTable x ≡ true → (i : ℕ) → i < length x / 2 → {v : ℕ} → v ≡ u16At x (2 * i) → inTable v ≡ true
+known-at x t i h {v} e = rw (e, ← unit-at x i h) (go (units x) i (inside x i h) t)
   where
     go : (us : List ℕ) (i : ℕ) → i < length us → every (map inTable us) ≡ true → inTable (getD us i 0) ≡ true
     go [] i h t = absurd (omega arith)

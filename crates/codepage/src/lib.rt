@@ -2,8 +2,8 @@
 pub mod texts;
 
 ghost use mathlib.Core.Path.{_≡_};
-ghost use Rattle.format.specs.Codepage.{unitOf, byteOf};
-ghost use Rattle.codepage.specs.Steps.Candidates.{candidateOf};
+ghost use Rattle.format.specs.Codepage.{windows1252, unitOf, byteOf};
+ghost use Rattle.codepage.specs.Steps.Candidates.{byRemainder, candidateOf};
 
 // The mark of the five unassigned bytes, which is no byte's unit.
 const UNASSIGNED: u16 = 0xFFFF;
@@ -354,27 +354,35 @@ const BYTES: [u8; 79] = [
     0x88,
 ];
 
-pub fn unit_of(b: u8) -> u16
+// Whoever goes over a text has one copy of each constant and lends it, since a constant is copied wherever it is indexed.
+fn unit_of(units: &[u16; 256], b: u8) -> u16
+    requires { ⌜ now units ≡ windows1252 ⌝ }
     ensures { λ r. ⌜ r ≡ unitOf b ⌝ }
 {
-    UNITS[b as usize]
+    units[b as usize]
 }
 
 // The only byte that can have this unit.
-fn candidate(u: u16) -> u8
+fn candidate(bytes: &[u8; 79], u: u16) -> u8
+    requires { ⌜ now bytes ≡ byRemainder ⌝ }
     ensures { λ r. ⌜ r ≡ candidateOf u ⌝ }
 {
     if u < 256 {
         return u as u8;
     }
-    BYTES[(u % 79) as usize]
+    bytes[(u % 79) as usize]
 }
 
-pub fn byte_of(u: u16) -> u16
+fn byte_of(units: &[u16; 256], bytes: &[u8; 79], u: u16) -> u16
+    requires { ⌜ (now units ≡ windows1252) × (now bytes ≡ byRemainder) ⌝ }
     ensures { λ r. ⌜ r ≡ byteOf u ⌝ }
 {
-    let b = candidate(u);
-    if unit_of(b) == u {
+    // Most characters need neither table.
+    if u < 128 {
+        return u;
+    }
+    let b = candidate(bytes, u);
+    if unit_of(units, b) == u {
         return b as u16;
     }
     NO_BYTE

@@ -9,9 +9,10 @@ ghost use Rattle.format.specs.Codepage.{toUnits, allAssigned, toBytes, allInTab
 pub fn all_assigned(x: &[u8]) -> bool
     ensures { λ r. ⌜ r ≡ allAssigned (now (x .entry)) ⌝ }
 {
+    let units = crate::UNITS;
     let mut i: usize = 0;
     while i < x.len() {
-        if crate::unit_of(x[i]) == crate::UNASSIGNED {
+        if crate::unit_of(&units, x[i]) == crate::UNASSIGNED {
             return false;
         }
         i += 1;
@@ -22,10 +23,12 @@ pub fn all_assigned(x: &[u8]) -> bool
 pub fn all_in_table(x: &[u8]) -> bool
     ensures { λ r. ⌜ r ≡ allInTable (now (x .entry)) ⌝ }
 {
+    let units = crate::UNITS;
+    let bytes = crate::BYTES;
     let n = x.len() / 2;
     let mut i: usize = 0;
     while i < n {
-        if crate::byte_of(octets::u16_at(x, 2 * i)) == crate::NO_BYTE {
+        if crate::byte_of(&units, &bytes, octets::u16_at(x, 2 * i)) == crate::NO_BYTE {
             return false;
         }
         i += 1;
@@ -40,9 +43,10 @@ pub fn is_translation(x: &[u8], y: &[u8]) -> bool
     if (y.len() % 2 != 0) | (y.len() / 2 != x.len()) {
         return false;
     }
+    let units = crate::UNITS;
     let mut i: usize = 0;
     while i < x.len() {
-        let u = crate::unit_of(x[i]);
+        let u = crate::unit_of(&units, x[i]);
         if (u == crate::UNASSIGNED) | (octets::u16_at(y, 2 * i) != u) {
             return false;
         }
@@ -58,17 +62,18 @@ pub fn put_units(out: &mut [u8], at: usize, x: &[u8]) -> usize
         (toUnits (now (x .entry)))
         (2 * length (now (x .entry))) (now (out .exit)) r ⌝ }
 {
+    let units = crate::UNITS;
     let mut p = at;
     let mut i: usize = 0;
     while i < x.len() {
-        octets::put_u16(out, p, crate::unit_of(x[i]));
+        octets::put_u16(out, p, crate::unit_of(&units, x[i]));
         p += 2;
         i += 1;
     }
     p
 }
 
-// A Unicode text as bytes.
+// A Unicode text as bytes. Its units are all in the table, so that a candidate need not be looked at again.
 pub fn put_bytes(out: &mut [u8], at: usize, x: &[u8]) -> usize
     requires known { ⌜ allInTable (now x) ≡ true ⌝ }
     requires room { ⌜ at + length (now x) / 2 ≤ length (now out) ⌝ }
@@ -76,10 +81,11 @@ pub fn put_bytes(out: &mut [u8], at: usize, x: &[u8]) -> usize
         (toBytes (now (x .entry)))
         (length (now (x .entry)) / 2) (now (out .exit)) r ⌝ }
 {
+    let bytes = crate::BYTES;
     let n = x.len() / 2;
     let mut i: usize = 0;
     while i < n {
-        out[at + i] = crate::byte_of(octets::u16_at(x, 2 * i)) as u8;
+        out[at + i] = crate::candidate(&bytes, octets::u16_at(x, 2 * i));
         i += 1;
     }
     at + n

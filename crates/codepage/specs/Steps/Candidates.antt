@@ -6,7 +6,7 @@ use lib.ListN.{getD}
 use lib.Dec.{ltb}
 
 -- by a unit's remainder by 79
-abbrev pub byRemainder : List ℕ
+unfoldable pub byRemainder : List ℕ
 byRemainder =
     0x91 ∷ 0x92 ∷ 0x82 ∷ 0 ∷ 0x93 ∷ 0x94 ∷ 0x84 ∷ 0x83 ∷ 0x86 ∷ 0x87 ∷ 0x95 ∷ 0 ∷ 0
     ∷ 0 ∷ 0x85 ∷ 0 ∷ 0 ∷ 0 ∷ 0 ∷ 0 ∷ 0 ∷ 0x98 ∷ 0x8C ∷ 0x9C ∷ 0x89 ∷ 0
@@ -18,4 +18,5 @@ byRemainder =
     ∷ []
 
 unfoldable pub candidateOf : ℕ → ℕ
+unfolding byRemainder
 candidateOf u = cond (ltb u 256) u (getD byRemainder (u % 79) 0)

@@ -1,7 +1,6 @@
 -- What is left after i bytes decides as the whole does.
-use borrow.Author.Needs.{needs}
 use Rattle.codepage.proofs.TextLaws.{assigned-ends, assigned-fails, assigned-goes}
-use Rattle.format.specs.Codepage.{assigned, allAssigned}
+use Rattle.format.specs.Codepage.{windows1252, assigned, allAssigned}
 use Rattle.format.specs.Writing.{every}
 use lib.ListN.{length, drop}
 use native.Mathlib.Omega.{arith}
@@ -12,10 +11,10 @@ use Rattle.codepage.proofs.texts.all_assigned.Statement.{statement}
 use Rattle.codepage.proofs.texts.all_assigned.Tie as tie
 
 abbrev Inv-loop : tie.InvT-loop
-Inv-loop x i₀ i = (i ≤ length x) × (every (map assigned (drop i x)) ≡ allAssigned x)
+Inv-loop x units i₀ i = (i ≤ length x) × (every (map assigned (drop i x)) ≡ allAssigned x)
 
 abbrev μ-loop : tie.MeasureT-loop
-μ-loop x i₀ i = length x - i
+μ-loop x units i₀ i = length x - i
 
 loop-holds : tie.Need-loop-holds Inv-loop μ-loop
 loop-holds c = (omega arith, refl)
@@ -24,11 +23,15 @@ shared-slice-read-unit-of : tie.Need-shared-slice-read-unit-of Inv-loop μ-loop
 shared-slice-read-unit-of c = omega arith
 
 unit-of-requires : tie.Need-unit-of-requires Inv-loop μ-loop
-unit-of-requires c κs = search needs
+unfolding windows1252
+unit-of-requires c κs = refl
 
 returns : tie.Need-returns Inv-loop μ-loop
 returns c =
-    assigned-fails (c .before .before .before .before .before .before .args .x .now) (c .before .before .before .before .loop .i) (c .before .before .before .before .loop .inv .1) (omega arith) (c .before .unit-of .ensures) (c .if1 .taken)
+    let in-loop = c .before .before .before .before in
+    let at-loop = in-loop .before in
+    let start = at-loop .before .before in
+    assigned-fails (start .args .x .now) (at-loop .loop .i) (at-loop .loop .inv .1) (omega arith) (c .before .unit-of .ensures) (c .if1 .taken)
 
 add-i : tie.Need-add-i Inv-loop μ-loop
 add-i c = omega arith
@@ -38,7 +41,10 @@ loop-less c = omega arith
 
 loop-again : tie.Need-loop-again Inv-loop μ-loop
 loop-again c =
-    (omega arith, assigned-goes (c .before .before .before .before .before .before .args .x .now) (c .before .before .before .before .loop .i) (c .before .before .before .before .loop .inv .1) (omega arith) (c .before .unit-of .ensures) (c .if1 .left))
+    let in-loop = c .before .before .before .before in
+    let at-loop = in-loop .before in
+    let start = at-loop .before .before in
+    (omega arith, assigned-goes (start .args .x .now) (at-loop .loop .i) (at-loop .loop .inv .1) (omega arith) (c .before .unit-of .ensures) (c .if1 .left))
 
 returns-2 : tie.Need-returns-2 Inv-loop μ-loop
 returns-2 c = assigned-ends (c .before .before .before .args .x .now) (c .before .loop .i) (c .before .loop .inv .1) (omega arith)

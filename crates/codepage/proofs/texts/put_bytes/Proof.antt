@@ -1,7 +1,8 @@
--- The first i units are put, each as its byte, which fits since all are in the table.
+-- The first i units are put, each as its candidate, which is its byte since all are in the table.
 use Rattle.octets.proofs.WroteLaws.{kept}
-use borrow.Author.Needs.{needs}
-use Rattle.codepage.proofs.TextLaws.{no-bytes, more-bytes, all-bytes, byte-fits}
+use Rattle.codepage.specs.Steps.Candidates.{byRemainder}
+use Rattle.codepage.proofs.CandidateLaws.{candidate-known}
+use Rattle.codepage.proofs.TextLaws.{no-bytes, more-bytes, all-bytes, known-at}
 use Rattle.format.specs.Codepage.{byteOf}
 use Rattle.octets.specs.Steps.Puts.{Wrote}
 use Rattle.octets.specs.Characters.{units}
@@ -9,15 +10,15 @@ use lib.ListN.{length, take}
 use native.Mathlib.Omega.{arith}
 use Prim.Native.Nat.{_+_, _≤_, _/_, _-_}
 use mathlib.Core.List.{map}
-use mathlib.Core.Path.{_≡_, refl}
+use mathlib.Core.Path.{_≡_, refl, _∙_}
 use Rattle.codepage.proofs.texts.put_bytes.Statement.{statement}
 use Rattle.codepage.proofs.texts.put_bytes.Tie as tie
 
 abbrev Inv-loop : tie.InvT-loop
-Inv-loop out₀ at x n i₀ out i = (i ≤ length x / 2) × Wrote out₀ at (map byteOf (take i (units x))) i out (at + i)
+Inv-loop out₀ at x bytes n i₀ out i = (i ≤ length x / 2) × Wrote out₀ at (map byteOf (take i (units x))) i out (at + i)
 
 abbrev μ-loop : tie.MeasureT-loop
-μ-loop out₀ at x n i₀ out i = length x / 2 - i
+μ-loop out₀ at x bytes n i₀ out i = length x / 2 - i
 
 loop-holds : tie.Need-loop-holds Inv-loop μ-loop
 loop-holds c =
@@ -29,18 +30,15 @@ mul-u16-at c = omega arith
 u16-at-requires : tie.Need-u16-at-requires Inv-loop μ-loop
 u16-at-requires c κs = omega arith
 
-byte-of-requires : tie.Need-byte-of-requires Inv-loop μ-loop
-byte-of-requires c κs = search needs
-
-cast-out : tie.Need-cast-out Inv-loop μ-loop
-cast-out c =
-    omega (arith, byte-fits _ (c .before .before .before .before .before .before .pre .0) _ (omega arith) (c .before .u16-at .ensures) (c .byte-of .ensures))
+candidate-requires : tie.Need-candidate-requires Inv-loop μ-loop
+unfolding byRemainder
+candidate-requires c κs = refl
 
 add-out : tie.Need-add-out Inv-loop μ-loop
 add-out c = omega arith
 
 slice-write-out : tie.Need-slice-write-out Inv-loop μ-loop
-slice-write-out c = let w = c .before .before .before .loop .inv .1 in omega (arith, kept w)
+slice-write-out c = let w = c .before .before .before .before .loop .inv .1 in omega (arith, kept w)
 
 add-i : tie.Need-add-i Inv-loop μ-loop
 add-i c = omega arith
@@ -50,8 +48,11 @@ loop-less c = omega arith
 
 loop-again : tie.Need-loop-again Inv-loop μ-loop
 loop-again c =
-    let w = c .before .before .before .loop .inv .1 in
-    (omega arith, more-bytes _ _ _ _ w (omega arith) (c .before .u16-at .ensures) (c .byte-of .ensures) (omega (arith, kept w)))
+    let at-loop = c .before .before .before .before in
+    let start = at-loop .before .before .before in
+    let w = at-loop .loop .inv .1 in
+    let known = known-at _ (start .pre .0) _ (omega arith) (c .before .u16-at .ensures) in
+    (omega arith, more-bytes _ _ _ _ w (omega arith) (c .before .u16-at .ensures) (c .candidate .ensures ∙ candidate-known _ known) (omega (arith, kept w)))
 
 add-result : tie.Need-add-result Inv-loop μ-loop
 add-result c = omega arith
@@ -74,8 +75,7 @@ put-bytes-spec =
     loop-holds
     mul-u16-at
     u16-at-requires
-    byte-of-requires
-    cast-out
+    candidate-requires
     add-out
     slice-write-out
     add-i
