@@ -331,7 +331,7 @@ uint64_t herringnet_shelf_to_old(const uint8_t *shelf, size_t shelf_len, uint8_t
 /* Puts what can be saved of a shortcut into out, as strict: an accepted one as it is; one that is refused with TRAIL
  * without the bytes behind its terminal block; one that is refused with CUT, BLOCK, TWICE or STORE at a block, or for
  * want of a terminal block, up to there, with a zero terminal of four bytes behind it. What is written is accepted. Success:
- * HERRINGNET_SALVAGE_WAS, and the bytes kept and dropped, which add up to shortcut_len; what is written is as long as
+ * HERRINGNET_SALVAGE_WAS, and the bytes that were kept and dropped, shortcut_len in all; what is written is as long as
  * what is kept, and four bytes longer if the shortcut was refused with CUT, BLOCK, TWICE or STORE. Refusals: LOST for
  * every other shortcut and where the result would be over HERRINGNET_LONGEST bytes, then ROOM (FORMAT: Salvage). */
 uint64_t herringnet_salvage(const uint8_t *shortcut, size_t shortcut_len, uint8_t *out, size_t out_len);

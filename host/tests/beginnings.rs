@@ -16,7 +16,7 @@ fn accepts(shortcut: &[u8], profile: u32) -> bool {
     boundary::check(shortcut, profile) & 0xFF == 0
 }
 
-/// Every proper beginning is refused with 2, at a position not after the cut; says how many there are.
+/// The first bytes of it are CUT wherever it was cut, and never reported later than there; says how many cuts there are.
 fn cut_at_every_byte(shortcut: &[u8], profile: u32) -> usize {
     for cut in 0..shortcut.len() {
         let answer = boundary::check(&shortcut[..cut], profile);

@@ -68,7 +68,7 @@ beginning-stopped profile s r e k h =
       };
     }
 
--- so no accepted shortcut is the beginning of another
+-- so none of them begins another
 pub no-other-begins : (profile : Profile) (s t : List ℕ) (r q : Record) → Accepts profile s r → Accepts profile t q → take (length s) t ≡ s → s ≡ t
 unfolding Accepts Refuses
 no-other-begins profile s t r q a b e =
@@ -199,10 +199,10 @@ module _ (s : List ℕ) (r : Record) (a : Accepts Strict s r) (k : ℕ) (l : k <
         after = more;
         listed =
             rw (reads .is) (
-                rows-split c p (hit .whole ++ hit .rest) refl (hit .is)
-                ∙ ap (λ (y : List Row). frontRows c ++ y) (body-longer p (hit .whole) (hit .rest) ∙ ap (λ (y : List Row). bodyRows p (hit .whole) ++ y) e)
-                ∙ sym (append-assoc (frontRows c) (bodyRows p (hit .whole)) (x ∷ more))
-                );
+            rows-split c p (hit .whole ++ hit .rest) refl (hit .is)
+            ∙ ap (λ (y : List Row). frontRows c ++ y) (body-longer p (hit .whole) (hit .rest) ∙ ap (λ (y : List Row). bodyRows p (hit .whole) ++ y) e)
+            ∙ sym (append-assoc (frontRows c) (bodyRows p (hit .whole)) (x ∷ more))
+            );
         starts = omega (arith, f, kept);
         ends = omega (arith, f, g, hit .next, first);
         answer = λ out m. rw f (rw (saves (length out) (omega (arith, f)), keeps, long));

@@ -1,4 +1,4 @@
--- A refusal at a block or at the missing terminal: what stands before it is read alike whatever follows, and a terminal put there ends it.
+-- A refusal at a block, or where the terminal is missing: what stands before it is read alike whatever follows, and a terminal put there ends it.
 use mathlib.Core.Path.{_≡_, refl, sym, ap, _∙_, subst₂}
 use mathlib.Core.List.{List, [], _∷_, _++_}
 use mathlib.Core.Bool.{Bool, true, false, cond}

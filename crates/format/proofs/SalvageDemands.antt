@@ -296,7 +296,7 @@ copies s k n out e h l room =
     let i = copied s k n (length out) e h l room in
     record { answer = rw (i, e); output = ap (λ (o : Outcome (List ℕ)). outputOf o out) i }
 
--- an accepted shortcut is copied, with 0 dropped
+-- what is accepted is copied, and nothing of it dropped
 pub accepted-copied : (s : List ℕ) (r : Record) (out : List ℕ) → Accepts Strict s r → length s ≤ length out
     → (salvageAnswer s out ≡ record { verdict = Accepted (length s); number = 0; kept = length s; dropped = 0 }) × (salvageOutput s out ≡ put out 0 s)
 unfolding Accepts rescueOf
