@@ -188,6 +188,9 @@ fn bash_completes_words() {
     assert_eq!(completed(&prefix, &["herringnet", "set", "--da"]), ["--darwin", "--darwin-bytes"]);
     assert_eq!(completed(&prefix, &["herringnet", "move", "--to-"]), ["--to-unicode", "--to-bytes"]);
     assert_eq!(completed(&prefix, &["herringnet", "salvage", "--k"]), ["--keep"]);
+    assert_eq!(completed(&prefix, &["herringnet", "set", "--arg"]), ["--arguments", "--arguments-hex"]);
+    assert_eq!(completed(&prefix, &["herringnet", "set", "--keep-i"]), ["--keep-items"]);
+    assert_eq!(completed(&prefix, &["herringnet", "move", "--arg"]), [""]);
     assert_eq!(completed(&prefix, &["herringnet", "check", "a"]), [""]);
     assert_eq!(completed(&prefix, &["herringnet", "shelf", "f"]), ["fetch", "from-old"]);
     assert_eq!(completed(&prefix, &["herringnet", "shelf", "fetch", "--o"]), ["--one", "--output"]);

@@ -3,10 +3,12 @@ use super::command::Command;
 use super::input::Input;
 use super::options::{choices, Asks, Choice};
 use super::run::{Output, Run};
+use super::set::given;
+use super::set::Setting;
 use super::shelf::{Shelving, Task};
 use super::{help, manual};
 use herringnet::show::text::Name;
-use herringnet::{PathKind, PathTexts, Profile};
+use herringnet::Profile;
 use std::ffi::{OsStr, OsString};
 use std::os::unix::ffi::OsStrExt;
 use std::path::PathBuf;
@@ -116,9 +118,7 @@ struct Given {
     json: bool,
     raw: bool,
     hex: bool,
-    /// Texts for path blocks, and their bytes where these are given.
-    paths: Vec<(PathKind, OsString)>,
-    path_bytes: Vec<(PathKind, OsString)>,
+    changes: given::Given,
     /// The ways to move, true for Unicode.
     ways: Vec<bool>,
     shelf: bool,
@@ -164,8 +164,7 @@ impl Given {
             Asks::ToBytes => self.ways.push(false),
             Asks::Suffix => self.outputs.push(Output::Suffix(suffix(value)?)),
             Asks::Keep => self.keeps.push(suffix(value)?),
-            Asks::Path(kind) => self.paths.push((kind, value)),
-            Asks::PathBytes(kind) => self.path_bytes.push((kind, value)),
+            Asks::Set(ask) => self.changes.take(ask, value),
             Asks::Output => self.outputs.push(match Input::of(value) {
                 Input::Standard => Output::Standard,
                 Input::File(path) => Output::To(path),
@@ -183,7 +182,10 @@ impl Given {
         if let Some(why) = self.clash(command, several) {
             return Err(why.to_string());
         }
-        let paths = self.paths.iter().map(|(kind, text)| self.texts(*kind, text)).collect::<Result<_, _>>()?;
+        let setting = match command {
+            Command::Set => self.changes.setting()?,
+            _ => Setting::default(),
+        };
         Ok(Plan::Run(Run {
             command,
             inputs: self.inputs,
@@ -199,31 +201,9 @@ impl Given {
             shelf: self.shelf,
             output: self.outputs.pop().unwrap_or(Output::Standard),
             keep: self.keeps.pop(),
-            paths,
+            setting,
             several,
         }))
-    }
-
-    /// The two texts of a path block.
-    fn texts(&self, kind: PathKind, text: &OsStr) -> Result<(PathKind, PathTexts), String> {
-        let word = path_word(kind);
-        let text = text.to_str().ok_or_else(|| format!("the value of {} is no UTF-8", word))?;
-        let given = self.path_bytes.iter().find(|(other, _)| *other == kind);
-        let texts = match given {
-            Some((_, bytes)) => PathTexts::beside(bytes.as_bytes().to_vec(), text),
-            None => PathTexts::encode(text)
-                .map_err(|misfit| format!("{}: {}; {}-bytes gives the bytes", word, misfit, word))?,
-        };
-        Ok((kind, texts))
-    }
-
-    /// Whether an option for a path block stands twice, or bytes without their text.
-    fn paths_clash(&self) -> bool {
-        let count = |options: &[(PathKind, OsString)], kind| options.iter().filter(|(other, _)| *other == kind).count();
-        PathKind::ALL.iter().any(|&kind| {
-            let (texts, bytes) = (count(&self.paths, kind), count(&self.path_bytes, kind));
-            texts > 1 || bytes > texts
-        })
     }
 
     /// The plan for a shelf, if what was given fits together.
@@ -268,13 +248,14 @@ impl Given {
             (self.raw && several, "--raw takes one input"),
             (self.hex && self.json, "--hex excludes --json"),
             (several && to_one_file, "-o takes one input"),
-            (command.writes() && several && !beside, "without --in-place or --suffix there can be one input"),
+            (
+                command.writes() && several && !beside && !self.changes.is_dry(),
+                "without --in-place or --suffix there can be one input",
+            ),
             (beside && standard, "--in-place and --suffix need files"),
             (self.keeps.len() > 1, "--keep may stand once"),
             (!self.keeps.is_empty() && !in_place, "--keep goes with --in-place"),
             (command == Command::Salvage && in_place && self.keeps.is_empty(), "salvage --in-place needs --keep"),
-            (command == Command::Set && self.paths.is_empty() && self.path_bytes.is_empty(), "set needs a text to set"),
-            (self.paths_clash(), "an option for a text may stand once, and its bytes only beside it"),
             (command == Command::Move && self.ways.len() != 1, "move needs one of --to-unicode and --to-bytes"),
         ];
         wrong.iter().find(|(is_wrong, _)| *is_wrong).map(|(_, why)| *why)
@@ -315,12 +296,6 @@ fn split(word: &[u8]) -> (&[u8], Option<&[u8]>) {
         },
         _ => (&word[..2], Some(&word[2..]).filter(|joined| !joined.is_empty())),
     }
-}
-
-/// The option that sets the text of a path block.
-fn path_word(kind: PathKind) -> &'static str {
-    let is_it = |choice: &&Choice| choice.asks == Asks::Path(kind);
-    choices(Command::Set).find(is_it).map_or("", |choice| choice.words[0])
 }
 
 fn profile(word: &OsStr) -> Result<Profile, String> {

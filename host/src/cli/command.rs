@@ -118,15 +118,30 @@ written, the files are still done.
     },
     Page {
         word: "set",
-        line: "set texts of a shortcut, and write its canonical form",
-        usage: &["[FILE]", "-o OUTPUT [FILE]", "--in-place FILE..", "--suffix SUFFIX FILE.."],
+        line: "set parts of a shortcut or take them away, and write its canonical form",
+        usage: &["[FILE]", "-o OUTPUT [FILE]", "--in-place FILE..", "--suffix SUFFIX FILE..", "--dry-run [FILE].."],
         text: "\
-Puts a block with a path into a shortcut, or replaces the one of that kind where it stands, and
-writes the canonical form of what it has become. All other blocks and texts stay as they are. The
-bit of LinkFlags by which Windows looks for such a block is set too: 9 for the environment block,
-12 for the Darwin block, 14 for the icon environment block. The block holds TEXT twice, as bytes of
-windows-1252 and in Unicode; each has at most 259 characters. A TEXT that windows-1252 lacks a
-character of is refused, unless the option that ends in -bytes gives the bytes.
+Sets parts of a shortcut or takes them away, and writes the canonical form of what it has become.
+All other parts stay as they are. Before anything is written it is read back, and every part has to
+be what was asked for, or what it was. Then it says what changed, old and new, which bits of
+LinkFlags followed, and whether the key is another; where the shortcut itself goes to standard
+output, it says so on standard error:
+  x.lnk: 87 bytes, from 85
+    arguments: \"-g0\" -> \"-g1 x\"
+    key: changed, now 00000000000001050000002d6731207800000000000000000000
+TEXT is UTF-8. A string gets it in Unicode where LinkFlags bit 7 is set, else in windows-1252, and
+a character that is not in that is refused; HEX gives the bytes themselves, two for each Unicode
+character. A text may be empty, which is not the same as taken away.
+
+A path block holds TEXT twice, as bytes of windows-1252 and in Unicode, each of at most 259
+characters, and BYTES in the stead of the first. It replaces the one of its kind, or comes last.
+Bit 9 of LinkFlags follows the environment block, 12 the Darwin block, 14 the icon environment block.
+
+--target sets local path and suffix with their Unicode twins: the path is TEXT, the suffix empty.
+LinkInfo is made where it is missing, with a volume of which nothing is known, and bit 8, which
+shuts it out, is cleared. Item lists, network link, relative path, environment and Darwin block can
+name the old target still; while one of them does, the target is refused and they are named, unless
+each is set, taken away by its --no- option or left by its --keep- option.
 
 Files are written as rewrite writes them.
 ",

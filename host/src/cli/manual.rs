@@ -1,7 +1,7 @@
 //! The manual page and the completion for bash, from the same tables as help.
 use super::command::Command;
 use super::help::{PRINTED, STATUS};
-use super::options::{choices, CHOICES};
+use super::options::{all, choices};
 use super::shelf::Task;
 
 /// The manual page, for man.
@@ -21,7 +21,7 @@ pub fn page() -> String {
         page += &format!(".SS {}\n{}", command.word(), as_it_stands(command.text()));
     }
     page += ".SH OPTIONS\n";
-    for choice in &CHOICES {
+    for choice in all() {
         let commands: Vec<&str> = choice.commands.iter().map(|command| command.word()).collect();
         let lines = escaped(&choice.lines.join("\n"));
         page += &format!(".TP\n.B {}\n{}\n({})\n", escaped(&choice.heading()), lines, commands.join(", "));

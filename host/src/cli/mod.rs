@@ -10,6 +10,7 @@ mod manual;
 mod options;
 mod run;
 mod saved;
+mod set;
 mod shelf;
 mod streams;
 mod walk;

@@ -1,6 +1,6 @@
 //! The options: one table for the command line, for help, for the manual and for completion.
 use super::command::Command;
-use herringnet::PathKind;
+use super::set::asks::{Ask, CHANGES};
 
 /// What an option asks for.
 #[derive(Clone, Copy, PartialEq, Eq)]
@@ -19,8 +19,7 @@ pub enum Asks {
     InPlace,
     Suffix,
     Keep,
-    Path(PathKind),
-    PathBytes(PathKind),
+    Set(Ask),
     ToUnicode,
     ToBytes,
     Help,
@@ -29,7 +28,7 @@ pub enum Asks {
 impl Asks {
     /// Whether its value may be empty: a text may.
     pub fn takes_nothing(self) -> bool {
-        matches!(self, Asks::Path(_) | Asks::PathBytes(_))
+        matches!(self, Asks::Set(ask) if ask.takes_nothing())
     }
 }
 
@@ -73,11 +72,10 @@ const PROFILED: &[Command] = &[
     Command::Move,
 ];
 const WRITING: &[Command] = &[Command::Rewrite, Command::Set, Command::Move, Command::Salvage];
-const SET: &[Command] = &[Command::Set];
 const MOVE: &[Command] = &[Command::Move];
 
-/// All options, in the order of help.
-pub const CHOICES: [Choice; 23] = [
+/// All options but those of `set` alone, in the order of help.
+const CHOICES: [Choice; 16] = [
     Choice {
         asks: Asks::Recursive,
         words: &["-r", "--recursive"],
@@ -199,48 +197,6 @@ pub const CHOICES: [Choice; 23] = [
         ],
     },
     Choice {
-        asks: Asks::Path(PathKind::Environment),
-        words: &["--environment"],
-        value: Some("TEXT"),
-        commands: SET,
-        lines: &["put TEXT into the environment block, A0000001"],
-    },
-    Choice {
-        asks: Asks::PathBytes(PathKind::Environment),
-        words: &["--environment-bytes"],
-        value: Some("BYTES"),
-        commands: SET,
-        lines: &["with --environment: the text of bytes, as BYTES stand on the command line"],
-    },
-    Choice {
-        asks: Asks::Path(PathKind::IconEnvironment),
-        words: &["--icon-environment"],
-        value: Some("TEXT"),
-        commands: SET,
-        lines: &["put TEXT into the icon environment block, A0000007"],
-    },
-    Choice {
-        asks: Asks::PathBytes(PathKind::IconEnvironment),
-        words: &["--icon-environment-bytes"],
-        value: Some("BYTES"),
-        commands: SET,
-        lines: &["with --icon-environment: the text of bytes, as BYTES stand on the command line"],
-    },
-    Choice {
-        asks: Asks::Path(PathKind::Darwin),
-        words: &["--darwin"],
-        value: Some("TEXT"),
-        commands: SET,
-        lines: &["put TEXT into the Darwin block, A0000006"],
-    },
-    Choice {
-        asks: Asks::PathBytes(PathKind::Darwin),
-        words: &["--darwin-bytes"],
-        value: Some("BYTES"),
-        commands: SET,
-        lines: &["with --darwin: the text of bytes, as BYTES stand on the command line"],
-    },
-    Choice {
         asks: Asks::ToUnicode,
         words: &["--to-unicode"],
         value: None,
@@ -254,12 +210,20 @@ pub const CHOICES: [Choice; 23] = [
         commands: MOVE,
         lines: &["move from Unicode to byte strings"],
     },
-    Choice { asks: Asks::Help, words: &["-h", "--help"], value: None, commands: &Command::ALL, lines: &["print this"] },
 ];
+
+/// The last one in every help.
+const HELP: Choice =
+    Choice { asks: Asks::Help, words: &["-h", "--help"], value: None, commands: &Command::ALL, lines: &["print this"] };
+
+/// All options, in the order of help.
+pub fn all() -> impl Iterator<Item = &'static Choice> {
+    CHOICES.iter().chain(&CHANGES).chain([&HELP])
+}
 
 /// The options of a command.
 pub fn choices(command: Command) -> impl Iterator<Item = &'static Choice> {
-    CHOICES.iter().filter(move |choice| choice.commands.contains(&command))
+    all().filter(move |choice| choice.commands.contains(&command))
 }
 
 impl Choice {

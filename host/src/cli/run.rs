@@ -5,10 +5,11 @@ use super::console::{Console, Outcome};
 use super::files::{replace, with_suffix, write_new};
 use super::input::{reason, Input};
 use super::saved::said;
+use super::set::Setting;
 use super::walk::Walk;
 use herringnet::show::text::Hex;
 use herringnet::{salvage, to_bytes_under, to_unicode_under, unmapped_under};
-use herringnet::{Fault, PathKind, PathTexts, Profile, Record, Refusal};
+use herringnet::{Fault, Profile, Record, Refusal};
 use std::ffi::OsString;
 use std::io;
 use std::path::{Path, PathBuf};
@@ -41,8 +42,8 @@ pub struct Run {
     pub output: Output,
     /// What is put after the name of a file to keep a copy of it before it is replaced.
     pub keep: Option<OsString>,
-    /// The path blocks to put in, in the order of the words.
-    pub paths: Vec<(PathKind, PathTexts)>,
+    /// What `set` is to change.
+    pub setting: Setting,
     /// Whether names stand beside the answers: always, if the number of inputs is not known from the words.
     pub several: bool,
 }
@@ -180,29 +181,19 @@ impl Run {
         });
     }
 
-    /// The canonical form of the shortcut, with all that is to be set.
+    /// The canonical form.
     fn form(&self, shortcut: &[u8]) -> Result<Vec<u8>, Refusal> {
-        let mut form = Record::read_under(shortcut, self.profile)?.to_vec_under(self.profile)?;
-        for (kind, texts) in &self.paths {
-            let mut record = Record::read_under(&form, self.profile)?;
-            record.header.flags |= kind.flag();
-            form = record.with_path_block_under(*kind, texts, self.profile)?;
-        }
-        Ok(form)
+        Record::read_under(shortcut, self.profile)?.to_vec_under(self.profile)
     }
 
-    /// What is to be written for a shortcut, and what `salvage` has to say of it; or the words of the refusal.
-    fn made(&self, shortcut: &[u8]) -> Result<(Vec<u8>, Option<String>), String> {
+    /// What `rewrite` or `move` makes, or the words of its refusal.
+    fn plain(&self, shortcut: &[u8]) -> Result<Vec<u8>, String> {
         let made = match (self.command, self.to_unicode) {
             (Command::Move, true) => to_unicode_under(shortcut, self.profile),
             (Command::Move, false) => to_bytes_under(shortcut, self.profile),
-            (Command::Salvage, _) => {
-                let saved = salvage(shortcut).map_err(|refusal| refusal.to_string());
-                return saved.map(|(bytes, report)| (bytes, Some(said(shortcut, &report))));
-            }
             _ => self.form(shortcut),
         };
-        made.map(|bytes| (bytes, None)).map_err(|refusal| match refusal.fault {
+        made.map_err(|refusal| match refusal.fault {
             Fault::NoMap => {
                 let why = unmapped_under(shortcut, self.to_unicode, self.profile);
                 let why = why.map_or(String::new(), |why| format!("; {}", why));
@@ -210,6 +201,25 @@ impl Run {
             }
             _ => refusal.to_string(),
         })
+    }
+
+    /// What is to be put out, and what `set` or `salvage` has to say of it.
+    fn made(&self, shortcut: &[u8]) -> Result<Made, (Outcome, String)> {
+        let refused = |why: String| (Outcome::Refused, why);
+        match self.command {
+            Command::Set => {
+                let done = self.setting.done(shortcut, self.profile).map_err(|undone| (undone.outcome, undone.why))?;
+                Ok(Made { changes: done.lines(), bytes: done.bytes, report: None })
+            }
+            Command::Salvage => {
+                let (bytes, report) = salvage(shortcut).map_err(|refusal| refused(refusal.to_string()))?;
+                Ok(Made { bytes, changes: String::new(), report: Some(said(shortcut, &report)) })
+            }
+            _ => {
+                let bytes = self.plain(shortcut).map_err(refused)?;
+                Ok(Made { bytes, changes: String::new(), report: None })
+            }
+        }
     }
 
     /// Replaces a file, after a copy of it was kept where that is asked for.
@@ -221,37 +231,62 @@ impl Run {
     }
 
     fn write(&self, read: &Read, console: &mut Console) {
-        let (bytes, report) = match self.made(read.bytes) {
+        let made = match self.made(read.bytes) {
             Ok(made) => made,
-            Err(why) => return console.complain(Outcome::Refused, format!("{}: {}", read.input, why)),
+            Err((outcome, why)) => return console.complain(outcome, format!("{}: {}", read.input, why)),
         };
-        let (path, written) = match (&self.output, read.input) {
-            (Output::To(path), _) => (path.clone(), replace(path, &bytes)),
-            (Output::InPlace, Input::File(_)) if read.bytes == bytes => {
+        let from = format!("from {}", read.bytes.len());
+        match (&self.output, read.input) {
+            _ if self.setting.dry_run => self.print(read.input, &made.says(&format!("{}, not written", from)), console),
+            (Output::InPlace, Input::File(_)) if read.bytes == made.bytes => {
                 let why = if self.command == Command::Set { "as it was" } else { "canonical already" };
-                let said = report.unwrap_or_else(|| format!("{} bytes, {}", bytes.len(), why));
-                return self.print(read.input, &said, console);
+                self.print(read.input, &made.says(why), console);
             }
-            (Output::InPlace, Input::File(path)) => (path.clone(), self.replaced(path, read.bytes, &bytes)),
+            (Output::To(path), _) => self.put(path.clone(), replace(path, &made.bytes), &made.says(&from), console),
+            (Output::InPlace, Input::File(path)) => {
+                let written = self.replaced(path, read.bytes, &made.bytes);
+                self.put(path.clone(), written, &made.says(&from), console);
+            }
             (Output::Suffix(suffix), Input::File(path)) => {
                 let path = with_suffix(path, suffix);
-                let written = write_new(&path, &bytes);
-                (path, written)
+                let written = write_new(&path, &made.bytes);
+                self.put(path, written, &made.says(&from), console);
             }
             _ => {
-                if let Some(report) = report {
-                    console.say(format!("{}: {}", read.input, report));
+                console.write(&made.bytes);
+                if [Command::Set, Command::Salvage].contains(&self.command) {
+                    console.say(format!("{}: {}", read.input, made.says(&from)));
                 }
-                return console.write(&bytes);
             }
-        };
+        }
+    }
+
+    /// Says of a file what was written, or that it could not be.
+    fn put(&self, path: PathBuf, written: io::Result<()>, says: &str, console: &mut Console) {
         let output = Input::File(path);
-        let said = report.unwrap_or_else(|| format!("{} bytes, from {}", bytes.len(), read.bytes.len()));
         match written {
-            Ok(()) => self.print(&output, &said, console),
+            Ok(()) => self.print(&output, says, console),
             Err(error) => {
                 console.complain(Outcome::Failed, format!("{}: cannot be written: {}", output, reason(&error)));
             }
+        }
+    }
+}
+
+/// What a command has made of a shortcut.
+struct Made {
+    bytes: Vec<u8>,
+    /// Lines about it, each after a line feed.
+    changes: String,
+    /// What `salvage` says of it.
+    report: Option<String>,
+}
+
+impl Made {
+    fn says(&self, how: &str) -> String {
+        match &self.report {
+            Some(report) => report.clone(),
+            None => format!("{} bytes, {}{}", self.bytes.len(), how, self.changes),
         }
     }
 }

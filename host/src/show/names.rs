@@ -69,7 +69,7 @@ const BLOCKS: [(u32, &str); 11] = [
 ];
 
 /// The rows of HighByte (section 2.1.3).
-const MODIFIERS: [(u8, &str); 3] = [(0x01, "SHIFT"), (0x02, "CTRL"), (0x04, "ALT")];
+pub const MODIFIERS: [(u8, &str); 3] = [(0x01, "SHIFT"), (0x02, "CTRL"), (0x04, "ALT")];
 
 /// The names of the bits that are set.
 fn bits(number: u32, names: &[&'static str]) -> Vec<&'static str> {
