@@ -451,9 +451,9 @@ fn salvage_writes_what_still_reads() {
     s.run(&["salvage", "--suffix", ".saved", "padded.lnk", "a.lnk"]).is(0, lines, "");
     assert_eq!((s.get("padded.lnk.saved"), s.get("a.lnk.saved")), (SAMPLE.to_vec(), SAMPLE.to_vec()));
     s.put("string.lnk", &SAMPLE[..330]);
-    for name in ["long.lnk", "string.lnk"] {
-        let lost = format!("herringnet: {}: refused 19 LOST at 0: nothing of it can be salvaged\n", name);
-        s.run(&["salvage", name]).is(1, "", &lost);
+    for (name, was) in [("long.lnk", "1 LONG at 65536"), ("string.lnk", "2 CUT at 327")] {
+        let lost = "refused 19 LOST at 0: nothing of it can be salvaged; it was refused";
+        s.run(&["salvage", name]).is(1, "", &format!("herringnet: {}: {} {}\n", name, lost, was));
     }
     assert_eq!(s.run_on(&["salvage"], "padded.lnk").out, SAMPLE);
 }

@@ -201,8 +201,9 @@ one that it writes. A refusal with ENTRY has the number of the first bad entry a
 Writes what still reads of a shortcut that was cut or padded, or has a broken block: without the
 bytes after its terminal block (9), or up to the block at fault and with a new terminal block (2,
 8, 14, 15). An accepted shortcut is copied. All other refused ones are lost (19), and nothing is
-written for them. The line about a file says what it was refused with and where, how many of its
-bytes are kept and dropped, and which blocks went; with standard output it is on standard error:
+written for them. The line about a file says what it was refused with and where, and of one that
+is not lost how many of its bytes are kept and dropped, and which blocks went; with standard
+output it is on standard error:
   x.lnk: refused 2 CUT at 88, kept 88, dropped 11, gone: A0000004
 
 What was saved is accepted, but it is not what was sent: a block that names the environment may be

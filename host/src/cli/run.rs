@@ -4,7 +4,7 @@ use super::command::Command;
 use super::console::{Console, Outcome};
 use super::files::{replace, with_suffix, write_new};
 use super::input::{reason, Input};
-use super::saved::said;
+use super::saved::{lost, said};
 use super::set::Setting;
 use super::walk::Walk;
 use herringnet::show::text::Hex;
@@ -212,7 +212,7 @@ impl Run {
                 Ok(Made { changes: done.lines(), bytes: done.bytes, report: None })
             }
             Command::Salvage => {
-                let (bytes, report) = salvage(shortcut).map_err(|refusal| refused(refusal.to_string()))?;
+                let (bytes, report) = salvage(shortcut).map_err(|refusal| refused(lost(shortcut, &refusal)))?;
                 Ok(Made { bytes, changes: String::new(), report: Some(said(shortcut, &report)) })
             }
             _ => {

@@ -1,15 +1,23 @@
 //! What `salvage` says of a file.
-use herringnet::{fault, Report};
+use herringnet::{fault, Refusal, Report};
 
 /// What it was refused with and where, how many bytes are kept and dropped, and which blocks went.
 pub fn said(shortcut: &[u8], report: &Report) -> String {
-    let was = match fault(shortcut) {
-        Some(spot) => format!("refused {} at {}", spot.refusal.fault, spot.refusal.position),
-        None => "accepted".to_string(),
-    };
     let gone = if report.mended() { gone(&shortcut[report.kept..]) } else { Vec::new() };
     let blocks = if gone.is_empty() { String::new() } else { format!(", gone: {}", gone.join(", ")) };
-    format!("{}, kept {}, dropped {}{}", was, report.kept, report.dropped, blocks)
+    format!("{}, kept {}, dropped {}{}", was(shortcut), report.kept, report.dropped, blocks)
+}
+
+/// That nothing can be saved, and what it was refused with and where.
+pub fn lost(shortcut: &[u8], refusal: &Refusal) -> String {
+    format!("{}; it was {}", refusal, was(shortcut))
+}
+
+fn was(shortcut: &[u8]) -> String {
+    match fault(shortcut) {
+        Some(spot) => format!("refused {} at {}", spot.refusal.fault, spot.refusal.position),
+        None => "accepted".to_string(),
+    }
 }
 
 /// The signatures of the blocks that were dropped, as far as their sizes lead from one to the next.
