@@ -226,6 +226,19 @@ uint64_t herringnet_target(const uint8_t *shortcut, size_t shortcut_len, uint8_t
  * shortcut_len. Refusals: as herringnet_check, then ROOM. */
 uint64_t herringnet_key(const uint8_t *shortcut, size_t shortcut_len, uint8_t *out, size_t out_len, uint32_t profile);
 
+/* What could name the driver of a shortcut and is not told by its key, a bit each (FORMAT: Blind spots). */
+enum herringnet_blind {
+    HERRINGNET_BLIND_NAMELESS = 1,     /* no target text and no environment text, but items, relative path or LinkInfo */
+    HERRINGNET_BLIND_TARGET = 2,       /* a twin in Unicode of one of the target's texts is not its translation */
+    HERRINGNET_BLIND_ENVIRONMENT = 4,  /* the Unicode text of the block A0000001 is not that of its byte text */
+    HERRINGNET_BLIND_BLOCK = 8,        /* a block A0000006 or A000000C */
+    HERRINGNET_BLIND_STORE = 16        /* the property store has values */
+};
+
+/* Success: the sum of the bits that are set. Two shortcuts with equal keys and without the first three bits have equal
+ * target text, arguments, working directory and environment texts of both kinds. Refusals: as herringnet_check. */
+uint64_t herringnet_key_blind(const uint8_t *shortcut, size_t shortcut_len, uint32_t profile);
+
 /* Moves a shortcut without bit 7 of LINK_FLAGS to one with it, into out: the strings are translated by windows-1252,
  * and a LinkInfo with the short head gets the long one, with both its paths in Unicode. The rest is as it was. Success:
  * the length of the result. Refusals: as herringnet_check, then NOMAP for a byte that is not assigned or a shortcut

@@ -63,6 +63,11 @@ const CALLS: [Call; 12] = [
         proved: |case| proved::key(&case.shortcut, &mut case.out, 0),
         independent: |case| independent::boundary_key(&case.shortcut, &mut case.out, 0),
     },
+    Call {
+        name: "key_blind",
+        proved: |case| proved::key_blind(&case.shortcut, 0),
+        independent: |case| independent::boundary_key_blind(&case.shortcut, 0),
+    },
     // What a scheduler does with each shortcut.
     Call {
         name: "check+key",

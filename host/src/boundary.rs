@@ -1,4 +1,4 @@
-//! The nineteen proved functions, as they stand in the archive.
+//! The twenty proved functions, as they stand in the archive.
 //!
 //! Every answer is one number (FORMAT: C numbers): its number, 0 for success, + 256 × a value, which is the length
 //! of a success or the position of a refusal. A refusal changes no byte of `out` and no number of `fields`. The other
@@ -19,6 +19,9 @@ extern "C" {
 
     // pub extern "C" fn herringnet_key(s: &[u8], out: &mut [u8], profile: u32) -> u64
     fn herringnet_key(s: *const u8, s_len: usize, out: *mut u8, out_len: usize, profile: u32) -> u64;
+
+    // pub extern "C" fn herringnet_key_blind(s: &[u8], profile: u32) -> u64
+    fn herringnet_key_blind(s: *const u8, s_len: usize, profile: u32) -> u64;
 
     // pub extern "C" fn herringnet_to_unicode(s: &[u8], out: &mut [u8], profile: u32) -> u64
     fn herringnet_to_unicode(s: *const u8, s_len: usize, out: *mut u8, out_len: usize, profile: u32) -> u64;
@@ -102,7 +105,7 @@ extern "C" {
     fn herringnet_salvage(s: *const u8, s_len: usize, out: *mut u8, out_len: usize) -> u64;
 }
 
-// In all nineteen calls pointer and length come from one slice, and a slice that is written to is borrowed by
+// In all twenty calls pointer and length come from one slice, and a slice that is written to is borrowed by
 // nobody else: that is all that the functions need, since they have no other condition.
 
 /// The verdict on a shortcut; the value of a success is its length.
@@ -124,6 +127,11 @@ pub fn target(shortcut: &[u8], out: &mut [u8], profile: u32) -> u64 {
 /// Puts the cache key at the front of `out`; the value of a success is its length.
 pub fn key(shortcut: &[u8], out: &mut [u8], profile: u32) -> u64 {
     unsafe { herringnet_key(shortcut.as_ptr(), shortcut.len(), out.as_mut_ptr(), out.len(), profile) }
+}
+
+/// What could name the driver of a shortcut and is not told by its key: the value of a success is its bits.
+pub fn key_blind(shortcut: &[u8], profile: u32) -> u64 {
+    unsafe { herringnet_key_blind(shortcut.as_ptr(), shortcut.len(), profile) }
 }
 
 /// Moves a shortcut of byte strings to Unicode, into the front of `out`; the value of a success is the length.

@@ -11,6 +11,7 @@
 #![warn(missing_docs)]
 #![deny(unsafe_code)]
 
+mod blind;
 #[allow(unsafe_code)]
 pub mod boundary;
 pub mod fields;
@@ -29,6 +30,7 @@ pub mod text;
 mod unmapped;
 mod unwritable;
 
+pub use blind::{key_blind, key_blind_under, Blind, BlindSpot};
 pub use path::{PathKind, PathTexts};
 pub use profile::Profile;
 pub use record::Record;

@@ -12,6 +12,7 @@ const CALLS: &[(&str, &[&str])] = &[
     ("shown", &["section_place", "section"]),
     ("target", &["target"]),
     ("keying", &["key"]),
+    ("blinding", &["key_blind"]),
     ("storing", &["store_list", "store_name", "store_raw", "store_write"]),
     ("moving", &["to_unicode", "to_bytes"]),
     (

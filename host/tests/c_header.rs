@@ -2,7 +2,7 @@
 mod common;
 
 use common::{folder, program, run_on, text, SAMPLE};
-use herringnet::{fields, Fault, Profile, SectionName};
+use herringnet::{fields, BlindSpot, Fault, Profile, SectionName};
 use std::env;
 use std::fs;
 use std::path::{Path, PathBuf};
@@ -94,11 +94,17 @@ fn profiles_have_the_numbers_of_the_rust_side() {
 }
 
 #[test]
+fn blind_spots_have_the_bits_of_the_rust_side() {
+    let rust = BlindSpot::ALL.map(|spot| (spot.name().to_string(), usize::from(spot.bit())));
+    assert_eq!(enumerators("HERRINGNET_BLIND_"), rust);
+}
+
+#[test]
 fn numbers_have_the_names_of_the_rust_side() {
     let all = enumerators("HERRINGNET_");
     let numbers = all
         .iter()
-        .filter(|(name, _)| !["FIELD_", "SECTION_", "ROW_", "PROFILE_"].iter().any(|part| name.contains(part)));
+        .filter(|(name, _)| !["FIELD_", "SECTION_", "ROW_", "PROFILE_", "BLIND_"].iter().any(|part| name.contains(part)));
     let numbers: Vec<(&str, usize)> = numbers.map(|(name, number)| (name.as_str(), *number)).collect();
     assert_eq!(numbers[0], ("OK", 0));
     assert_eq!(numbers.len(), 23);

@@ -8,6 +8,7 @@ mod inputs;
 use herringnet::boundary as proved;
 use independent::{Profile, FIELDS, LIMIT};
 use inputs::{Random, Tally};
+use std::collections::HashMap;
 
 /// Bytes at each side of an output buffer that no call may touch.
 const GUARD: usize = 16;
@@ -125,6 +126,53 @@ fn both_agree_on_moves_at_the_limit() {
     }
 }
 
+/// Few texts, so that many of these share a key: where no bit of 1, 2 and 4 is set, all of them that do so start one driver.
+#[test]
+fn keys_without_blind_spots_tell_the_driver() {
+    let (page, count) = (independent::code_page(), 6_000);
+    let (mut comparison, mut out, mut seen) = (Comparison::new(), vec![0; LIMIT], [0; 32]);
+    let (mut drivers, mut pairs) = (HashMap::new(), 0);
+    for number in 0..count {
+        let shortcut = inputs::blind(number, &page);
+        comparison.compare(number, &shortcut);
+        let bits = (proved::key_blind(&shortcut, 0) >> 8) as usize;
+        seen[bits] += 1;
+        if bits & 7 != 0 {
+            continue;
+        }
+        let length = (proved::key(&shortcut, &mut out, 0) >> 8) as usize;
+        let nameless = !names_driver(&out[..length]);
+        assert!(!nameless || shortcut[20] & 0b1011 == 0, "input {}", number);
+        let (environment, target) = independent::unicode_texts(&shortcut, Profile::Strict);
+        let (others, first, targets) =
+            drivers.entry(out[..length].to_vec()).or_insert_with(|| (0, environment.clone(), Vec::new()));
+        pairs += *others;
+        *others += 1;
+        assert_eq!(*first, environment, "input {}", number);
+        targets.extend(target);
+        assert!(targets.windows(2).all(|two| two[0] == two[1]), "input {}", number);
+        targets.truncate(1);
+    }
+    let with = |bit: usize| seen.iter().enumerate().filter(|(bits, _)| bits & bit != 0).map(|row| row.1).sum::<u64>();
+    println!("{} pairs told by one key; with each bit {:?}", pairs, [1, 2, 4, 8, 16].map(with));
+    assert_eq!(comparison.verdicts.counts[0], count, "all are accepted");
+    assert!([1, 2, 4, 8, 16].iter().all(|&bit| with(bit) > count / 20 && with(bit) < count * 9 / 10));
+    let both = |one: usize, two: usize| (0..32).any(|bits| bits & one != 0 && bits & two != 0 && seen[bits] > 0);
+    assert!([1, 2, 4, 8, 16].iter().all(|&one| [1, 2, 4, 8, 16].iter().all(|&two| both(one, two))), "{:?}", seen);
+    assert!(pairs > 49_000);
+}
+
+/// Whether a key has a target or an environment that is not empty.
+fn names_driver(key: &[u8]) -> bool {
+    let mut rest = &key[1..];
+    let lengths = [(); 4].map(|_| {
+        let length = u32::from_le_bytes([rest[1], rest[2], rest[3], rest[4]]) as usize;
+        rest = &rest[5 + length..];
+        length
+    });
+    lengths[0] > 0 || lengths[3] > 0
+}
+
 /// Heads of every length up to 0x60, some longer and the longest: what is written has each of their bytes.
 #[test]
 fn both_agree_on_heads_of_every_length() {
@@ -239,6 +287,7 @@ impl Comparison {
         self.sections(shortcut, &mut random);
         self.putting("target", [proved::target, independent::boundary_target], shortcut, &mut random);
         self.putting("key", [proved::key, independent::boundary_key], shortcut, &mut random);
+        self.key_blind(shortcut);
         self.moves(shortcut, &mut random);
         self.salvages(shortcut, &mut random);
         let rows = self.store_list(shortcut, &mut random);
@@ -355,6 +404,12 @@ impl Comparison {
     fn check(&mut self, shortcut: &[u8]) -> u64 {
         let independent = independent::boundary_check(shortcut, self.profile);
         self.agree("check", proved::check(shortcut, self.profile), independent, &|| hex(shortcut));
+        independent
+    }
+
+    fn key_blind(&mut self, shortcut: &[u8]) -> u64 {
+        let independent = independent::boundary_key_blind(shortcut, self.profile);
+        self.agree("key blind", proved::key_blind(shortcut, self.profile), independent, &|| hex(shortcut));
         independent
     }
 

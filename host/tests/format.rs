@@ -239,6 +239,36 @@ fn a_path_block_put_in() {
 }
 
 #[test]
+fn keys_that_do_not_tell() {
+    let text = under("Keys that do not tell");
+    let texts: [&[u8]; 2] = [b"A\0B", b"A\0\0\0B"];
+    let mut parts = vec![("E", path(0xA000_0001, texts)), ("D", path(0xA000_0006, texts)), ("none", Vec::new())];
+    for line in &blocks(text)[0] {
+        let (name, row) = line.split_at(3);
+        let row = from_hex(row.split("   ").next().unwrap());
+        match name.trim() {
+            "" => parts.last_mut().unwrap().1.extend(row),
+            name => parts.push((name, row)),
+        }
+    }
+    let rows = table(text);
+    assert!(rows.len() > 20);
+    for row in rows {
+        println!("{:?}", row);
+        let mut shortcut = Record::default().to_vec().unwrap()[..76].to_vec();
+        shortcut[20..24].copy_from_slice(&(number(row[0]) as u32).to_le_bytes());
+        for name in row[1].split(' ') {
+            shortcut.extend(&parts.iter().find(|part| part.0 == name).unwrap().1);
+        }
+        shortcut.extend([0; 4]);
+        if !row[2].is_empty() {
+            shortcut = changed(shortcut, row[2]);
+        }
+        assert_eq!(boundary::key_blind(&shortcut, 0), 256 * number(row[3]));
+    }
+}
+
+#[test]
 fn a_shortcut_moved_to_unicode() {
     let text = under("A shortcut moved to Unicode");
     let whole = |flags: u8, dump: &[&str]| {

@@ -15,7 +15,7 @@ fn exported(source: &str) -> BTreeSet<String> {
 
 #[test]
 fn declarations_follow_the_rattle_source() {
-    assert_eq!(exported(BOUNDARY).len(), 19);
+    assert_eq!(exported(BOUNDARY).len(), 20);
     assert_eq!(exported(BOUNDARY), exported(SCHEDULER));
 }
 

@@ -68,7 +68,7 @@ zero-byte : byteOf 0 ≡ 0
 unfolding windows1252 byteOf
 zero-byte = refl
 
-unit-beyond : (b : ℕ) → 256 ≤ b → unitOf b ≡ unassigned
+pub unit-beyond : (b : ℕ) → 256 ≤ b → unitOf b ≡ unassigned
 unfolding unitOf
 unit-beyond b h = let l : length windows1252 ≤ b = omega (arith, table-long) in List·getD-eq-default windows1252 unassigned l
 

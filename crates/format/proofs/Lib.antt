@@ -42,6 +42,7 @@ pub mod StoreRows
 pub mod StoreLaws
 pub mod StoreReads
 pub mod StoreWrites
+pub mod HeldLaws
 pub mod StoreDemands
 pub mod PathRows
 pub mod SalvageRows
@@ -65,5 +66,8 @@ pub mod SalvageDemands
 pub mod SalvageKeyDemands
 pub mod BeginningLaws
 pub mod BeginningDemands
+pub mod BlindLaws
+pub mod BlindRows
+pub mod BlindDemands
 pub mod AnswerLaws
 pub mod OneOutcome

@@ -2,29 +2,29 @@
 use mathlib.Core.Path.{_≡_, refl, sym, ap, _∙_}
 use mathlib.Core.List.{List, [], _∷_, _++_, append-assoc}
 use mathlib.Core.Bool.{Bool, true, false, _&&_, cond}
-use Prim.Native.Nat.{ℕ, zero, suc, _+_, _%_, _≤_}
+use Prim.Native.Nat.{ℕ, _+_, _%_, _≤_}
 use native.Mathlib.Omega.{arith}
 use lib.ListN.{length, take, drop, length-append, length-take, length-drop}
-use lib.Seq.{drop-drop, take-take, take-length, length-take-le, take-append-seam, drop-append-le, drop-at, take-at}
+use lib.Seq.{drop-drop, take-length, take-append-seam, drop-append-le, drop-at, take-at}
 use lib.Dec.{leb, eqb}
 use borrow.Author.Tests.{leb-true, leb-false, le-leb, eqb-true, le-ltb}
 use Rattle.octets.specs.Numbers.{Bytes, u32At, little}
-use Rattle.octets.proofs.NumberLaws.{bytes-take, bytes-drop, length-little, number-back, number-drop, number-same}
+use Rattle.octets.proofs.NumberLaws.{bytes-take, bytes-drop, length-little, number-back, number-drop}
 use Rattle.format.specs.declared.Profile.{Profile}
 use Rattle.format.specs.declared.Place.{Place}
 use Rattle.format.specs.declared.StoreRow.{StoreRow}
 use Rattle.format.specs.declared.Fault.the-variants.{Place as PLACE, Unwritable as UNWRITABLE, Room as ROOM}
 use Rattle.format.specs.Tests.{Outcome, got, refused, all, tests, place}
 use Rattle.format.specs.Store.{storeTests}
-use Rattle.format.specs.Blocks.{slotOf, sizeFits, insideTests, slotAt, blockSize, blockTests, blockRules, aBlock, block, blockStep, blocksAfter, blocks, firstPlace}
+use Rattle.format.specs.Blocks.{slotOf, sizeFits, insideTests, slotAt, blockSize, blockTests, blockRules, aBlock, block, blockStep, blocks, firstPlace}
 use Rattle.format.specs.Shortcut.{Sections, blocksOf, shortcut, verdictOf}
 use Rattle.format.specs.Contents.{bytesAt}
 use Rattle.format.specs.Writing.{outputOf}
 use Rattle.format.specs.StoreList.{storeRows, blockRows}
 use Rattle.format.specs.StoreWriting.{Entry, storage, byNumber, byName, unknown, entries, rowsPlaced, storeBytes, mostStore, writableStore, rowsFrom, storeWriting, storeWriteAnswer, storeWriteOutput, ReadsAsStore, StoreFor, storeBlock, StoreEnds, misplaced, unwritable, no-room, written}
-use Rattle.format.proofs.Bools.{and-true, clash, by-order}
-use Rattle.format.proofs.Chains.{Pass, pass, all-pass, no-value}
-use Rattle.format.proofs.BlockLaws.{none-left, step-elim}
+use Rattle.format.proofs.Bools.{and-true, clash}
+use Rattle.format.proofs.Chains.{Pass, pass, all-pass}
+use Rattle.format.proofs.HeldLaws.{first-held}
 use Rattle.format.proofs.FoundLaws.{read-walk, blocks-late}
 use Rattle.format.proofs.AcceptedLaws.{shortcut-whole}
 use Rattle.format.proofs.AnswerLaws.{nowhere}
@@ -102,41 +102,12 @@ pub record HoldsStore (s : List ℕ) (p : ℕ) (b : Place) : Type 0 where
   pub long : 12 ≤ b .len
   pub right : Pass (storeTests 8 (drop 8 (bytesAt s b)))
 
-four-left : (before : List ℕ) (p : ℕ) (s lengths : List ℕ) (n : ℕ) → blocksAfter before p s ≡ got lengths n → 4 ≤ length s
-four-left before p s lengths n e = by-order 4 (length s) (λ h. h) (λ h. no-value (sym (none-left before p s h) ∙ e))
-
--- k bounds what is left
-first-holds : (k : ℕ) (before s : List ℕ) (p : ℕ) (lengths : List ℕ) (n : ℕ) → length (drop p s) ≤ k → blocksAfter before p (drop p s) ≡ got lengths n
-    → (firstPlace s 0xA0000009 p lengths .len ≡ 0 → ⊥) → HoldsStore s p (firstPlace s 0xA0000009 p lengths)
-first-holds zero before s p lengths n l e = no-value (sym (none-left before p (drop p s) (omega arith)) ∙ e)
-first-holds (suc k) before s p lengths n l e =
-    step-elim before p (drop p s) (λ lengths n. (firstPlace s 0xA0000009 p lengths .len ≡ 0 → ⊥) → HoldsStore s p (firstPlace s 0xA0000009 p lengths))
-    (λ h t z. absurd (z refl))
-    (λ c once ls m i.
-    let size : ℕ = blockSize (drop p s) in
-    let passed : List ℕ = slotAt (drop p s) ∷ before in
-    let b : 8 ≤ size = leb-true 8 size (c .0) in
-    let w : size ≤ length (drop p s) = leb-true size (length (drop p s)) (c .1 .0) in
-    let j : blocksAfter passed (p + size) (drop (p + size) s) ≡ got ls m = rw (drop-drop size p s) at i in
-    let d = length-drop p s in
-    let four = four-left passed (p + size) (drop (p + size) s) ls m j in
-    go size b w four (c .1 .1) ls (first-holds k passed s (p + size) ls m (omega (arith, length-drop (p + size) s)) j) (eqb (u32At s (p + 4)) 0xA0000009) refl)
-    lengths n e
-  where
-    go : (size : ℕ) → 8 ≤ size → size ≤ length (drop p s) → 4 ≤ length (drop (p + size) s) → Pass (blockRules (take size (drop p s))) → (ls : List ℕ)
-        → ((firstPlace s 0xA0000009 (p + size) ls .len ≡ 0 → ⊥) → HoldsStore s (p + size) (firstPlace s 0xA0000009 (p + size) ls)) → (x : Bool) → eqb (u32At s (p + 4)) 0xA0000009 ≡ x
-        → (cond x (place p size) (firstPlace s 0xA0000009 (p + size) ls) .len ≡ 0 → ⊥) → HoldsStore s p (cond x (place p size) (firstPlace s 0xA0000009 (p + size) ls))
-    go size big w four c ls f true e z =
-        let b : List ℕ = take size (drop p s) in
-        let l : length b ≡ size = length-take-le size (drop p s) w in
-        let q : u32At b 4 ≡ 0xA0000009 = number-same 4 size b (drop p s) 4 (take-take size size (drop p s) (omega arith)) (omega arith) ∙ number-drop 4 p s 4 ∙ eqb-true (u32At s (p + 4)) 0xA0000009 e in
-        let (long, right) = rules-store b (ap slotOf q) c in
-        record { from = omega arith; inside = omega (arith, length-drop (p + size) s); long = omega arith; right = right }
-    go size big w four c ls f false e z = let h = f z in record { from = omega (arith, h .from); inside = h .inside; long = h .long; right = h .right }
-
 pub first-store : (s : List ℕ) (p : ℕ) (lengths : List ℕ) (n : ℕ) → blocks p (drop p s) ≡ got lengths n
     → (firstPlace s 0xA0000009 p lengths .len ≡ 0 → ⊥) → HoldsStore s p (firstPlace s 0xA0000009 p lengths)
-first-store s p lengths n e = first-holds (length (drop p s)) [] s p lengths n (omega arith) e
+first-store s p lengths n e z =
+    let h = first-held s 0xA0000009 p lengths n e z in
+    let (long, right) = rules-store (bytesAt s (firstPlace s 0xA0000009 p lengths)) (h .slot) (h .rules) in
+    record { from = h .from; inside = h .inside; long = omega (arith, h .long); right = right }
 
 -- the store of an accepted shortcut, if it has one: no longer than the longest, since header, block head and terminal stand around it
 module _ (profile : Profile) (s : List ℕ) (c : Sections) (n : ℕ) (e : shortcut profile s ≡ got c n) where

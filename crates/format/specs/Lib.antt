@@ -27,5 +27,6 @@ pub mod Demands
 pub mod PathWriting
 pub mod Salvage
 pub mod Beginnings
+pub mod Blind
 pub mod Probes
 pub mod Steps

@@ -5,6 +5,7 @@ use Rattle.octets.proofs.Outcomes.{OneAnswer, OneOutcome}
 use Rattle.scheduler.proofs.herringnet_check as herringnet-check
 use Rattle.scheduler.proofs.herringnet_target as herringnet-target
 use Rattle.scheduler.proofs.herringnet_key as herringnet-key
+use Rattle.scheduler.proofs.herringnet_key_blind as herringnet-key-blind
 use Rattle.scheduler.proofs.herringnet_to_unicode as herringnet-to-unicode
 use Rattle.scheduler.proofs.herringnet_to_bytes as herringnet-to-bytes
 use Rattle.scheduler.proofs.herringnet_section as herringnet-section
@@ -30,6 +31,9 @@ herringnet-target-one-outcome κs a r q s t p o = (p .0 ∙ sym (o .0), p .1 ∙
 
 pub herringnet-key-one-outcome : OneOutcome herringnet-key.ended (λ κs s. now (s .1 .0)) herringnet-key.Reads.Post
 herringnet-key-one-outcome κs a r q s t p o = (p .0 ∙ sym (o .0), p .1 ∙ sym (o .1))
+
+pub herringnet-key-blind-one-outcome : OneAnswer herringnet-key-blind.ended herringnet-key-blind.Reads.Post
+herringnet-key-blind-one-outcome κs a r q s t p o = p ∙ sym o
 
 pub herringnet-to-unicode-one-outcome : OneOutcome herringnet-to-unicode.ended (λ κs s. now (s .1 .0)) herringnet-to-unicode.Reads.Post
 herringnet-to-unicode-one-outcome κs a r q s t p o = (p .0 ∙ sym (o .0), p .1 ∙ sym (o .1))

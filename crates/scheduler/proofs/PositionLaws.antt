@@ -21,12 +21,14 @@ use Rattle.format.specs.Writing.{canonical, writable, writing, writeAnswer}
 use Rattle.format.specs.Target.{hasTarget, targetText, target, targetAnswer}
 use Rattle.format.specs.Key.{keyOf, keyBytes, key, keyAnswer, keyIn}
 use Rattle.format.specs.Demands.{Accepts}
+use Rattle.format.specs.Blind.{blindBits, keyBlind, keyBlindAnswer}
 use Rattle.format.specs.Moving.{mapsToUnicode, mapsToBytes, inUnicode, inBytes, moving, toUnicode, toByteStrings, toUnicodeAnswer, toBytesAnswer}
 use Rattle.format.proofs.Holds.{all-writable}
 use Rattle.format.proofs.AcceptedLaws.{shortcut-whole}
 use Rattle.format.proofs.TargetLaws.{text-small}
 use Rattle.format.proofs.Demands.{accepted-whole}
 use Rattle.format.proofs.KeyRoom.{key-short}
+use Rattle.format.proofs.BlindLaws.{bits-few}
 use Rattle.format.proofs.PositionDemands.{positions-small}
 
 pub check-small : (profile : Profile) (s : List ℕ) → answerValue (reading profile s .verdict) ≤ 4194820
@@ -69,6 +71,15 @@ key-small profile s out bs = go (shortcut profile s) refl
         let a : Accepts profile s (recordOf c) = accepted-whole profile s (recordOf c) n (rw i) in
         let k : length (keyBytes (keyOf s c)) ≤ length s = rw i at (key-short profile s (recordOf c) bs a) in
         either (keyBytes (keyOf s c)) (omega (arith, (shortcut-whole profile s c n i) .limit)) (leb (length (keyBytes (keyOf s c))) (length out))
+    go (refused f q) i = omega (arith, positions-small profile s f q i)
+
+-- the bits are five
+pub blind-small : (profile : Profile) (s : List ℕ) → answerValue (keyBlindAnswer profile s) ≤ 4194820
+unfolding answerValue keyBlindAnswer keyBlind
+blind-small profile s = go (shortcut profile s) refl
+  where
+    go : (o : Outcome Sections) → shortcut profile s ≡ o → answerValue (verdictOf (andThen o (λ c n. got (blindBits s c) (blindBits s c)))) ≤ 4194820
+    go (got c n) i = omega (arith, bits-few s c)
     go (refused f q) i = omega (arith, positions-small profile s f q i)
 
 -- what can be written is no longer than a shortcut

@@ -8,6 +8,7 @@ ghost use Rattle.format.specs.Numbers.{answerValue};
 ghost use Rattle.format.specs.Shortcut.{faulted, reading};
 ghost use Rattle.format.specs.Target.{targetAnswer, targetOutput};
 ghost use Rattle.format.specs.Key.{keyAnswer, keyOutput};
+ghost use Rattle.format.specs.Blind.{keyBlindAnswer};
 ghost use Rattle.format.specs.Moving.{toUnicodeAnswer, toUnicodeOutput, toBytesAnswer, toBytesOutput};
 ghost use Rattle.format.specs.Listing.{sectionPlace};
 ghost use Rattle.format.specs.StoreList.{storeListAnswer, storeListOutput};
@@ -92,6 +93,17 @@ pub extern "C" fn herringnet_key(s: &[u8], out: &mut [u8], profile: u32) -> u64
         return 203;
     }
     let v = keying::key(s, out, profile_of(profile));
+    code_of(v)
+}
+
+#[no_mangle]
+pub extern "C" fn herringnet_key_blind(s: &[u8], profile: u32) -> u64
+    ensures { λ r. ⌜ r ≡ underProfile profile (λ p. codeOf (keyBlindAnswer p (now (s .entry)))) PROFILE ⌝ }
+{
+    if 1 < profile {
+        return 203;
+    }
+    let v = blinding::key_blind(s, profile_of(profile));
     code_of(v)
 }
 

@@ -49,7 +49,7 @@ use Rattle.storing.proofs.InsideLaws.{store-in, nth-in}
 -- ---- where the store stands
 
 -- no block, no rows
-no-rows : (s : List ℕ) (b : Place) → b .len ≡ 0 → blockRows s b ≡ []
+pub no-rows : (s : List ℕ) (b : Place) → b .len ≡ 0 → blockRows s b ≡ []
 unfolding storeRows perPart
 no-rows s b e = rw e
 

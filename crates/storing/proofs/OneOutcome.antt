@@ -3,6 +3,7 @@ use mathlib.Core.Path.{refl, sym, _∙_}
 use denote.Ref.{now}
 use Rattle.octets.proofs.Outcomes.{OneAnswer, OneShown, OneOutcome}
 use Rattle.storing.proofs.rows.count_rows as count-rows
+use Rattle.storing.proofs.rows.any_value as any-value
 use Rattle.storing.proofs.rows.row_at as row-at
 use Rattle.storing.proofs.rows.put_rows as put-rows
 use Rattle.storing.proofs.tests.row_from as row-from
@@ -13,10 +14,14 @@ use Rattle.storing.proofs.making.put_store as put-store
 use Rattle.storing.proofs.store_list as store-list
 use Rattle.storing.proofs.store_name as store-name
 use Rattle.storing.proofs.store_raw as store-raw
+use Rattle.storing.proofs.has_values as has-values
 use Rattle.storing.proofs.store_write as store-write
 
 pub count-rows-one-outcome : OneAnswer count-rows.ended count-rows.Reads.Post
 count-rows-one-outcome κs a r q s t p o = p .0 ∙ sym (o .0)
+
+pub any-value-one-outcome : OneAnswer any-value.ended any-value.Reads.Post
+any-value-one-outcome κs a r q s t p o = p ∙ sym o
 
 pub row-at-one-outcome : OneAnswer row-at.ended row-at.Reads.Post
 row-at-one-outcome κs a r q s t p o = p ∙ sym o
@@ -32,6 +37,9 @@ store-name-one-outcome κs a r q s t p o = p ∙ sym o
 
 pub store-raw-one-outcome : OneShown store-raw.ended (λ κs r. now r) store-raw.Reads.Post
 store-raw-one-outcome κs a r q s t p o = p ∙ sym o
+
+pub has-values-one-outcome : OneAnswer has-values.ended has-values.Reads.Post
+has-values-one-outcome κs a r q s t p o = p ∙ sym o
 
 pub row-from-one-outcome : OneAnswer row-from.ended row-from.Reads.Post
 row-from-one-outcome κs a r q s t p o = p ∙ sym o

@@ -17,6 +17,7 @@ use Rattle.format.specs.declared.StoreRow.{StoreRow}
 use Rattle.format.specs.Tests.{all, place}
 use Rattle.format.specs.Store.{nameLength, valueTests, valuesTests, isNamed, identifierOf, storageTests, storeTests}
 use Rattle.format.specs.StoreList.{perPart, valueRow, storageRow, storageRows, storeRows, nthRow, rowNumbers, allNumbers}
+use Rattle.format.specs.Blind.{hasValues}
 use Rattle.format.proofs.Bools.{clash}
 use Rattle.format.proofs.Chains.{Pass, all-pass, pass-all}
 use Rattle.format.proofs.PositionLaws.{number-first, number-part, part-drop}
@@ -250,6 +251,13 @@ pub nearer : {l : List ℕ} {base : ℕ} {c : StoreCursor} {r : StoreRow} {d : S
 nearer N = (N .ahead, omega (arith, N .right .order, N .right .inside))
 
 -- ---- the row of a number
+
+-- a row that is a value decides; one that is a storage leaves it to the others
+pub is-value : {r : StoreRow} {rs all : List StoreRow} → all ≡ r ∷ rs → (r .kind ≡ 0 → ⊥) → true ≡ hasValues all
+is-value {r} e n = rw (e, ne-eqb (r .kind) 0 n)
+
+pub no-value-yet : {r : StoreRow} {rs all : List StoreRow} → all ≡ r ∷ rs → r .kind ≡ 0 → hasValues rs ≡ hasValues all
+no-value-yet {r} e z = rw (e, z)
 
 pub nth-here : {k : ℕ} {r : StoreRow} {rs all : List StoreRow} → all ≡ r ∷ rs → k ≡ 0 → r ≡ nthRow k all
 nth-here e z = rw (e, z)

@@ -11,9 +11,10 @@ use format::Verdict;
 ghost use mathlib.Core.Path.{_≡_};
 ghost use lib.ListN.{length};
 ghost use Rattle.format.specs.Numbers.{Numbered};
-ghost use Rattle.format.specs.StoreList.{storeList, storeListAnswer, storeListOutput, storeName, storeRaw};
+ghost use Rattle.format.specs.Blind.{hasValues};
+ghost use Rattle.format.specs.StoreList.{blockRows, storeList, storeListAnswer, storeListOutput, storeName, storeRaw};
 ghost use Rattle.format.specs.StoreWriting.{storeWriting, storeWriteAnswer, storeWriteOutput, StoreEnds};
-ghost use Rattle.storing.specs.Steps.Stored.{StoredIs, RowIs};
+ghost use Rattle.storing.specs.Steps.Stored.{Holds, StoredIs, RowIs};
 
 // The verdict on a shortcut, and where the block stands that holds its store; the empty place where there is none.
 struct Stored {
@@ -96,6 +97,18 @@ pub fn store_raw(s: &[u8], k: usize, profile: Profile) -> &[u8]
     let r = row_of(s, k, profile);
     let b = r.raw;
     octets::part(s, b.at, b.len)
+}
+
+// Whether the store in the block that stands there has values. No block has none.
+pub fn has_values(s: &[u8], b: Place) -> bool
+    requires { ⌜ ((b .len ≡ 0 → ⊥) → Holds (now s) b) ⌝ }
+    ensures { λ r. ⌜ r ≡ hasValues (blockRows (now (s .entry)) b) ⌝ }
+{
+    if b.len == 0 {
+        return false;
+    }
+    let at = b.at + 8;
+    rows::any_value(octets::part(s, at, b.len - 8), at)
 }
 
 // The store alone, without a block around it, from rows with places in the body buffer d.

@@ -8,6 +8,7 @@ ghost use lib.ListN.{length};
 ghost use Rattle.format.specs.Tests.{all};
 ghost use Rattle.format.specs.Store.{nameLength, storeTests};
 ghost use Rattle.format.specs.StoreList.{valueRow, storeRows, nthRow, rowNumbers, allNumbers};
+ghost use Rattle.format.specs.Blind.{hasValues};
 ghost use Rattle.octets.specs.Parts.{put};
 ghost use Rattle.storing.specs.Steps.Rows.{Right, valuesOver, NextIs, firstCursor};
 
@@ -151,6 +152,25 @@ pub fn count_rows(l: &[u8], base: usize) -> usize
                 n += 1;
             }
             NextRow::End => return n,
+        }
+    }
+}
+
+// Whether a row is a value: the first one ends the walk.
+pub fn any_value(l: &[u8], base: usize) -> bool
+    requires { ⌜ (all (storeTests 0 (now l)) ≡ true) × (base + length (now l) < 2 ^ 64) ⌝ }
+    ensures { λ r. ⌜ r ≡ hasValues (storeRows base (now (l .entry))) ⌝ }
+{
+    let mut c = first_cursor();
+    loop {
+        match next_row(l, base, c) {
+            NextRow::Row(r, d) => {
+                if r.kind != 0 {
+                    return true;
+                }
+                c = d;
+            }
+            NextRow::End => return false,
         }
     }
 }

@@ -72,6 +72,17 @@ static void keys(const uint8_t *s, size_t n)
     answer("key of nothing", herringnet_key(NULL, 0, NULL, 0, HERRINGNET_PROFILE_STRICT));
 }
 
+/* Flag bit 8 takes the target text away. */
+static void blind(uint8_t *s, size_t n)
+{
+    answer("blind", herringnet_key_blind(s, n, HERRINGNET_PROFILE_STRICT));
+    s[21] ^= 1;
+    answer("blind without target", herringnet_key_blind(s, n, HERRINGNET_PROFILE_STRICT));
+    s[21] ^= 1;
+    answer("blind of one less", herringnet_key_blind(s, n - 1, HERRINGNET_PROFILE_STRICT));
+    answer("blind of nothing", herringnet_key_blind(NULL, 0, HERRINGNET_PROFILE_STRICT));
+}
+
 /* Home from Unicode, and there again: LinkInfo's short head has become the long one. */
 static void moves(const uint8_t *s, size_t n)
 {
@@ -137,6 +148,7 @@ static void profiles(uint8_t *s, size_t n)
     fault("fault 95", herringnet_fault(s, n, HERRINGNET_PROFILE_95));
     answer("target 95", herringnet_target(s, n, out, sizeof out, HERRINGNET_PROFILE_95));
     answer("key 95", herringnet_key(s, n, out, sizeof out, HERRINGNET_PROFILE_95));
+    answer("blind 95", herringnet_key_blind(s, n, HERRINGNET_PROFILE_95));
     answer("section 95", herringnet_section(s, n, HERRINGNET_SECTION_END, 0, HERRINGNET_PROFILE_95));
     answer("list 95", herringnet_store_list(s, n, fields, 0, HERRINGNET_PROFILE_95));
     answer("read 95", herringnet_read(s, n, fields, HERRINGNET_FIELD_COUNT, HERRINGNET_PROFILE_95));
@@ -155,6 +167,7 @@ static void profiles(uint8_t *s, size_t n)
     fault("fault 2", herringnet_fault(s, n, 2));
     answer("target 2", herringnet_target(s, n, out, sizeof out, 2));
     answer("key 2", herringnet_key(s, n, out, sizeof out, 2));
+    answer("blind 2", herringnet_key_blind(s, n, 2));
     answer("section 2", herringnet_section(s, n, HERRINGNET_SECTION_END, 0, 2));
     answer("list 2", herringnet_store_list(s, n, fields, 0, 2));
     answer("read 2", herringnet_read(s, n, fields, 0, 2));
@@ -206,6 +219,7 @@ static void stores(uint8_t *s, size_t n)
     numbers(listed, 1);
     answer("rows", herringnet_store_list(s, block + 57, listed, 13, HERRINGNET_PROFILE_STRICT));
     numbers(listed, 13);
+    answer("blind with a value", herringnet_key_blind(s, block + 57, HERRINGNET_PROFILE_STRICT));
     answer("rows of one less", herringnet_store_list(s, block + 56, listed, 13, HERRINGNET_PROFILE_STRICT));
     s[block + 8 + 4] ^= 1;
     answer("rows of a wrong version", herringnet_store_list(s, block + 57, listed, 13, HERRINGNET_PROFILE_STRICT));
@@ -264,6 +278,7 @@ int main(void)
     sections(s, n);
     targets(s, n);
     keys(s, n);
+    blind(s, n);
     moves(s, n);
     records(s, n);
     paths(s, n);

@@ -1,8 +1,8 @@
 //! The calls as the C boundary gives them: number + 256 x value.
 
 use super::{
-    check, key, path_block, salvage, section, store_list, store_write, target, to_bytes, to_unicode, walk, write,
-    Profile, Record, Refusal, FIELDS,
+    check, key, key_blind, path_block, salvage, section, store_list, store_write, target, to_bytes, to_unicode, walk,
+    write, Profile, Record, Refusal, FIELDS,
 };
 
 pub const WRONG_COUNT: u64 = 201;
@@ -42,6 +42,10 @@ pub fn boundary_target(shortcut: &[u8], out: &mut [u8], profile: u32) -> u64 {
 
 pub fn boundary_key(shortcut: &[u8], out: &mut [u8], profile: u32) -> u64 {
     under(profile, |profile| answer(key(shortcut, out, profile)))
+}
+
+pub fn boundary_key_blind(shortcut: &[u8], profile: u32) -> u64 {
+    under(profile, |profile| answer(key_blind(shortcut, profile)))
 }
 
 pub fn boundary_to_unicode(shortcut: &[u8], out: &mut [u8], profile: u32) -> u64 {

@@ -3,6 +3,7 @@
 
 #![allow(dead_code)]
 
+mod blind;
 mod boundary;
 mod info;
 mod key;
@@ -17,6 +18,8 @@ mod texts;
 mod writer;
 mod wrong;
 
+#[allow(unused_imports)]
+pub use blind::{key_blind, unicode_texts};
 // Not every test calls this side as the boundary is called.
 #[allow(unused_imports)]
 pub use boundary::*;

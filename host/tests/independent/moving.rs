@@ -36,7 +36,7 @@ pub fn code_page() -> [Option<u16>; 256] {
     units
 }
 
-fn widened(text: &[u8]) -> Option<Vec<u8>> {
+pub(super) fn widened(text: &[u8]) -> Option<Vec<u8>> {
     let mut wide = Vec::with_capacity(2 * text.len());
     for &byte in text {
         wide.extend(unit_of(byte)?.to_le_bytes());

@@ -3,6 +3,7 @@
 
 #![allow(dead_code)]
 
+mod blind;
 mod build;
 mod damage;
 mod heads;
@@ -14,6 +15,8 @@ mod random;
 mod store;
 mod stores;
 
+#[allow(unused_imports)]
+pub use blind::blind;
 pub use build::Draft;
 #[allow(unused_imports)]
 pub use heads::{headed, heads, loose, LONGEST_HEAD};

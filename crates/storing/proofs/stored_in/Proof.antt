@@ -14,7 +14,6 @@ finish-requires c κs = search needs
 enum-told : tie.Need-enum-told
 enum-told c = search needs
 
--- /work/h6/target/rlib/format.rlib/interface/lang/src/lib.rt:16:30
 enum-told-2 : tie.Need-enum-told-2
 enum-told-2 c = search needs
 

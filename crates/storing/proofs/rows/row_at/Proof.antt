@@ -57,7 +57,6 @@ loop-again c =
     let N = by-row (after-next .next-row .ensures) (after-r .r .given .1) in
     (N .right, nth-later _ (N .rows) (c .if1 .left) ∙ I .1)
 
--- /work/h6/target/rlib/format.rlib/interface/lang/src/lib.rt:16:30
 enum-told : tie.Need-enum-told Inv-loop μ-loop
 enum-told c = search needs
 

@@ -1,0 +1,4 @@
+pub mod TextLaws
+pub mod TwinLaws
+pub mod BitLaws
+pub mod OneOutcome
