@@ -1,5 +1,10 @@
 //! What a key does not tell of the driver.
+use crate::record::{Info, Record};
 use crate::refusal::answer;
+use crate::section::blocks;
+use crate::show::blocks::number;
+use crate::show::names;
+use crate::text::translated;
 use crate::{boundary, Profile, Refusal};
 use std::fmt;
 
@@ -33,6 +38,29 @@ impl BlindSpot {
     pub fn name(self) -> &'static str {
         ["NAMELESS", "TARGET", "ENVIRONMENT", "BLOCK", "STORE"][self as usize]
     }
+
+    /// Whether the command line warns of it. Values in a store are no warning: they need not differ between two cores.
+    pub fn is_warning(self) -> bool {
+        self != BlindSpot::Store
+    }
+
+    /// The parts of a record that make this one of its spots.
+    fn parts(self, record: &Record) -> Vec<&'static str> {
+        let there = |parts: &[(&'static str, bool)]| parts.iter().filter(|part| part.1).map(|part| part.0).collect();
+        match self {
+            BlindSpot::Nameless => there(&[
+                ("item list", record.items.is_some()),
+                ("link info", record.info.is_some()),
+                ("relative path", record.relative.is_some()),
+            ]),
+            BlindSpot::Target => record.info.as_ref().map(twins).unwrap_or_default(),
+            BlindSpot::Environment => vec!["Unicode text of the environment block"],
+            BlindSpot::Block => {
+                signatures(record).filter(|block| NAMING.contains(block)).filter_map(names::block).collect()
+            }
+            BlindSpot::Store => vec!["property store"],
+        }
+    }
 }
 
 impl fmt::Display for BlindSpot {
@@ -45,6 +73,29 @@ impl fmt::Display for BlindSpot {
             BlindSpot::Store => "values in the property store",
         })
     }
+}
+
+/// The signatures of the blocks that [`BlindSpot::Block`] tells of.
+const NAMING: [u32; 2] = [0xA000_0006, 0xA000_000C];
+
+fn signatures<'a>(record: &Record<'a>) -> impl Iterator<Item = u32> + 'a {
+    blocks(record.blocks, 0, record.blocks.len()).map(|block| number(block.bytes, 4))
+}
+
+/// The Unicode twins of a target's texts that are not their translations.
+fn twins(info: &Info) -> Vec<&'static str> {
+    let unicode = info.unicode.as_ref();
+    let first = match (&info.local, &info.network) {
+        (Some(local), _) => Some(("Unicode local path", local.path, unicode.map(|unicode| unicode.local))),
+        (None, Some(network)) => {
+            let twin = network.unicode.as_ref().map(|unicode| unicode.net);
+            Some(("Unicode net name", network.net, twin))
+        }
+        (None, None) => None,
+    };
+    let suffix = ("Unicode suffix", info.suffix, unicode.map(|unicode| unicode.suffix));
+    let other = |row: &(&str, &[u8], Option<&[u8]>)| row.2.is_some() && row.2 != translated(row.1).as_deref();
+    first.into_iter().chain([suffix]).filter(other).map(|row| row.0).collect()
 }
 
 /// The blind spots that a shortcut has.
@@ -67,6 +118,11 @@ impl Blind {
     /// Those that it has, in the order of their bits.
     pub fn spots(self) -> impl Iterator<Item = BlindSpot> {
         BlindSpot::ALL.into_iter().filter(move |spot| self.has(*spot))
+    }
+
+    /// Whether the command line warns of the key: any but the last is there.
+    pub fn is_warning(self) -> bool {
+        self.spots().any(BlindSpot::is_warning)
     }
 
     /// Whether the key tells the driver: none of the first three is there. Two shortcuts of which this holds and whose
@@ -96,4 +152,31 @@ pub fn key_blind(shortcut: &[u8]) -> Result<Blind, Refusal> {
 /// As [`check_under`](crate::check_under).
 pub fn key_blind_under(shortcut: &[u8], profile: Profile) -> Result<Blind, Refusal> {
     answer(boundary::key_blind(shortcut, profile.number())).map(|bits| Blind { bits: bits as u8 })
+}
+
+/// A blind spot of a shortcut, with the parts that make it one.
+#[derive(Clone, Debug, PartialEq, Eq, Hash)]
+pub struct BlindParts {
+    /// The spot.
+    pub spot: BlindSpot,
+    /// The parts, by the names that `show` has for them.
+    pub parts: Vec<&'static str>,
+}
+
+/// As `no text in the key names the driver (item list)`.
+impl fmt::Display for BlindParts {
+    fn fmt(&self, f: &mut fmt::Formatter<'_>) -> fmt::Result {
+        write!(f, "{} ({})", self.spot, self.parts.join(", "))
+    }
+}
+
+/// The blind spots of a shortcut with their parts, for a person to look at.
+///
+/// # Errors
+///
+/// As [`check_under`](crate::check_under).
+pub fn blind_parts_under(shortcut: &[u8], profile: Profile) -> Result<Vec<BlindParts>, Refusal> {
+    let blind = key_blind_under(shortcut, profile)?;
+    let record = Record::read_under(shortcut, profile)?;
+    Ok(blind.spots().map(|spot| BlindParts { spot, parts: spot.parts(&record) }).collect())
 }

@@ -11,9 +11,11 @@
 #![warn(missing_docs)]
 #![deny(unsafe_code)]
 
+pub mod audit;
 mod blind;
 #[allow(unsafe_code)]
 pub mod boundary;
+pub mod difference;
 pub mod fields;
 pub mod json;
 mod path;
@@ -30,7 +32,7 @@ pub mod text;
 mod unmapped;
 mod unwritable;
 
-pub use blind::{key_blind, key_blind_under, Blind, BlindSpot};
+pub use blind::{blind_parts_under, key_blind, key_blind_under, Blind, BlindParts, BlindSpot};
 pub use path::{PathKind, PathTexts};
 pub use profile::Profile;
 pub use record::Record;
@@ -49,8 +51,7 @@ pub use unwritable::Cause;
 use refusal::answer;
 
 /// The requests whose rules this package and its archive follow; docs/requests of the repository has a note of each.
-pub const REQUESTS: [&str; 14] =
-    ["01", "02", "03", "04", "05", "06", "07", "08", "09", "10", "11", "12", "13", "14"];
+pub const REQUESTS: [&str; 14] = ["01", "02", "03", "04", "05", "06", "07", "08", "09", "10", "11", "12", "13", "14"];
 
 /// The SHA-256 of the archive that is linked, in hex.
 pub const ARCHIVE_DIGEST: &str = env!("HERRINGNET_DIGEST");

@@ -12,9 +12,9 @@ const USAGE: u8 = 2;
 
 fn main() -> ExitCode {
     match parse(env::args_os().skip(1)) {
-        Ok(Plan::Print(text)) => ExitCode::from(print(&text) as u8),
-        Ok(Plan::Run(run)) => ExitCode::from(run.all() as u8),
-        Ok(Plan::Shelve(shelving)) => ExitCode::from(shelving.all() as u8),
+        Ok(Plan::Print(text)) => ExitCode::from(print(&text).status()),
+        Ok(Plan::Run(run)) => ExitCode::from(run.all().status()),
+        Ok(Plan::Shelve(shelving)) => ExitCode::from(shelving.all().status()),
         Err(why) => {
             // Nobody could be told more than the status says.
             let _ = write!(io::stderr(), "herringnet: {}\nherringnet: see herringnet --help\n", why);

@@ -77,6 +77,17 @@ pub enum Window {
     Minimised = 7,
 }
 
+impl Window {
+    /// Its word, as `maximised`.
+    pub fn word(self) -> &'static str {
+        match self {
+            Window::Normal => "normal",
+            Window::Maximised => "maximised",
+            Window::Minimised => "minimised",
+        }
+    }
+}
+
 impl Header {
     /// Whether the five strings have two-byte characters: LinkFlags bit 7.
     pub fn is_unicode(&self) -> bool {

@@ -127,7 +127,7 @@ pub fn sections_under(shortcut: &[u8], profile: Profile) -> Result<Vec<Section<'
 
 /// The blocks of an accepted shortcut from one place to another. Each begins with its own length; to ask for them one
 /// by one would read the shortcut once for each.
-fn blocks(shortcut: &[u8], from: usize, to: usize) -> impl Iterator<Item = Section<'_>> {
+pub(crate) fn blocks(shortcut: &[u8], from: usize, to: usize) -> impl Iterator<Item = Section<'_>> {
     let mut start = from;
     std::iter::from_fn(move || {
         let size = shortcut.get(start..to)?.get(..4)?;

@@ -151,6 +151,12 @@ pub(crate) fn unit_of_byte(byte: u8) -> Option<u16> {
     from_windows_1252(byte).map(|character| character as u16)
 }
 
+/// A text of bytes in Unicode, by windows-1252; `None` where a byte stands for no character.
+pub(crate) fn translated(text: &[u8]) -> Option<Vec<u8>> {
+    let units: Option<Vec<u16>> = text.iter().map(|&byte| unit_of_byte(byte)).collect();
+    units.map(|units| two_bytes_each(units.into_iter()))
+}
+
 /// The byte of a unit, by windows-1252.
 pub(crate) fn byte_of_unit(unit: u16) -> Option<u8> {
     char::from_u32(unit.into()).and_then(byte_of)

@@ -1,7 +1,7 @@
 //! Why a shortcut cannot be moved: the proved calls say NOMAP, and not where.
 use crate::boundary;
 use crate::fields::{FIELDS, LINK_FLAGS, LOCAL_AT, LOCAL_UNICODE_AT, LONG, NAME_AT, SUFFIX_AT, SUFFIX_UNICODE_AT};
-use crate::text::{byte_of_unit, two_bytes_each, unit_of_byte, StringName};
+use crate::text::{byte_of_unit, translated, unit_of_byte, StringName};
 use crate::Profile;
 use std::fmt;
 
@@ -106,10 +106,8 @@ impl Found<'_> {
             [("Unicode local path", LOCAL_AT, LOCAL_UNICODE_AT), ("Unicode suffix", SUFFIX_AT, SUFFIX_UNICODE_AT)];
         let dropped = twins.into_iter().filter(|_| self.fields[LONG] == 1);
         dropped.into_iter().find_map(|(text, at, twin)| {
-            let units: Option<Vec<u16>> = self.body(at).1.iter().map(|&byte| unit_of_byte(byte)).collect();
-            let translated = units.map(|units| two_bytes_each(units.into_iter()));
             let (place, bytes) = self.body(twin);
-            (translated.as_deref() != Some(bytes)).then_some(Unmapped::Differs(text, place))
+            (translated(self.body(at).1).as_deref() != Some(bytes)).then_some(Unmapped::Differs(text, place))
         })
     }
 }

@@ -1,6 +1,7 @@
 //! The command line: every command, one file and several, refusals, files that cannot be read, standard input.
 mod common;
 
+use common::pairs::{of_blocks, pairs, path};
 use common::shortcuts::{z, Said, Shortcuts};
 use common::{run_on, text, SAMPLE};
 use herringnet::record::{Header, Info, InfoUnicode, Label, Local, Network, NetworkUnicode, Record};
@@ -125,7 +126,8 @@ fn every_command_takes_a_profile() {
     s.run(&["list", "--profile", "95", "x.lnk"]).is(0, "ok 109\nheader 0 76\ninfo 76 29\nend 105 4\n", "");
     let none = "herringnet: x.lnk: refused 13 NOTARGET at 0: it has no target text\n";
     s.run(&["target", "--profile", "95", "x.lnk"]).is(1, "", none);
-    s.run(&["key", "--profile", "95", "x.lnk"]).is(0, &format!("{} x.lnk\n", Z_KEY), "");
+    let blind = "herringnet: x.lnk: blind: no text in the key names the driver (link info)\n";
+    s.run(&["key", "--profile", "95", "x.lnk"]).is(0, &format!("{} x.lnk\n", Z_KEY), blind);
     assert!(text(&s.run(&["show", "--profile", "95", "x.lnk"]).out).contains("0x00008000"));
     assert_eq!(s.run(&["store", "--profile", "95", "x.lnk"]).status, 0);
     let wrong = "herringnet: x.lnk: refused 4 HEAD at 24: the header breaks another rule of its fields\n";
@@ -231,6 +233,87 @@ fn key_prints_hex_and_the_name() {
     s.put("two\nlines", &z());
     s.run(&["key", "two\nlines"]).is(0, &format!("{} two<U+000A>lines\n", Z_KEY), "");
     s.run(&["key", "loose.lnk"]).is(0, &format!("{} loose.lnk\n", Z_KEY), "");
+}
+
+/// The warnings of the shortcuts that are put there: a name, its shortcut and what is said of it.
+fn blind(s: &Shortcuts) -> Vec<(String, Vec<u8>, &'static str)> {
+    let net = |net, twin| {
+        let network = Network { net, unicode: Some(NetworkUnicode { net: twin, device: b"" }), ..Network::default() };
+        Record { info: Some(Info::default().with_network(network)), ..Record::default() }.to_vec().unwrap()
+    };
+    let suffix = |local, suffix, twin| {
+        let local = Local { drive: 3, serial: 0, label: Label::Byte(b""), path: local };
+        let unicode = InfoUnicode { local: b"C\0", suffix: twin, further: b"" };
+        let info = Info::default().with_local(local).with_suffix(suffix).with_unicode(unicode);
+        Record { info: Some(info), ..Record::default() }.to_vec().unwrap()
+    };
+    let all = Record {
+        items: Some(b""),
+        info: Some(Info::default()),
+        relative: Some(Text::of(false, b"")),
+        blocks: &[path(0xA000_0001, b"", "x"), path(0xA000_0006, b"", ""), b"\x0A\0\0\0\x0C\0\0\xA0\0\0".to_vec()]
+            .concat(),
+        ..Record::default()
+    };
+    let [lists, twins, environments] = pairs();
+    let rows: [(Vec<u8>, &str); 7] = [
+        (lists[0].clone(), "no text in the key names the driver (item list)"),
+        (twins[0].clone(), "a Unicode text of the target is not that of its bytes (Unicode local path)"),
+        (
+            environments[0].clone(),
+            "the environment's Unicode text is not that of its bytes (Unicode text of the environment block)",
+        ),
+        (of_blocks(&path(0xA000_0006, b"x", "x")), "a Darwin or Vista block (DarwinDataBlock)"),
+        (net(b"\\\\a", b"\\\0"), "a Unicode text of the target is not that of its bytes (Unicode net name)"),
+        (suffix(b"D", b"\x81", b"\x81\0"), "a Unicode text of the target is not that of its bytes (Unicode local path, Unicode suffix)"),
+        (
+            all.to_vec().unwrap(),
+            "no text in the key names the driver (item list, link info, relative path); the environment's Unicode text \
+             is not that of its bytes (Unicode text of the environment block); a Darwin or Vista block (DarwinDataBlock, \
+             VistaAndAboveIDListDataBlock)",
+        ),
+    ];
+    let named = rows.into_iter().enumerate().map(|(number, row)| (format!("blind{}.lnk", number), row.0, row.1));
+    let named: Vec<_> = named.collect();
+    named.iter().for_each(|(name, shortcut, _)| s.put(name, shortcut));
+    named
+}
+
+#[test]
+fn key_warns_where_it_does_not_tell_the_driver() {
+    let s = Shortcuts::new("key_blind");
+    for (name, shortcut, words) in blind(&s) {
+        let key: String = herringnet::key(&shortcut).unwrap().iter().map(|byte| format!("{:02x}", byte)).collect();
+        let warning = format!("herringnet: {}: blind: {}\n", name, words);
+        s.run(&["key", &name]).is(0, &format!("{} {}\n", key, name), &warning);
+        let said = s.run_on(&["key"], &name);
+        said.is(0, &format!("{}\n", key), &warning.replace(&name, "<standard input>"));
+        let refused = format!("herringnet: {}: refused: blind: {}\n", name, words);
+        s.run(&["key", "--no-blind", &name]).is(4, "", &refused);
+        // The others still have their keys, and a refused shortcut or a missing file outranks.
+        let several = format!("{} a.lnk\n{} z.lnk\n", SAMPLE_KEY, Z_KEY);
+        s.run(&["key", "--no-blind", "a.lnk", &name, "z.lnk"]).is(4, &several, &refused);
+        assert_eq!(s.run(&["key", "--no-blind", &name, "cut.lnk"]).status, 1);
+        assert_eq!(s.run(&["key", "--no-blind", "cut.lnk", &name]).status, 1);
+        assert_eq!(s.run(&["key", "--no-blind", &name, "none.lnk"]).status, 3);
+    }
+    s.run(&["key", "--no-blind", "a.lnk"]).is(0, &format!("{} a.lnk\n", SAMPLE_KEY), "");
+    // Values in a store are no warning.
+    let store = Store::default().with(Storage::new([0; 16]).with_number(9, b"\xFF")).to_block().unwrap();
+    s.put("store.lnk", &of_blocks(&store));
+    s.run(&["key", "--no-blind", "store.lnk"]).is(0, &format!("{} store.lnk\n", Z_KEY), "");
+}
+
+#[test]
+fn keys_of_a_shelf_warn_too() {
+    let s = Shortcuts::new("key_blind_shelf");
+    s.put("rv32.lnk", &pairs()[0][0]);
+    s.run(&["shelf", "build", "-o", "x.shelf", "z.lnk", "rv32.lnk"]);
+    let keys = format!("{} 0 x.shelf\n{0} 1 x.shelf\n", Z_KEY);
+    let why = "blind: no text in the key names the driver (item list)\n";
+    s.run(&["key", "--shelf", "x.shelf"]).is(0, &keys, &format!("herringnet: x.shelf: entry 1: {}", why));
+    let refused = format!("herringnet: x.shelf: refused: entry 1: {}", why);
+    s.run(&["key", "--shelf", "--no-blind", "x.shelf"]).is(4, "", &refused);
 }
 
 #[test]
@@ -466,14 +549,20 @@ fn salvage_says_which_blocks_went() {
     let small = 4_u32.to_le_bytes().to_vec();
     let end = vec![0; 4];
     let cases: [(&[&Vec<u8>], &str); 5] = [
-        (&[&console, &unknown, &console, &unknown, &end], "14 TWICE at 100, kept 96, dropped 24, gone: A0000004, A000000A"),
+        (
+            &[&console, &unknown, &console, &unknown, &end],
+            "14 TWICE at 100, kept 96, dropped 24, gone: A0000004, A000000A",
+        ),
         (&[&unknown, &console], "2 CUT at 96, kept 96, dropped 0"),
         (&[&unknown, &small, &end], "8 BLOCK at 84, kept 84, dropped 8, gone: a block without a signature"),
         (&[&unknown, &small], "8 BLOCK at 84, kept 84, dropped 4, gone: a block without a signature"),
         (&[&unknown, &end, &console], "9 TRAIL at 88, kept 88, dropped 12"),
     ];
     for (blocks, said) in cases {
-        s.put("blocks.lnk", &[&z()[..76], &blocks.iter().flat_map(|block| block.to_vec()).collect::<Vec<u8>>()].concat());
+        s.put(
+            "blocks.lnk",
+            &[&z()[..76], &blocks.iter().flat_map(|block| block.to_vec()).collect::<Vec<u8>>()].concat(),
+        );
         s.run(&["salvage", "-o", "saved.lnk", "blocks.lnk"]).is(0, &format!("saved.lnk: refused {}\n", said), "");
         s.run(&["check", "saved.lnk"]).is(0, &format!("saved.lnk: ok {}\n", s.get("saved.lnk").len()), "");
     }
@@ -556,12 +645,19 @@ fn help_and_version() {
     s.run(&["--version"]).is(0, &version, "");
     let all = s.run(&["--help"]);
     assert!(all.status == 0 && all.err.is_empty());
-    for command in ["check", "list", "target", "key", "show", "rewrite"] {
+    for command in ["check", "list", "target", "key", "show", "diff", "audit", "rewrite"] {
         assert!(text(&all.out).contains(&format!("\n  {} ", command)));
         let said = s.run(&[command, "--help"]);
         assert!(said.status == 0 && text(&said.out).starts_with(&format!("usage: herringnet {}", command)));
     }
-    for status in ["  0  every", "  1  a shortcut was refused", "  2  the command", "  3  a file could not"] {
+    for status in [
+        "  0  every",
+        "  1  a shortcut was refused",
+        "  2  the command",
+        "  3  a file could not",
+        "  4  of key",
+        "  5  of diff",
+    ] {
         assert!(text(&all.out).contains(&format!("\n{}", status)));
     }
 }
@@ -577,7 +673,7 @@ fn the_readme_shows_what_is_printed() {
         assert!(readme.contains(&shown), "{}", shown);
     }
     let help = s.run(&["--help"]);
-    for command in ["check", "list", "target", "key", "show", "rewrite"] {
+    for command in ["check", "list", "target", "key", "show", "diff", "audit", "rewrite"] {
         assert!(
             readme.contains(&format!("| `{}` |", command)) && text(&help.out).contains(&format!("\n  {} ", command))
         );

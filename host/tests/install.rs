@@ -168,8 +168,9 @@ fn completed(prefix: &Path, words: &[&str]) -> Vec<String> {
 }
 
 /// All commands, in the order of help.
-const COMMANDS: [&str; 11] =
-    ["check", "list", "target", "key", "show", "store", "rewrite", "set", "move", "shelf", "salvage"];
+const COMMANDS: [&str; 13] = [
+    "check", "list", "target", "key", "show", "store", "diff", "audit", "rewrite", "set", "move", "shelf", "salvage",
+];
 
 #[test]
 fn bash_completes_words() {

@@ -2,6 +2,8 @@
 mod common;
 mod schema;
 
+use common::everything::{blocks, everything};
+use common::pairs::pairs;
 use common::shortcuts::{z, Shortcuts};
 use common::{rows, text, SAMPLE};
 use herringnet::record::{Header, Record};
@@ -81,6 +83,75 @@ fn refusals_and_failures_are_objects() {
         s.run(&[command, "--json", "cut.lnk"]).is(1, &cut, "");
         s.run(&[command, "--json", "none.lnk", "cut.lnk"]).is(3, &format!("{}{}", none, cut), "");
     }
+}
+
+#[test]
+fn blind_keys_say_so() {
+    let (s, schema) = (Shortcuts::new("json_blind"), schema());
+    s.put("rv32.lnk", &pairs()[0][0]);
+    s.run(&["shelf", "build", "-o", "x.shelf", "z.lnk", "rv32.lnk"]);
+    let spot = "\"spot\":\"NAMELESS\",\"parts\":[\"item list\"]}]}\n";
+    let key = "0".repeat(42);
+    let rows: [(&[&str], i32, String); 4] = [
+        (
+            &["key", "--json", "rv32.lnk"],
+            0,
+            format!("{{\"file\":\"rv32.lnk\",\"status\":\"ok\",\"key\":\"{}\",\"blind\":[{{{}", key, spot),
+        ),
+        (
+            &["key", "--json", "--no-blind", "rv32.lnk"],
+            4,
+            format!("{{\"file\":\"rv32.lnk\",\"status\":\"blind\",\"blind\":[{{{}", spot),
+        ),
+        (
+            &["key", "--json", "--shelf", "x.shelf"],
+            0,
+            format!(
+                "{{\"file\":\"x.shelf\",\"status\":\"ok\",\"keys\":[\"{}\",\"{0}\"],\"blind\":[{{\"entry\":1,{}",
+                key, spot
+            ),
+        ),
+        (
+            &["key", "--json", "--shelf", "--no-blind", "x.shelf"],
+            4,
+            format!("{{\"file\":\"x.shelf\",\"status\":\"blind\",\"blind\":[{{\"entry\":1,{}", spot),
+        ),
+    ];
+    for (words, status, line) in rows {
+        let said = s.run(words);
+        assert_eq!((said.status, text(&said.out)), (status, &line[..]));
+        // Who reads only the key is told too.
+        assert!(said.err.contains("blind: no text in the key names the driver (item list)"), "{}", said.err);
+        assert_eq!(misfit_of_all(&schema, &values(&said.out)[0]), None);
+    }
+}
+
+#[test]
+fn two_shortcuts_compared_are_an_object() {
+    let (s, schema) = (Shortcuts::new("json_diff"), schema());
+    s.put("all.lnk", &everything(&blocks()));
+    for words in [["diff", "--json", "a.lnk", "all.lnk"], ["diff", "--json", "all.lnk", "all.lnk"]] {
+        let said = s.run(&words);
+        let value = values(&said.out).remove(0);
+        assert_eq!(misfit(&schema, "compared", &value).or_else(|| misfit_of_all(&schema, &value)), None);
+        assert_eq!(value.get("equal"), Some(&Value::Bool(said.status == 0)));
+        // The same parts as on the lines, in the same order.
+        let lines = s.run(&[words[0], words[2], words[3]]);
+        let lines: Vec<&str> = text(&lines.out).lines().collect();
+        let parts = value.get("parts").unwrap().values();
+        assert_eq!(lines.len(), parts.len() + 1);
+        for (line, part) in lines.iter().zip(parts) {
+            let same = part.get("same") == Some(&Value::Bool(true));
+            let begin = format!("{}: {}", part.get("part").unwrap().text(), if same { "same: " } else { "differs" });
+            assert!(line.starts_with(&begin), "{} is not in {}", begin, line);
+        }
+    }
+    let said = s.run(&["key", "--diff", "--json", "a.lnk", "z.lnk"]);
+    let value = values(&said.out).remove(0);
+    assert_eq!((said.status, misfit(&schema, "compared", &value)), (5, None));
+    assert_eq!(value.get("parts").unwrap().values().len(), 5);
+    let refused = s.run(&["diff", "--json", "a.lnk", "cut.lnk"]);
+    assert_eq!((refused.status, misfit(&schema, "refused", &values(&refused.out)[0])), (1, None));
 }
 
 #[test]

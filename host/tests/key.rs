@@ -1,6 +1,7 @@
 //! The cache key: its bytes written out, what it depends on and what not, and the room that it takes.
 mod common;
 
+use common::pairs::{of_blocks, pairs, path, twin, SAMPLES};
 use common::{rows, SAMPLE};
 use herringnet::record::{Header, Info, InfoUnicode, Label, Local, Network, NetworkUnicode, Record};
 use herringnet::{
@@ -319,38 +320,12 @@ fn the_vectors_have_the_keys_of_their_parts_and_keep_them_when_rewritten() {
     assert!(rows.len() > 1000 && rewritten > 50, "{} rewritten", rewritten);
 }
 
-fn in_unicode(text: &str) -> Vec<u8> {
-    text.encode_utf16().flat_map(u16::to_le_bytes).collect()
-}
-
-/// A path block with both its texts.
-fn both(signature: u32, text: &[u8], unicode: &str) -> Vec<u8> {
-    let (mut bytes, unicode) = (block(signature, text), in_unicode(unicode));
-    bytes[268..268 + unicode.len()].copy_from_slice(&unicode);
-    bytes[268 + unicode.len()..270 + unicode.len()].fill(0);
-    bytes
-}
-
-fn garbled(unicode: &[u8]) -> Vec<u8> {
-    let twins = InfoUnicode { local: unicode, ..InfoUnicode::default() };
-    let info = local(br"C:\???\cc.exe").with_unicode(twins);
-    Record { info: Some(info), ..Record::default() }.to_vec().unwrap()
-}
-
-fn with_blocks(blocks: &[u8]) -> Vec<u8> {
-    Record { blocks, ..Record::default() }.to_vec().unwrap()
-}
-
 #[test]
 fn three_pairs_share_a_key() {
-    let listed = |items| Record { items: Some(items), ..Record::default() }.to_vec().unwrap();
-    let with_path = |unicode| with_blocks(&both(0xA000_0001, b"", unicode));
-    let pairs = [
-        (BlindSpot::Nameless, [listed(b"\x06\0rv32"), listed(b"\x06\0rv64")]),
-        (BlindSpot::Target, [r"C:\核心一\cc.exe", r"C:\核心二\cc.exe"].map(|path| garbled(&in_unicode(path)))),
-        (BlindSpot::Environment, [r"%RV32%\cc.exe", r"%RV64%\cc.exe"].map(with_path)),
-    ];
-    for (spot, [first, second]) in pairs {
+    let spots = [BlindSpot::Nameless, BlindSpot::Target, BlindSpot::Environment];
+    let samples = SAMPLES.map(|pair| pair.map(|(_, sample)| sample.to_vec()));
+    assert_eq!(samples, pairs());
+    for (spot, [first, second]) in spots.into_iter().zip(samples) {
         assert_ne!(first, second);
         assert_eq!(key(&first).unwrap(), key(&second).unwrap());
         for shortcut in [first, second] {
@@ -364,13 +339,13 @@ fn three_pairs_share_a_key() {
 
 #[test]
 fn what_is_told_and_what_may_differ_all_the_same() {
-    let told = garbled(&in_unicode(r"C:\???\cc.exe"));
-    let environment = with_blocks(&both(0xA000_0001, b"%cc%", "%cc%"));
-    for shortcut in [told, environment, SAMPLE.to_vec(), with_blocks(b"")] {
+    let told = twin(br"C:\???\cc.exe", r"C:\???\cc.exe");
+    let environment = of_blocks(&path(0xA000_0001, b"%cc%", "%cc%"));
+    for shortcut in [told, environment, SAMPLE.to_vec(), of_blocks(b"")] {
         let blind = key_blind(&shortcut).unwrap();
         assert_eq!((blind.bits(), blind.is_told(), blind.spots().count()), (0, true, 0));
     }
-    let darwin = key_blind(&with_blocks(&both(0xA000_0006, b"a", "b"))).unwrap();
+    let darwin = key_blind(&of_blocks(&path(0xA000_0006, b"a", "b"))).unwrap();
     assert_eq!((darwin.bits(), darwin.is_told(), darwin.has(BlindSpot::Block)), (8, true, true));
 }
 

@@ -1,6 +1,7 @@
 //! The command `set`: every option, what it says, what it refuses, and that setting what is there changes nothing.
 mod common;
 
+use common::examples::prints;
 use common::shortcuts::{z, Said, Shortcuts};
 use common::{rows, text, SAMPLE};
 use herringnet::record::{Header, Info, InfoUnicode, Label, Local, Network, NetworkUnicode, Record};
@@ -628,34 +629,10 @@ fn help_shows_what_is_printed() {
     assert!(text(&help.out).contains(&shown), "{}", shown);
 }
 
-/// The commands of a page, each with what it prints: lines that begin with a dollar sign, and those up to the next.
-fn examples(page: &str) -> Vec<(String, String)> {
-    let mut examples: Vec<(String, String)> = Vec::new();
-    let mut is_printed = false;
-    for line in page.lines() {
-        match (line.strip_prefix("    $ "), line.strip_prefix("    ")) {
-            (Some(command), _) => examples.push((command.to_string(), String::new())),
-            (None, Some(printed)) if is_printed => examples.last_mut().unwrap().1 += &format!("{}\n", printed),
-            _ => {}
-        }
-        is_printed = line.starts_with("    $ ") || is_printed && line.starts_with("    ");
-    }
-    examples
-}
-
 #[test]
 fn the_page_shows_what_is_printed() {
     let s = Shortcuts::none("set_page");
     s.put("core7.lnk", SAMPLE);
     s.put("core8.lnk", SAMPLE);
-    let program = s.command(&[]);
-    let parts = std::iter::once(program.get_program()).chain(program.get_args()).map(|word| word.to_str().unwrap());
-    let function = format!("herringnet() {{ '{}' \"$@\"; }}", parts.collect::<Vec<&str>>().join("' '"));
-    let examples = examples(include_str!("../../docs/PATCH.md"));
-    assert!(examples.len() > 6, "{} examples", examples.len());
-    for (line, printed) in examples {
-        let script = format!("exec 2>&1; {}; {}", function, line);
-        let said = Command::new("sh").arg("-c").arg(script).current_dir(&s.folder).output().unwrap();
-        assert_eq!(text(&said.stdout), printed, "{}", line);
-    }
+    prints(&s, include_str!("../../docs/PATCH.md"), 7);
 }

@@ -1,88 +1,19 @@
 //! `show` has all that can name a driver, and two shortcuts that differ there never print the same.
 mod common;
+mod independent;
+mod inputs;
 
+use common::everything::{block, blocks, everything};
+use common::pairs::{listed, of_blocks, pairs, path, twin};
 use common::shortcuts::Shortcuts;
 use common::text;
-use herringnet::record::{Header, Info, InfoUnicode, Label, Local, Network, NetworkUnicode, Record};
+use herringnet::difference::Parts;
+use herringnet::record::{Info, InfoUnicode, Label, Local, Network, NetworkUnicode, Record};
 use herringnet::show::field::members;
 use herringnet::show::{show, shown};
 use herringnet::store::{Storage, Store, NAMED};
-use herringnet::{check, sections, SectionName, StringName, Text};
+use herringnet::{check, key, sections, SectionName, Text};
 use std::collections::HashSet;
-
-/// A block with its size and its signature; the rest is filled up with a byte.
-fn block(size: usize, signature: u32, fill: u8) -> Vec<u8> {
-    let mut block = vec![fill; size];
-    block[..4].copy_from_slice(&(size as u32).to_le_bytes());
-    block[4..8].copy_from_slice(&signature.to_le_bytes());
-    block
-}
-
-fn put(block: &mut [u8], at: usize, bytes: &[u8]) {
-    block[at..at + bytes.len()].copy_from_slice(bytes);
-}
-
-/// A path block with both texts; what follows their zeros is not zero.
-fn path_block(signature: u32, text: &[u8], unicode: &[u8]) -> Vec<u8> {
-    let mut block = block(0x314, signature, 0xAA);
-    put(&mut block, 8, &[text, b"\0"].concat());
-    put(&mut block, 268, &[unicode, b"\0\0"].concat());
-    block
-}
-
-/// Every block that MS-SHLLINK names, and one that it does not.
-fn blocks() -> Vec<u8> {
-    let mut tracker = block(0x60, 0xA000_0003, 0x11);
-    put(&mut tracker, 16, b"farm-7\0left over");
-    let mut known = block(0x1C, 0xA000_000B, 0);
-    put(&mut known, 8, b"\x5E\x6C\x85\x90\x0E\x0C\x60\x47\xA9\xDE\x15\x3C\x4E\xB1\x5D\x2A\x2A\x01\0\0");
-    let mut list = block(0x10, 0xA000_000C, 0);
-    put(&mut list, 8, b"\x04\0cc\x02\0\0\0");
-    let mut special = block(0x10, 0xA000_0005, 0);
-    put(&mut special, 8, b"\x25\0\0\0\xDD\0\0\0");
-    [
-        path_block(0xA000_0001, br"%CC%\cc.exe", b"%\0C\0%\0"),
-        block(0xCC, 0xA000_0002, 7),
-        tracker,
-        block(0x0C, 0xA000_0004, 7),
-        special,
-        path_block(0xA000_0006, b"darwin", b""),
-        path_block(0xA000_0007, b"", b"i\0\x42\x30"),
-        block(0x88, 0xA000_0008, 7),
-        store(),
-        known,
-        list,
-        block(9, 0x1234_5678, b'!'),
-    ]
-    .concat()
-}
-
-/// Values by number and by name, with types that are decoded and others.
-fn store() -> Vec<u8> {
-    let numbers = Storage::new([0x30; 16]).with_number(2, b"\x13\0\0\0\x07\0\0\0").with_number(5, b"\x0C\0");
-    let named = Storage::new(NAMED).with_name(b"c\0o\0r\0e\0\0\0", b"\x1F\0\0\0\x03\0\0\0g\x001\0\0\0\0\0");
-    let store = Store::default().with(numbers).with(named.with_name(b"odd", b"")).with(Storage::new([7; 16]));
-    store.to_block().unwrap()
-}
-
-/// A shortcut with everything in it.
-fn everything(blocks: &[u8]) -> Vec<u8> {
-    let local = Local { drive: 3, serial: 7, label: Label::Byte(b"TOOLS"), path: br"D:\cc" };
-    let network = Network {
-        provider: Some(0x0002_0000),
-        net: br"\\farm\cc",
-        device: Some(b"Z:"),
-        unicode: Some(NetworkUnicode { net: b"\\\0f\0", device: b"Z\0" }),
-    };
-    let info = Info::default().with_local(local).with_network(network).with_suffix(b"cc.exe");
-    let header = Header { flags: 0x80, creation: 1, access: 2, write: 3, hotkey: 0x0646, ..Header::default() };
-    let mut record = Record { header, items: Some(b"\x05\0one\x06\0four"), blocks, ..Record::default() };
-    record.info = Some(info.with_unicode(InfoUnicode { local: b"D\0:\0", suffix: b"c\0", further: b"\0v2" }));
-    for name in StringName::ALL {
-        record.set(name, name.words()).unwrap();
-    }
-    record.to_vec().unwrap()
-}
 
 #[test]
 fn every_block_is_shown() {
@@ -100,7 +31,7 @@ fn left_out(shortcut: &[u8]) -> HashSet<usize> {
         let inside: Vec<usize> = match block.bytes[4] {
             1 | 6 | 7 => (end(8, 1)..268).chain(end(268, 2)..788).collect(),
             3 => (8..16).chain(end(16, 1)..0x60).collect(),
-            2 | 4 | 8 | 0x78 => (8..block.length()).collect(),
+            2 | 4 | 8 => (8..block.length()).collect(),
             _ => Vec::new(),
         };
         inside.into_iter().map(move |place| block.start + place)
@@ -139,6 +70,101 @@ fn shortcuts_that_differ_in_what_is_shown_are_shown_differently() {
         }
     }
     assert!(tried - alike > 500 && alike > 500, "{} tried, {} alike", tried, alike);
+}
+
+/// A shortcut of one value in its store.
+fn valued(name: &[u8], raw: &[u8]) -> Vec<u8> {
+    of_blocks(&Store::default().with(Storage::new(NAMED).with_name(name, raw)).to_block().unwrap())
+}
+
+/// A target with a network link, all of whose twins stand there.
+fn linked(net: &[u8], suffix: &[u8]) -> Vec<u8> {
+    let network = Network { net: b"\\\\a", unicode: Some(NetworkUnicode { net, device: b"" }), ..Network::default() };
+    let unicode = InfoUnicode { local: b"", suffix, further: b"" };
+    let info = Some(Info::default().with_network(network).with_suffix(b"cc").with_unicode(unicode));
+    Record { info, ..Record::default() }.to_vec().unwrap()
+}
+
+#[test]
+fn pairs_of_one_key_that_could_name_two_drivers_are_shown_differently() {
+    let vista = |item: u8| of_blocks(&[14, 0, 0, 0, 12, 0, 0, 0xA0, 4, 0, b'c', item, 0, 0]);
+    let relative = |text: &'static [u8]| Record { relative: Some(Text::of(false, text)), ..Record::default() };
+    let relative = |text| relative(text).to_vec().unwrap();
+    let darwin = |text, unicode| of_blocks(&path(0xA000_0006, text, unicode));
+    let more: [[Vec<u8>; 2]; 11] = [
+        [listed(b"a"), listed(b"b")],
+        [linked(b"a\0", b"c\0"), linked(b"b\0", b"c\0")],
+        [linked(b"a\0", b"c\0"), linked(b"a\0", b"d\0")],
+        [twin(b"C:", "C:"), twin(b"C:", "D:")],
+        [darwin(b"x", "x"), darwin(b"y", "x")],
+        [darwin(b"x", "x"), darwin(b"x", "y")],
+        [vista(b'a'), vista(b'b')],
+        [valued(b"c\0\0\0", b"\x01"), valued(b"c\0\0\0", b"\x02")],
+        [valued(b"c\0\0\0", b"\x01"), valued(b"d\0\0\0", b"\x01")],
+        [relative(b"a"), relative(b"b")],
+        [of_blocks(&block(9, 0xA000_000A, b'a')), of_blocks(&block(9, 0xA000_000A, b'b'))],
+    ];
+    for [one, other] in pairs().iter().chain(&more) {
+        assert_eq!(key(one).unwrap(), key(other).unwrap());
+        let ((text, json), (other_text, other_json)) = (forms(one), forms(other));
+        assert!(text != other_text && json != other_json, "{}", text);
+    }
+}
+
+#[test]
+fn every_bit_of_the_link_flags_is_shown() {
+    let mut tried = 0;
+    for bit in 0..32 {
+        let mut other = Record::default().to_vec().unwrap();
+        let before = forms(&other);
+        other[20 + bit / 8] ^= 1 << (bit % 8);
+        if check(&other).is_ok() {
+            let after = forms(&other);
+            assert!(before.0 != after.0 && before.1 != after.1, "bit {}", bit);
+            tried += 1;
+        }
+    }
+    // Bits 0 to 6 want a section, and 27 to 31 have to be clear.
+    assert_eq!(tried, 20);
+}
+
+/// Shortcuts of the comparison, each beside others and beside itself with a byte changed: where what differs could name
+/// a driver, what is shown differs.
+#[test]
+fn what_could_name_a_driver_is_never_shown_alike() {
+    let page = independent::code_page();
+    let made = (0..700).map(|number| inputs::blind(number, &page)).chain((0..1_500).map(inputs::input));
+    let accepted: Vec<Vec<u8>> = made.filter(|one| one.len() < 4_000 && check(one).is_ok()).collect();
+    let (mut random, mut seen, mut tried) = (inputs::random_of(31), HashSet::new(), 0);
+    for (number, one) in accepted.iter().enumerate() {
+        let changed = (0..20).map(|_| {
+            let mut other = one.clone();
+            other[random.below(one.len())] ^= 1 << random.below(8);
+            other
+        });
+        let others = changed.chain([accepted[(number + 1) % accepted.len()].clone()]).filter(|one| check(one).is_ok());
+        let (parts, shown) = (Parts::read(one).unwrap(), forms(one));
+        for other in others.collect::<Vec<_>>() {
+            let differences = parts.differences(&Parts::read(&other).unwrap());
+            if let Some(difference) = differences.into_iter().find(|difference| difference.could_name) {
+                let (text, json) = forms(&other);
+                assert!(text != shown.0 && json != shown.1, "{}: {}", difference.part, difference.words());
+                seen.insert(difference.part.split(" of ").next().unwrap_or_default().to_string());
+                tried += 1;
+            }
+        }
+    }
+    let parts = [
+        "link flags",
+        "item 1",
+        "Unicode local path",
+        "Unicode suffix",
+        "Unicode net name",
+        "relative path",
+        "text",
+        "Unicode text",
+    ];
+    assert!(parts.iter().all(|&part| seen.contains(part)) && tried > 5_000, "{} tried: {:?}", tried, seen);
 }
 
 #[test]

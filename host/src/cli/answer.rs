@@ -8,8 +8,8 @@ use herringnet::show::field::{members, text_json, Field};
 use herringnet::show::stores::storages;
 use herringnet::show::text::{Bytes, Hex, Spaced};
 use herringnet::show::{lines, shown_under};
-use herringnet::{check_under, fault_under, key, key_under, listed, sections_under, target_under};
-use herringnet::{Profile, Refusal, Section, Shelf, Spot, Store, Text, WrongField};
+use herringnet::{blind_parts_under, check_under, fault_under, key_blind_under, key_under, listed, sections_under};
+use herringnet::{target_under, BlindParts, Profile, Refusal, Section, Shelf, Spot, Store, Text, WrongField};
 use std::ops::Range;
 
 /// The answer to a command.
@@ -19,10 +19,43 @@ pub enum Answer<'a> {
     /// All sections.
     Listing(Vec<Section<'a>>),
     Target(Vec<u8>),
-    Key(Vec<u8>),
+    Key(Key),
     /// The keys of all entries of a shelf.
-    Keys(Vec<Vec<u8>>),
+    Keys(Vec<Key>),
     Fields(Vec<Field>),
+}
+
+/// A key, and where it does not tell the driver.
+pub struct Key {
+    pub bytes: Vec<u8>,
+    blind: Vec<BlindParts>,
+}
+
+impl Key {
+    pub fn of(shortcut: &[u8], profile: Profile) -> Result<Key, Refusal> {
+        let bytes = key_under(shortcut, profile)?;
+        let blind = match key_blind_under(shortcut, profile)?.is_warning() {
+            true => blind_parts_under(shortcut, profile)?.into_iter().filter(|found| found.spot.is_warning()).collect(),
+            false => Vec::new(),
+        };
+        Ok(Key { bytes, blind })
+    }
+}
+
+/// Blind spots with their parts in words.
+pub fn spots(found: &[BlindParts]) -> String {
+    let words: Vec<String> = found.iter().map(BlindParts::to_string).collect();
+    format!("blind: {}", words.join("; "))
+}
+
+/// The same in JSON, each in an object that begins with these members.
+fn spots_json<'a>(first: Option<(&'a str, Json)>, found: &'a [BlindParts]) -> impl Iterator<Item = Json> + 'a {
+    found.iter().map(move |found| {
+        let parts = Json::Array(found.parts.iter().map(Json::string).collect());
+        let rest = [("spot", Json::string(found.spot.name())), ("parts", parts)];
+        let members = first.clone().into_iter().chain(rest);
+        Json::Object(members.map(|(name, value)| (name.to_string(), value)).collect())
+    })
 }
 
 impl<'a> Answer<'a> {
@@ -32,9 +65,10 @@ impl<'a> Answer<'a> {
             Command::Check => check_under(shortcut, profile).map(Answer::Accepted),
             Command::List => sections_under(shortcut, profile).map(Answer::Listing),
             Command::Target => target_under(shortcut, profile).map(Answer::Target),
-            Command::Key => key_under(shortcut, profile).map(Answer::Key),
+            Command::Key => Key::of(shortcut, profile).map(Answer::Key),
             Command::Show => shown_under(shortcut, profile).map(Answer::Fields),
             Command::Store => Store::read_under(shortcut, profile).map(|store| Answer::Fields(vec![storages(&store)])),
+            Command::Diff | Command::Audit => return None,
             Command::Rewrite | Command::Set | Command::Move | Command::Shelf | Command::Salvage => return None,
         };
         Some(answer.map_err(|refusal| Refused::new(command, (shortcut, profile), refusal)))
@@ -42,6 +76,7 @@ impl<'a> Answer<'a> {
 
     /// The keys of all entries of a shelf.
     pub fn on_shelf(bytes: &'a [u8]) -> Result<Answer<'a>, Refused<'a>> {
+        let key = |entry| Key::of(entry, Profile::Strict);
         let keys = Shelf::read(bytes).and_then(|shelf| shelf.entries().map(key).collect());
         keys.map(Answer::Keys).map_err(|refusal| Refused { refusal, shortcut: bytes, spot: None, on_shelf: true })
     }
@@ -52,10 +87,38 @@ impl<'a> Answer<'a> {
             Answer::Accepted(length) => format!("ok {}", length),
             Answer::Listing(sections) => listed(sections).trim_end().to_string(),
             Answer::Target(text) => Bytes(text).to_string(),
-            Answer::Key(bytes) => Hex(bytes).to_string(),
-            Answer::Keys(keys) => keys.iter().map(|key| format!("{}\n", Hex(key))).collect::<String>(),
+            Answer::Key(key) => Hex(&key.bytes).to_string(),
+            Answer::Keys(keys) => keys.iter().map(|key| format!("{}\n", Hex(&key.bytes))).collect::<String>(),
             Answer::Fields(fields) => lines(fields).trim_end().to_string(),
         }
+    }
+
+    /// What is to be said of keys that do not tell the driver, a line for each.
+    pub fn warnings(&self) -> Vec<String> {
+        match self {
+            Answer::Key(key) if !key.blind.is_empty() => vec![spots(&key.blind)],
+            Answer::Keys(keys) => {
+                let blind = keys.iter().enumerate().filter(|(_, key)| !key.blind.is_empty());
+                blind.map(|(number, key)| format!("entry {}: {}", number, spots(&key.blind))).collect()
+            }
+            _ => Vec::new(),
+        }
+    }
+
+    /// The member that says the same in JSON, where there is something to say.
+    fn blind_member(&self) -> Vec<(String, Json)> {
+        let found: Vec<Json> = match self {
+            Answer::Key(key) => spots_json(None, &key.blind).collect(),
+            Answer::Keys(keys) => {
+                let entries = keys.iter().enumerate();
+                entries
+                    .flat_map(|(number, key)| spots_json(Some(("entry", Json::number(number as u64))), &key.blind))
+                    .collect()
+            }
+            _ => Vec::new(),
+        };
+        let there = !found.is_empty();
+        there.then(|| ("blind".to_string(), Json::Array(found))).into_iter().collect()
     }
 
     /// The members of the JSON object.
@@ -69,8 +132,11 @@ impl<'a> Answer<'a> {
                 [one("length", Json::number(length as u64)), one("sections", sections)].concat()
             }
             Answer::Target(text) => one("target", text_json(&Text::of(false, text))),
-            Answer::Key(bytes) => one("key", Json::string(Hex(bytes))),
-            Answer::Keys(keys) => one("keys", Json::Array(keys.iter().map(|key| Json::string(Hex(key))).collect())),
+            Answer::Key(key) => [one("key", Json::string(Hex(&key.bytes))), self.blind_member()].concat(),
+            Answer::Keys(keys) => {
+                let keys = Json::Array(keys.iter().map(|key| Json::string(Hex(&key.bytes))).collect());
+                [one("keys", keys), self.blind_member()].concat()
+            }
             Answer::Fields(fields) => members(fields).collect(),
         }
     }
@@ -90,6 +156,31 @@ pub fn object(input: &Input, answer: &Result<Answer, Refused>) -> Json {
         Ok(answer) => with_status(input, "ok", answer.members()),
         Err(refused) => with_status(input, "refused", vec![("refusal".to_string(), refused.json())]),
     }
+}
+
+/// The JSON object of an input whose key does not tell the driver, and is not printed.
+pub fn untold(input: &Input, answer: &Answer) -> Json {
+    with_status(input, "blind", answer.blind_member())
+}
+
+/// The JSON object of a file of an audit whose key does not tell the driver.
+pub fn blind(input: &Input, found: &[BlindParts]) -> Json {
+    with_status(input, "blind", vec![("blind".to_string(), Json::Array(spots_json(None, found).collect()))])
+}
+
+/// The JSON object of a file of an audit that is refused.
+pub fn with_refusal(input: &Input, refusal: &Refusal) -> Json {
+    let members = refusal_members(refusal).into_iter().map(|(name, value)| (name.to_string(), value)).collect();
+    with_status(input, "refused", vec![("refusal".to_string(), Json::Object(members))])
+}
+
+fn refusal_members(refusal: &Refusal) -> Vec<(&'static str, Json)> {
+    vec![
+        ("number", Json::number(refusal.number())),
+        ("name", Json::string(refusal.name())),
+        ("position", Json::number(refusal.position as u64)),
+        ("reason", Json::string(refusal.fault.reason())),
+    ]
 }
 
 /// The JSON object of an input that could not be read.
@@ -114,7 +205,7 @@ pub struct Refused<'a> {
 }
 
 impl<'a> Refused<'a> {
-    fn new(command: Command, (shortcut, profile): (&'a [u8], Profile), refusal: Refusal) -> Refused<'a> {
+    pub fn new(command: Command, (shortcut, profile): (&'a [u8], Profile), refusal: Refusal) -> Refused<'a> {
         let spot = if command == Command::Check { fault_under(shortcut, profile) } else { None };
         Refused { refusal, shortcut, spot, on_shelf: false }
     }
@@ -147,13 +238,7 @@ impl<'a> Refused<'a> {
     }
 
     fn json(&self) -> Json {
-        let refusal = &self.refusal;
-        let mut members = vec![
-            ("number", Json::number(refusal.number())),
-            ("name", Json::string(refusal.name())),
-            ("position", Json::number(refusal.position as u64)),
-            ("reason", Json::string(refusal.fault.reason())),
-        ];
+        let mut members = refusal_members(&self.refusal);
         if let Some(spot) = &self.spot {
             members.push(("section", Json::string(spot.section)));
             members.push(("start", Json::number(spot.start as u64)));

@@ -122,6 +122,9 @@ struct Given {
     /// The ways to move, true for Unicode.
     ways: Vec<bool>,
     shelf: bool,
+    no_blind: bool,
+    /// Whether two keys are to be compared.
+    diff: bool,
     one: bool,
     files_only: bool,
 }
@@ -158,6 +161,8 @@ impl Given {
             Asks::Raw => self.raw = true,
             Asks::Hex => self.hex = true,
             Asks::Shelf => self.shelf = true,
+            Asks::NoBlind => self.no_blind = true,
+            Asks::Diff => self.diff = true,
             Asks::One => self.one = true,
             Asks::InPlace => self.outputs.push(Output::InPlace),
             Asks::ToUnicode => self.ways.push(true),
@@ -175,7 +180,9 @@ impl Given {
 
     /// The plan, if what was given fits together.
     fn plan(mut self, command: Command) -> Result<Plan, String> {
-        if self.inputs.is_empty() && self.lists.is_empty() && !self.recursive {
+        self.diff |= command == Command::Diff;
+        let is_alone = self.inputs.is_empty() && self.lists.is_empty() && !self.recursive;
+        if is_alone && !self.diff && command != Command::Audit {
             self.inputs.push(Input::Standard);
         }
         let several = self.recursive || !self.lists.is_empty() || self.inputs.len() > 1;
@@ -199,6 +206,8 @@ impl Given {
             hex: self.hex,
             to_unicode: self.ways.pop().unwrap_or(false),
             shelf: self.shelf,
+            no_blind: self.no_blind,
+            diff: self.diff,
             output: self.outputs.pop().unwrap_or(Output::Standard),
             keep: self.keeps.pop(),
             setting,
@@ -256,6 +265,13 @@ impl Given {
             (self.keeps.len() > 1, "--keep may stand once"),
             (!self.keeps.is_empty() && !in_place, "--keep goes with --in-place"),
             (command == Command::Salvage && in_place && self.keeps.is_empty(), "salvage --in-place needs --keep"),
+            (
+                self.diff && (self.recursive || self.shelf || !self.lists.is_empty()),
+                "--diff takes two FILEs and no others",
+            ),
+            (self.diff && self.inputs.len() != 2, "two FILEs are compared"),
+            (command == Command::Audit && standard, "audit reads files twice, and standard input cannot be"),
+            (command == Command::Audit && !several && self.inputs.is_empty(), "audit needs a FILE"),
             (command == Command::Move && self.ways.len() != 1, "move needs one of --to-unicode and --to-bytes"),
         ];
         wrong.iter().find(|(is_wrong, _)| *is_wrong).map(|(_, why)| *why)

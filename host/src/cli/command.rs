@@ -9,6 +9,8 @@ pub enum Command {
     Key,
     Show,
     Store,
+    Diff,
+    Audit,
     Rewrite,
     Set,
     Move,
@@ -26,7 +28,7 @@ struct Page {
     text: &'static str,
 }
 
-const PAGES: [Page; 11] = [
+const PAGES: [Page; 13] = [
     Page {
         word: "check",
         line: "say of each shortcut whether it is accepted, or which field is wrong, and why",
@@ -64,8 +66,8 @@ standard error.
     },
     Page {
         word: "key",
-        line: "print the cache key in hex",
-        usage: &["[FILE].."],
+        line: "print the cache key in hex, or compare two keys",
+        usage: &["[FILE]..", "--diff FILE FILE"],
         text: "\
 Prints a line for each accepted shortcut: its cache key in lower-case hex, one space, the file's
 name. Where standard input is the only input, the key stands alone. A refused shortcut has no key,
@@ -74,6 +76,16 @@ equal: LinkFlags bit 7, the target text, the arguments, the working directory, a
 bytes in the first environment block (A0000001) up to its zero. What is absent differs from what
 is empty. A shortcut without a target has a key too. With --shelf each FILE is a shelf, and every
 entry has a line: the key, the number of the entry, and the file's name as before.
+
+Equal keys do not mean one driver where a key does not tell it. Of such a shortcut standard error
+says so, with the parts that could name a driver beside the key; line and status stay as they are:
+  herringnet: x.lnk: blind: no text in the key names the driver (item list)
+With --no-blind it has no line, and the status is 4 where nothing worse happened.
+
+With --diff the keys of two FILEs are compared part by part: each part is the same, or differs
+after so many characters and at these places in the files, first FILE -> second FILE:
+  arguments: differs after 9 characters, at 87 in both: \"-march=rv32\" -> \"-march=rv64\"
+The last line says whether the keys are equal. The status is 0 then, 5 if they differ.
 ",
     },
     Page {
@@ -82,10 +94,12 @@ entry has a line: the key, the number of the entry, and the file's name as befor
         usage: &["[FILE].."],
         text: "\
 Prints every field and text of a shortcut, each item with its bytes in hex, and each block with
-the texts and identifiers in it that can name a file, a folder or a machine. Texts stand in double
-quotes, a backslash as it is. In texts of bytes every byte that is not printable ASCII stands as
-<E9>, in Unicode texts every character without a shape as <U+200B>; < and a double quote stand so
-too. Times are UTC. With several files a line with the file's name and a colon stands before each.
+the texts and identifiers in it that can name a file, a folder or a machine; one that MS-SHLLINK does
+not name has its bytes in hex. No two shortcuts that differ in what could name a driver are shown
+alike. Texts stand in double quotes, a backslash as it is. In texts of bytes every byte that is not
+printable ASCII stands as <E9>, in Unicode texts every character without a shape as <U+200B>; < and
+a double quote stand so too. Times are UTC. With several files a line with the file's name and a
+colon stands before each.
 ",
     },
     Page {
@@ -98,6 +112,38 @@ it by its number or name and its content, as show does among the blocks. A short
 block A0000009 has no storages. Numbers, truth values, texts, times and identifiers are decoded,
 after the name of their type; other types, and bytes that do not fit their type, stand in hex.
 With several files a line with the file's name and a colon stands before each.
+",
+    },
+    Page {
+        word: "diff",
+        line: "compare two shortcuts: every field, text, item, block and value of the store",
+        usage: &["FILE FILE"],
+        text: "\
+Prints a line for each part of two shortcuts, in file order: PART: same: and what it is, or PART:
+differs, after how many characters or bytes and at which places in the two files, and both values,
+first FILE -> second FILE. Blocks are matched by signature, storages by format, values of the store
+by number or name; of those that are there more than once, the first with the first, and so on.
+Texts stand as show has them; of items and other bytes there are those around the first difference.
+The last line counts the parts that differ and says whether the keys are equal. The status is 0
+where both are the same bytes, 5 where they differ, and 1 where one of them is refused.
+",
+    },
+    Page {
+        word: "audit",
+        line: "find files that share a key and differ, keys that do not tell the driver, refused files",
+        usage: &["FILE..", "-r FOLDER.."],
+        text: "\
+Looks at many shortcuts together, and prints what is found, then one line that counts it:
+  one key, one driver: files that share a key and are the same in every text that could name the
+    driver or be given to it; below each what differs from the first all the same
+  one key, MORE THAN ONE DRIVER POSSIBLE: the same, but a file differs from the first in what
+    could name the driver or be given to it: such a line begins with !
+  blind: a shortcut whose key does not tell the driver, with the parts that could name it
+  refused: a shortcut that has no key, and why
+  unread: a file that could not be read
+  audit: how many of each
+The status is 0 only if no key is shared by more than one possible driver and no file is blind,
+refused or unread. Values in a property store are in no key; they count as naming the driver.
 ",
     },
     Page {
@@ -215,13 +261,15 @@ only with a copy of the damaged file beside it.
 
 impl Command {
     /// All of them, each at its number.
-    pub const ALL: [Command; 11] = [
+    pub const ALL: [Command; 13] = [
         Command::Check,
         Command::List,
         Command::Target,
         Command::Key,
         Command::Show,
         Command::Store,
+        Command::Diff,
+        Command::Audit,
         Command::Rewrite,
         Command::Set,
         Command::Move,

@@ -11,12 +11,29 @@ use std::time::{Duration, Instant};
 /// How a run went; what happened later in this order outranks the others.
 #[derive(Clone, Copy, PartialEq, Eq, PartialOrd, Ord)]
 pub enum Outcome {
-    /// Every shortcut was accepted.
-    Good = 0,
-    /// One was refused.
-    Refused = 1,
+    /// Every shortcut was accepted, and nothing else was found.
+    Good,
+    /// A key does not tell the driver, and that counts.
+    Blind,
+    /// A shortcut was refused.
+    Refused,
+    /// Two shortcuts differ that were compared, or that share a key.
+    Differs,
     /// Something could not be read or written.
-    Failed = 3,
+    Failed,
+}
+
+impl Outcome {
+    /// The exit status. Those of the later requests have later numbers, whatever they outrank.
+    pub fn status(self) -> u8 {
+        match self {
+            Outcome::Good => 0,
+            Outcome::Refused => 1,
+            Outcome::Failed => 3,
+            Outcome::Blind => 4,
+            Outcome::Differs => 5,
+        }
+    }
 }
 
 /// Both streams, and how the run has gone so far.

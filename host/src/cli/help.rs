@@ -3,11 +3,16 @@ use super::command::Command;
 use super::options::choices;
 
 /// What the exit statuses mean.
-pub const STATUS: &str = "  0  every shortcut was accepted
+pub const STATUS: &str =
+    "  0  every shortcut was accepted; of diff and key --diff: both are equal; of audit: nothing found
   1  a shortcut was refused
   2  the command line makes no sense, and nothing was done
-  3  a file could not be read or written, or lines of output were lost; it outranks 1
-One file's fault does not keep the others from being done.
+  3  a file could not be read or written, or lines of output were lost
+  4  of key --no-blind and audit: the key of a shortcut does not tell the driver
+  5  of diff and key --diff: they differ; of audit: files that share a key differ in what could
+     name the driver
+Where several hold, it is the first of 3, 5, 1, 4. One file's fault does not keep the others from
+being done.
 ";
 
 /// How names and refusals are printed.
@@ -32,7 +37,8 @@ usage: herringnet COMMAND [OPTION].. [FILE]..
 
 commands:
 {}
-Without FILE, or where FILE is -, standard input is read. After -- every word is a FILE.
+Without FILE, or where FILE is -, standard input is read; diff needs two FILEs, and audit reads files
+alone. After -- every word is a FILE.
 herringnet help COMMAND tells more about a command, herringnet --version what this is built from;
 herringnet help man prints the manual page, herringnet help bash what bash completes words with.
 

@@ -89,7 +89,8 @@ impl fmt::Display for Input {
     }
 }
 
-fn folder() -> io::Error {
+/// What is wrong with a folder that was named as a file.
+pub fn folder() -> io::Error {
     io::Error::new(ErrorKind::Other, "it is a folder; -r goes through folders")
 }
 

@@ -14,7 +14,8 @@ pub fn page() -> String {
         }
     }
     page += ".SH DESCRIPTION\nThe answers are those of a proved library, for every file, refused ones too.\n";
-    page += "Without FILE, or where FILE is \\-, standard input is read. After \\-\\- every word is a FILE.\n";
+    page += "Without FILE, or where FILE is \\-, standard input is read; diff needs two FILEs, and audit reads files alone.\n";
+    page += "After \\-\\- every word is a FILE.\n";
     page +=
         ".B herringnet \\-\\-version\nsays the version, the archive that it was built from and the requests in it.\n";
     for command in Command::ALL {

@@ -1,7 +1,9 @@
 //! The parts of the command line.
 mod answer;
 pub mod arguments;
+mod audit;
 mod command;
+mod compare;
 pub mod console;
 mod files;
 mod help;

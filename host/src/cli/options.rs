@@ -14,6 +14,8 @@ pub enum Asks {
     Raw,
     Hex,
     Shelf,
+    NoBlind,
+    Diff,
     One,
     Output,
     InPlace,
@@ -44,8 +46,16 @@ pub struct Choice {
     pub lines: &'static [&'static str],
 }
 
-const PRINTING: &[Command] =
-    &[Command::Check, Command::List, Command::Target, Command::Key, Command::Show, Command::Store];
+const PRINTING: &[Command] = &[
+    Command::Check,
+    Command::List,
+    Command::Target,
+    Command::Key,
+    Command::Show,
+    Command::Store,
+    Command::Diff,
+    Command::Audit,
+];
 /// Those that take shortcuts, file by file.
 const EACH: &[Command] = &[
     Command::Check,
@@ -54,12 +64,13 @@ const EACH: &[Command] = &[
     Command::Key,
     Command::Show,
     Command::Store,
+    Command::Audit,
     Command::Rewrite,
     Command::Set,
     Command::Move,
     Command::Salvage,
 ];
-/// Of these all that are not strict alone.
+/// All that are not strict alone.
 const PROFILED: &[Command] = &[
     Command::Check,
     Command::List,
@@ -67,6 +78,8 @@ const PROFILED: &[Command] = &[
     Command::Key,
     Command::Show,
     Command::Store,
+    Command::Diff,
+    Command::Audit,
     Command::Rewrite,
     Command::Set,
     Command::Move,
@@ -75,7 +88,7 @@ const WRITING: &[Command] = &[Command::Rewrite, Command::Set, Command::Move, Com
 const MOVE: &[Command] = &[Command::Move];
 
 /// All options but those of `set` alone, in the order of help.
-const CHOICES: [Choice; 16] = [
+const CHOICES: [Choice; 18] = [
     Choice {
         asks: Asks::Recursive,
         words: &["-r", "--recursive"],
@@ -129,7 +142,10 @@ const CHOICES: [Choice; 16] = [
         words: &["--json"],
         value: None,
         commands: PRINTING,
-        lines: &["print a JSON object on a line for each file, of those too that are", "refused or cannot be read"],
+        lines: &[
+            "print a JSON object on a line for each file, of those too that are",
+            "refused or cannot be read; of audit one for each thing that is found",
+        ],
     },
     Choice {
         asks: Asks::Raw,
@@ -154,6 +170,23 @@ const CHOICES: [Choice; 16] = [
         value: None,
         commands: &[Command::Key],
         lines: &["take each FILE for a shelf, and print the keys of all its entries"],
+    },
+    Choice {
+        asks: Asks::NoBlind,
+        words: &["--no-blind"],
+        value: None,
+        commands: &[Command::Key],
+        lines: &[
+            "refuse a shortcut whose key does not tell the driver, and a shelf",
+            "with such an entry; the status is 4",
+        ],
+    },
+    Choice {
+        asks: Asks::Diff,
+        words: &["--diff"],
+        value: None,
+        commands: &[Command::Key],
+        lines: &["compare the keys of two FILEs part by part, and print what differs"],
     },
     Choice {
         asks: Asks::One,

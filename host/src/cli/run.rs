@@ -1,5 +1,5 @@
 //! Doing what the command line asks for, input by input.
-use super::answer::{failed, object, Answer, Refused};
+use super::answer::{failed, object, untold, Answer, Refused};
 use super::command::Command;
 use super::console::{Console, Outcome};
 use super::files::{replace, with_suffix, write_new};
@@ -39,6 +39,10 @@ pub struct Run {
     pub to_unicode: bool,
     /// Whether each input is a shelf.
     pub shelf: bool,
+    /// Whether a key that does not tell the driver is refused.
+    pub no_blind: bool,
+    /// Whether two inputs are compared.
+    pub diff: bool,
     pub output: Output,
     /// What is put after the name of a file to keep a copy of it before it is replaced.
     pub keep: Option<OsString>,
@@ -60,6 +64,8 @@ impl Run {
         // In JSON a line feed stands nowhere else, so that zero bytes are of no use.
         let mut console = Console::new(self.end(!self.json));
         match self.listed() {
+            Ok(inputs) if self.diff => self.compare(&inputs, &mut console),
+            Ok(inputs) if self.command == Command::Audit => self.audit(inputs, &mut console),
             Ok(inputs) => self.each(inputs, &mut console),
             Err((list, error)) => self.unread(&list, &error, &mut console),
         }
@@ -123,16 +129,19 @@ impl Run {
         }
     }
 
-    fn answer(&self, input: &Input, answer: Result<Answer, Refused>, console: &mut Console) {
+    pub fn answer(&self, input: &Input, answer: Result<Answer, Refused>, console: &mut Console) {
         if answer.is_err() {
             console.note(Outcome::Refused);
+        }
+        if answer.as_ref().map_or(false, |answer| self.refuses(input, answer, console)) {
+            return;
         }
         match answer {
             answer if self.json => console.record(object(input, &answer).to_string().into_bytes()),
             Ok(Answer::Target(text)) if self.raw => console.write(&text),
             Ok(Answer::Keys(keys)) => {
                 for (number, key) in keys.iter().enumerate() {
-                    self.print(input, &format!("{} {}", Hex(key), number), console);
+                    self.print(input, &format!("{} {}", Hex(&key.bytes), number), console);
                 }
             }
             Ok(answer) => self.print(input, &answer.text(), console),
@@ -141,6 +150,22 @@ impl Run {
             }
             Err(refused) => console.say(format!("{}: {}", input, refused.text())),
         }
+    }
+
+    /// Tells of keys that do not tell the driver, and whether they are refused.
+    pub fn refuses(&self, input: &Input, answer: &Answer, console: &mut Console) -> bool {
+        let warnings = answer.warnings();
+        let refused = self.no_blind && !warnings.is_empty();
+        for warning in &warnings {
+            console.say(format!("{}: {}{}", input, if refused { "refused: " } else { "" }, warning));
+        }
+        if refused {
+            console.note(Outcome::Blind);
+            if self.json {
+                console.record(untold(input, answer).to_string().into_bytes());
+            }
+        }
+        refused
     }
 
     /// A refusal as an answer: `list` says it in the words of the listing.
@@ -152,7 +177,7 @@ impl Run {
         }
     }
 
-    fn unread(&self, input: &Input, error: &io::Error, console: &mut Console) {
+    pub fn unread(&self, input: &Input, error: &io::Error, console: &mut Console) {
         let why = reason(error);
         console.note(Outcome::Failed);
         match self.json {
@@ -178,6 +203,8 @@ impl Run {
                 [gap, &name, b":\n", text].concat()
             }
             Command::Target | Command::List | Command::Show | Command::Store | Command::Shelf => text.to_vec(),
+            // These print no answer about one input.
+            Command::Diff | Command::Audit => text.to_vec(),
         });
     }
 

@@ -5,21 +5,21 @@ use crate::json::Json;
 use crate::store::Store;
 use crate::{Section, SectionName};
 
-/// Items that stand end to end from a place on, in a list that was accepted: each begins with its size.
-pub fn items(place: usize, items: &[u8]) -> Vec<Field> {
-    let mut found = Vec::new();
+/// Items that stand end to end in a list that was accepted, each with its place in it: they begin with their sizes.
+pub(crate) fn items(items: &[u8]) -> impl Iterator<Item = (usize, &[u8])> {
     let mut at = 0;
-    while let Some(&[low, high]) = items.get(at..at + 2) {
-        let size = usize::from(u16::from_le_bytes([low, high])).max(2);
-        found.push(Field::piece("item", place + at, items.get(at..at + size).unwrap_or_default()));
+    std::iter::from_fn(move || {
+        let size = items.get(at..at + 2)?;
+        let size = usize::from(u16::from_le_bytes([size[0], size[1]])).max(2);
+        let item = (at, items.get(at..at + size).unwrap_or_default());
         at += size;
-    }
-    found
+        Some(item)
+    })
 }
 
 /// A list of items, with their number and all of their bytes counted.
 pub fn item_list(place: usize, bytes: &[u8]) -> Field {
-    let found = items(place, bytes);
+    let found: Vec<Field> = items(bytes).map(|(at, item)| Field::piece("item", place + at, item)).collect();
     Field::list("items", format!("{} in {} bytes at {}", found.len(), bytes.len(), place), found)
 }
 
@@ -61,22 +61,30 @@ fn inside(signature: u32, block: &Section, store: &Store) -> Vec<Field> {
             let json = Json::string(&identifier);
             vec![Field::new("known folder", identifier, json), Field::number("offset", number(bytes, 24))]
         }
-        // The two zero bytes that close the list are no item.
-        0xA000_000C => vec![item_list(block.start + 8, part(bytes, 8, bytes.len().saturating_sub(2)))],
+        0xA000_000C => vec![item_list(block.start + 8, listed(bytes))],
+        // Nobody knows what a block without a name says, so all of it is shown.
+        _ if names::block(signature).is_none() && bytes.len() > 8 => {
+            vec![Field::piece("content", block.start + 8, part(bytes, 8, bytes.len()))]
+        }
         _ => Vec::new(),
     }
 }
 
-fn part(bytes: &[u8], from: usize, to: usize) -> &[u8] {
+/// The items of a block A000000C; the two zero bytes that close the list are none.
+pub(crate) fn listed(block: &[u8]) -> &[u8] {
+    part(block, 8, block.len().saturating_sub(2))
+}
+
+pub(crate) fn part(bytes: &[u8], from: usize, to: usize) -> &[u8] {
     bytes.get(from..to).unwrap_or_default()
 }
 
-fn number(bytes: &[u8], at: usize) -> u32 {
+pub(crate) fn number(bytes: &[u8], at: usize) -> u32 {
     part(bytes, at, at + 4).iter().rev().fold(0, |number, &byte| number << 8 | u32::from(byte))
 }
 
 /// The text in front of the first zero character; all of it where there is none.
-fn up_to_zero(field: &[u8], width: usize) -> &[u8] {
+pub(crate) fn up_to_zero(field: &[u8], width: usize) -> &[u8] {
     let end = field.chunks(width).take_while(|unit| unit.iter().any(|&byte| byte != 0)).count();
     field.get(..end * width).unwrap_or(field)
 }

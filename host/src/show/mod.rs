@@ -1,5 +1,5 @@
 //! A shortcut as readable text or as JSON: every field and every text of its record, its items and its blocks.
-mod blocks;
+pub(crate) mod blocks;
 pub mod field;
 pub mod names;
 pub mod property;
@@ -8,7 +8,7 @@ pub mod text;
 pub mod time;
 
 use crate::json::Json;
-use crate::record::{Header, Info, Label, Local, Network, Window};
+use crate::record::{Header, Info, Label, Local, Network};
 use crate::store::Store;
 use crate::text::StringName;
 use crate::{section_under, sections_under, target_under, Profile, Record, Refusal, SectionName};
@@ -77,11 +77,7 @@ fn header(header: &Header, fields: &mut Vec<Field>) {
     fields.push(Field::time("write time", header.write));
     fields.push(Field::number("file size", header.file_size));
     fields.push(Field::number("icon index", header.icon_index));
-    let window = match header.window() {
-        Window::Normal => "normal",
-        Window::Maximised => "maximised",
-        Window::Minimised => "minimised",
-    };
+    let window = header.window().word();
     let line = format!("{} ({} window)", header.command, window);
     fields.push(numbered("show command", header.command, line, "window", window));
     let key = names::hotkey(header.hotkey);

@@ -22,9 +22,9 @@ fn storage(storage: &Storage) -> Field {
 
 fn value(value: &Value) -> Field {
     let content = Content::of(value.raw);
-    let (called, number, name) = match value.name {
-        ValueName::Number(number) => (number.to_string(), Json::number(number), Json::Null),
-        ValueName::Bytes(name) => (named(name), Json::Null, text_json(&Text::of(true, name))),
+    let (number, name) = match value.name {
+        ValueName::Number(number) => (Json::number(number), Json::Null),
+        ValueName::Bytes(name) => (Json::Null, text_json(&Text::of(true, name))),
     };
     let json = Json::object([
         ("number", number),
@@ -33,7 +33,15 @@ fn value(value: &Value) -> Field {
         ("content", content.json()),
         ("raw", Json::string(Hex(value.raw))),
     ]);
-    Field::new("value", format!("{}: {}", called, content), json)
+    Field::new("value", format!("{}: {}", called(value.name), content), json)
+}
+
+/// What a value is known by: its number or its name.
+pub(crate) fn called(name: ValueName) -> String {
+    match name {
+        ValueName::Number(number) => number.to_string(),
+        ValueName::Bytes(name) => named(name),
+    }
 }
 
 /// A name that is a text of 16-bit units with its terminator, in quotes; any other as bytes.

@@ -1,5 +1,8 @@
 //! What several tests need: running programs for x86-64 on any machine, and a folder of their own.
 #![allow(dead_code)]
+pub mod everything;
+pub mod examples;
+pub mod pairs;
 pub mod shortcuts;
 
 use std::env;

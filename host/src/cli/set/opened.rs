@@ -1,5 +1,5 @@
 //! A shortcut that was read, and its parts one by one: each with its name, its bytes, and what a person reads.
-use herringnet::record::{Info, Label, Local, Network, Window};
+use herringnet::record::{Info, Label, Local, Network};
 use herringnet::show::names;
 use herringnet::show::text::{quoted_bytes, quoted_units, Hex};
 use herringnet::show::time::Time;
@@ -99,7 +99,7 @@ impl<'a> Opened<'a> {
         let index = header.icon_index;
         parts.push(Part::number("icon index", Some(index as u64), |_| index.to_string()));
         let window = header.window();
-        parts.push(Part::number("show command", Some(header.command.into()), |n| format!("{} ({})", word(window), n)));
+        parts.push(Part::number("show command", Some(header.command.into()), |n| format!("{} ({})", window.word(), n)));
         let key = |key: u64| format!("{} (0x{:04X})", names::hotkey(key as u16), key);
         parts.push(Part::number("hot key", Some(header.hotkey.into()), key));
     }
@@ -125,14 +125,6 @@ impl<'a> Opened<'a> {
 /// The kind of a block, if it holds a path.
 pub fn kind_of(block: &[u8]) -> Option<PathKind> {
     PathKind::ALL.into_iter().find(|kind| kind.signature() == signature(block))
-}
-
-fn word(window: Window) -> &'static str {
-    match window {
-        Window::Normal => "normal",
-        Window::Maximised => "maximised",
-        Window::Minimised => "minimised",
-    }
 }
 
 fn info(info: Option<&Info>, parts: &mut Vec<Part>) {
