@@ -42,7 +42,7 @@ struct Call {
     independent: Side,
 }
 
-const CALLS: [Call; 12] = [
+const CALLS: [Call; 13] = [
     Call {
         name: "check",
         proved: |case| proved::check(&case.shortcut, 0),

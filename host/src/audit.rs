@@ -179,7 +179,8 @@ impl Auditor {
         self.found.unread.push(UnreadFile { path, error });
     }
 
-    fn look(&mut self, path: PathBuf, shortcut: &[u8]) {
+    /// Keeps what is needed of a file with these bytes. It is read again if it shares its key.
+    pub fn look(&mut self, path: PathBuf, shortcut: &[u8]) {
         self.found.files += 1;
         let looked = key_under(shortcut, self.profile).and_then(|key| Ok((key, self.blind(shortcut)?)));
         let (key, spots) = match looked {

@@ -17,6 +17,7 @@ mod blind;
 pub mod boundary;
 pub mod difference;
 pub mod fields;
+pub mod hex;
 pub mod json;
 mod path;
 mod profile;

@@ -4,7 +4,7 @@ use crate::refusal::{answer, Refusal};
 use crate::{Profile, LONGEST};
 
 /// The numbers of a row of the boundary's list (FORMAT: Store list).
-const ROW: usize = 6;
+pub(crate) const ROW: usize = 6;
 
 /// The fewest bytes that a row stands for, those of a value.
 const VALUE: usize = 9;
@@ -70,12 +70,8 @@ impl<'a> Store<'a> {
     ///
     /// As [`check_under`](crate::check_under).
     pub fn read_under(shortcut: &'a [u8], profile: Profile) -> Result<Store<'a>, Refusal> {
-        let mut rows = vec![0; ROW * (shortcut.len().min(LONGEST) / VALUE)];
-        let count = answer(boundary::store_list(shortcut, &mut rows, profile.number()))?;
         let mut store = Store::default();
-        for row in rows.chunks_exact(ROW).take(count) {
-            store.add(row, shortcut);
-        }
+        rows(shortcut, profile)?.chunks_exact(ROW).for_each(|row| store.add(row, shortcut));
         Ok(store)
     }
 
@@ -159,6 +155,14 @@ impl<'a> Storage<'a> {
         self.values.push(Value { name: ValueName::Bytes(name), raw });
         self
     }
+}
+
+/// The rows of the boundary's list, end to end.
+pub(crate) fn rows(shortcut: &[u8], profile: Profile) -> Result<Vec<u64>, Refusal> {
+    let mut rows = vec![0; ROW * (shortcut.len().min(LONGEST) / VALUE)];
+    let count = answer(boundary::store_list(shortcut, &mut rows, profile.number()))?;
+    rows.truncate(ROW * count);
+    Ok(rows)
 }
 
 /// Rows, and the bytes that their places lead to.

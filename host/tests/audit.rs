@@ -306,6 +306,7 @@ fn of_the_pages(name: &str) -> Shortcuts {
 fn the_pages_show_what_is_printed() {
     prints(&of_the_pages("audit_page"), include_str!("../../docs/AUDIT.md"), 6);
     prints(&of_the_pages("key_page"), include_str!("../../docs/KEY.md"), 10);
+    prints(&of_the_pages("look_page"), include_str!("../../docs/LOOK.md"), 1);
 }
 
 /// Every file of one key: what is compared pair by pair would take minutes.

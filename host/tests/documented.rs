@@ -19,7 +19,7 @@ macro_rules! examples {
     };
 }
 
-examples! { audit blind check difference fault key moves overview path record salvage sections shelf store target }
+examples! { audit blind check difference fault hex key moves overview path record salvage sections shelf store target }
 
 fn texts(folder: &str) -> Vec<(String, String)> {
     let folder = Path::new(env!("CARGO_MANIFEST_DIR")).join(folder);

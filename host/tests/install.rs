@@ -168,8 +168,9 @@ fn completed(prefix: &Path, words: &[&str]) -> Vec<String> {
 }
 
 /// All commands, in the order of help.
-const COMMANDS: [&str; 13] = [
-    "check", "list", "target", "key", "show", "store", "diff", "audit", "rewrite", "set", "move", "shelf", "salvage",
+const COMMANDS: [&str; 15] = [
+    "check", "list", "target", "key", "show", "hex", "store", "diff", "audit", "report", "rewrite", "set", "move",
+    "shelf", "salvage",
 ];
 
 #[test]
@@ -181,7 +182,8 @@ fn bash_completes_words() {
         let profile = if ["shelf", "salvage"].contains(&command) { "" } else { "--profile" };
         assert_eq!(completed(&prefix, &["herringnet", command, "--pro"]), [profile]);
     }
-    assert_eq!(completed(&prefix, &["herringnet", "re"]), ["rewrite"]);
+    assert_eq!(completed(&prefix, &["herringnet", "re"]), ["report", "rewrite"]);
+    assert_eq!(completed(&prefix, &["herringnet", "hex", "--al"]), ["--all-files", "--all"]);
     assert_eq!(completed(&prefix, &["herringnet", "help", "k"]), ["key"]);
     assert_eq!(completed(&prefix, &["herringnet", "check", "--j"]), ["--json"]);
     assert_eq!(completed(&prefix, &["herringnet", "rewrite", "--j"]), [""]);

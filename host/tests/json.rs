@@ -11,7 +11,7 @@ use herringnet::{check, Text};
 use schema::{misfit, misfit_of_all, parse, schema, Value};
 use std::collections::BTreeSet;
 
-const COMMANDS: [&str; 6] = ["check", "list", "target", "key", "show", "store"];
+const COMMANDS: [&str; 7] = ["check", "list", "target", "key", "show", "hex", "store"];
 
 /// The lines as values.
 fn values(out: &[u8]) -> Vec<Value> {
@@ -21,6 +21,7 @@ fn values(out: &[u8]) -> Vec<Value> {
 /// The definition that a line of a command has to fit.
 fn definition<'a>(command: &'a str, value: &'a Value) -> &'a str {
     match value.get("status").unwrap().text() {
+        "ok" if command == "hex" => "hex_lines",
         "ok" => command,
         status => status,
     }
@@ -74,7 +75,8 @@ fn refusals_and_failures_are_objects() {
     let field = "{\"structure\":\"TerminalBlock\",\"start\":76,\"name\":\"TerminalBlock\",\"bytes\":\"000000\",\
                  \"wrong\":\"is cut off: 3 of its 4 bytes stand before the file's end\"}";
     let none = "{\"file\":\"none.lnk\",\"status\":\"failed\",\"error\":\"No such file or directory\"}\n";
-    for command in COMMANDS {
+    // The lines that `hex` adds are tested with it.
+    for command in COMMANDS.into_iter().filter(|command| *command != "hex") {
         let more = match command {
             "check" => format!(",\"section\":\"end\",\"start\":76,\"field\":{}", field),
             _ => String::new(),

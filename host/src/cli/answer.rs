@@ -2,6 +2,7 @@
 use super::command::Command;
 use super::input::Input;
 use super::shelf::explained;
+use herringnet::hex::{self, annotated_under, Annotated, Line, Style};
 use herringnet::json::Json;
 use herringnet::shelf::bad_entry;
 use herringnet::show::field::{members, text_json, Field};
@@ -23,6 +24,8 @@ pub enum Answer<'a> {
     /// The keys of all entries of a shelf.
     Keys(Vec<Key>),
     Fields(Vec<Field>),
+    /// The shortcut, and its bytes line by line.
+    Lines(&'a [u8], Vec<Line>),
 }
 
 /// A key, and where it does not tell the driver.
@@ -68,21 +71,31 @@ impl<'a> Answer<'a> {
             Command::Key => Key::of(shortcut, profile).map(Answer::Key),
             Command::Show => shown_under(shortcut, profile).map(Answer::Fields),
             Command::Store => Store::read_under(shortcut, profile).map(|store| Answer::Fields(vec![storages(&store)])),
-            Command::Diff | Command::Audit => return None,
+            Command::Hex => return Some(Answer::annotated(shortcut, profile)),
+            Command::Diff | Command::Audit | Command::Report => return None,
             Command::Rewrite | Command::Set | Command::Move | Command::Shelf | Command::Salvage => return None,
         };
         Some(answer.map_err(|refusal| Refused::new(command, (shortcut, profile), refusal)))
+    }
+
+    /// The bytes line by line, of a refused shortcut too.
+    fn annotated(shortcut: &'a [u8], profile: Profile) -> Result<Answer<'a>, Refused<'a>> {
+        let Annotated { lines, spot, .. } = annotated_under(shortcut, profile);
+        match spot {
+            Some(spot) => Err(Refused { refusal: spot.refusal, shortcut, spot: Some(spot), lines, on_shelf: false }),
+            None => Ok(Answer::Lines(shortcut, lines)),
+        }
     }
 
     /// The keys of all entries of a shelf.
     pub fn on_shelf(bytes: &'a [u8]) -> Result<Answer<'a>, Refused<'a>> {
         let key = |entry| Key::of(entry, Profile::Strict);
         let keys = Shelf::read(bytes).and_then(|shelf| shelf.entries().map(key).collect());
-        keys.map(Answer::Keys).map_err(|refusal| Refused { refusal, shortcut: bytes, spot: None, on_shelf: true })
+        keys.map(Answer::Keys).map_err(|refusal| Refused { on_shelf: true, ..Refused::plain(bytes, refusal) })
     }
 
     /// The lines, without the last line feed.
-    pub fn text(&self) -> String {
+    pub fn text(&self, style: Style) -> String {
         match self {
             Answer::Accepted(length) => format!("ok {}", length),
             Answer::Listing(sections) => listed(sections).trim_end().to_string(),
@@ -90,6 +103,7 @@ impl<'a> Answer<'a> {
             Answer::Key(key) => Hex(&key.bytes).to_string(),
             Answer::Keys(keys) => keys.iter().map(|key| format!("{}\n", Hex(&key.bytes))).collect::<String>(),
             Answer::Fields(fields) => lines(fields).trim_end().to_string(),
+            Answer::Lines(shortcut, lines) => hex::text(lines, shortcut, style).trim_end().to_string(),
         }
     }
 
@@ -138,6 +152,9 @@ impl<'a> Answer<'a> {
                 [one("keys", keys), self.blind_member()].concat()
             }
             Answer::Fields(fields) => members(fields).collect(),
+            Answer::Lines(shortcut, lines) => {
+                [one("length", Json::number(shortcut.len() as u64)), one("lines", hex::json(lines, shortcut))].concat()
+            }
         }
     }
 }
@@ -154,7 +171,7 @@ fn section_json(section: &Section) -> Json {
 pub fn object(input: &Input, answer: &Result<Answer, Refused>) -> Json {
     match answer {
         Ok(answer) => with_status(input, "ok", answer.members()),
-        Err(refused) => with_status(input, "refused", vec![("refusal".to_string(), refused.json())]),
+        Err(refused) => with_status(input, "refused", refused.members()),
     }
 }
 
@@ -194,12 +211,14 @@ fn with_status(input: &Input, status: &str, mut members: Vec<(String, Json)>) ->
     Json::Object(all)
 }
 
-/// A refusal, and what `check` says beside it.
+/// A refusal, and what `check` and `hex` say beside it.
 pub struct Refused<'a> {
     pub refusal: Refusal,
     shortcut: &'a [u8],
     /// The section at fault, if the command says it.
     spot: Option<Spot>,
+    /// The bytes line by line, if the command says them.
+    lines: Vec<Line>,
     /// Whether it is a shelf that is refused.
     on_shelf: bool,
 }
@@ -207,7 +226,24 @@ pub struct Refused<'a> {
 impl<'a> Refused<'a> {
     pub fn new(command: Command, (shortcut, profile): (&'a [u8], Profile), refusal: Refusal) -> Refused<'a> {
         let spot = if command == Command::Check { fault_under(shortcut, profile) } else { None };
-        Refused { refusal, shortcut, spot, on_shelf: false }
+        Refused { spot, ..Refused::plain(shortcut, refusal) }
+    }
+
+    /// A refusal with nothing beside it.
+    fn plain(shortcut: &'a [u8], refusal: Refusal) -> Refused<'a> {
+        Refused { refusal, shortcut, spot: None, lines: Vec::new(), on_shelf: false }
+    }
+
+    /// The lines of the bytes.
+    pub fn lines(&self, style: Style) -> String {
+        hex::text(&self.lines, self.shortcut, style).trim_end().to_string()
+    }
+
+    /// The members of the JSON object.
+    fn members(&self) -> Vec<(String, Json)> {
+        let refusal = ("refusal".to_string(), self.json());
+        let lines = (!self.lines.is_empty()).then(|| ("lines".to_string(), hex::json(&self.lines, self.shortcut)));
+        std::iter::once(refusal).chain(lines).collect()
     }
 
     /// The words of a line.

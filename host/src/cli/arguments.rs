@@ -118,6 +118,7 @@ struct Given {
     json: bool,
     raw: bool,
     hex: bool,
+    all: bool,
     changes: given::Given,
     /// The ways to move, true for Unicode.
     ways: Vec<bool>,
@@ -160,6 +161,7 @@ impl Given {
             Asks::Json => self.json = true,
             Asks::Raw => self.raw = true,
             Asks::Hex => self.hex = true,
+            Asks::All => self.all = true,
             Asks::Shelf => self.shelf = true,
             Asks::NoBlind => self.no_blind = true,
             Asks::Diff => self.diff = true,
@@ -182,7 +184,7 @@ impl Given {
     fn plan(mut self, command: Command) -> Result<Plan, String> {
         self.diff |= command == Command::Diff;
         let is_alone = self.inputs.is_empty() && self.lists.is_empty() && !self.recursive;
-        if is_alone && !self.diff && command != Command::Audit {
+        if is_alone && !self.diff && ![Command::Audit, Command::Report].contains(&command) {
             self.inputs.push(Input::Standard);
         }
         let several = self.recursive || !self.lists.is_empty() || self.inputs.len() > 1;
@@ -204,6 +206,7 @@ impl Given {
             json: self.json,
             raw: self.raw,
             hex: self.hex,
+            all: self.all,
             to_unicode: self.ways.pop().unwrap_or(false),
             shelf: self.shelf,
             no_blind: self.no_blind,
@@ -256,9 +259,9 @@ impl Given {
             (self.raw && (self.json || self.zero), "--raw excludes --json and -0"),
             (self.raw && several, "--raw takes one input"),
             (self.hex && self.json, "--hex excludes --json"),
-            (several && to_one_file, "-o takes one input"),
+            (several && to_one_file && command.writes_shortcuts(), "-o takes one input"),
             (
-                command.writes() && several && !beside && !self.changes.is_dry(),
+                command.writes_shortcuts() && several && !beside && !self.changes.is_dry(),
                 "without --in-place or --suffix there can be one input",
             ),
             (beside && standard, "--in-place and --suffix need files"),
@@ -272,6 +275,8 @@ impl Given {
             (self.diff && self.inputs.len() != 2, "two FILEs are compared"),
             (command == Command::Audit && standard, "audit reads files twice, and standard input cannot be"),
             (command == Command::Audit && !several && self.inputs.is_empty(), "audit needs a FILE"),
+            (command == Command::Report && standard, "report reads files twice, and standard input cannot be"),
+            (command == Command::Report && !several && self.inputs.is_empty(), "report needs a FILE"),
             (command == Command::Move && self.ways.len() != 1, "move needs one of --to-unicode and --to-bytes"),
         ];
         wrong.iter().find(|(is_wrong, _)| *is_wrong).map(|(_, why)| *why)

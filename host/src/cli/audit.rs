@@ -89,7 +89,7 @@ fn differing(member: &Member) -> String {
 }
 
 /// What the exit status has to tell.
-fn note(audit: &Audit, console: &mut Console) {
+pub fn note(audit: &Audit, console: &mut Console) {
     let found = [
         (audit.blind.is_empty(), Outcome::Blind),
         (audit.refused.is_empty(), Outcome::Refused),
@@ -100,7 +100,7 @@ fn note(audit: &Audit, console: &mut Console) {
 }
 
 /// The line that counts everything.
-fn summary(audit: &Audit) -> String {
+pub fn summary(audit: &Audit) -> String {
     let files = format!(
         "{}: {} accepted, {} refused, {} unread, {} blind, {} with values in the store",
         counted(audit.files, "file"),

@@ -8,9 +8,11 @@ pub enum Command {
     Target,
     Key,
     Show,
+    Hex,
     Store,
     Diff,
     Audit,
+    Report,
     Rewrite,
     Set,
     Move,
@@ -28,7 +30,7 @@ struct Page {
     text: &'static str,
 }
 
-const PAGES: [Page; 13] = [
+const PAGES: [Page; 15] = [
     Page {
         word: "check",
         line: "say of each shortcut whether it is accepted, or which field is wrong, and why",
@@ -103,6 +105,24 @@ colon stands before each.
 ",
     },
     Page {
+        word: "hex",
+        line: "print the bytes with their meaning beside them, field by field",
+        usage: &["[FILE].."],
+        text: "\
+Prints a line for each field of a shortcut, structure by structure: its place in hex, its bytes, its
+name in MS-SHLLINK, of a property store in MS-PROPSTORE, and its value as show prints it:
+    0034  00 10 00 00                                         FileSize                          4096
+The lines lie end to end, from the first byte to the last. Bytes between the pieces of LinkInfo are
+gaps, and bytes that no rule looks at are skipped. A line with more than 16 bytes is folded: two
+dots stand for the others, and its length is told.
+Of a refused shortcut the first line is that of check. The field found wrong begins with >, and says
+what is wrong. Bytes that nobody judged begin with ?. All other lines are of what was found right
+before the fault. Of a file with more than 65,536 bytes no more than 65,537 are looked at.
+On a terminal lines have colours, unless NO_COLOR is set. With several files a line with the file's
+name and a colon stands before each.
+",
+    },
+    Page {
         word: "store",
         line: "print the property store: formats, numbers or names, and values",
         usage: &["[FILE].."],
@@ -144,6 +164,21 @@ Looks at many shortcuts together, and prints what is found, then one line that c
   audit: how many of each
 The status is 0 only if no key is shared by more than one possible driver and no file is blind,
 refused or unread. Values in a property store are in no key; they count as naming the driver.
+",
+    },
+    Page {
+        word: "report",
+        line: "write a page for a browser: a row for each shortcut, shared keys, refused ones with their bytes",
+        usage: &["-o PAGE FILE..", "-r -o PAGE FOLDER.."],
+        text: "\
+Looks at many shortcuts as audit does, and writes one page in HTML: on top how many were accepted,
+refused and blind and which share a key; then a row for each shortcut with its verdict, its target,
+its arguments, the SHA-256 of its key and the core's name; then the files that share a key beside
+each other, with what differs marked; then the refused ones, with the bytes around the fault as hex
+prints them. The page needs no other file, fetches nothing and runs nothing.
+As the core's name it has the values of the property store whose name has the word core in it; where
+there is none, the first three texts of the store, each with its name or number.
+Without -o, or with -o -, the page goes to standard output. The status is that of audit.
 ",
     },
     Page {
@@ -261,15 +296,17 @@ only with a copy of the damaged file beside it.
 
 impl Command {
     /// All of them, each at its number.
-    pub const ALL: [Command; 13] = [
+    pub const ALL: [Command; 15] = [
         Command::Check,
         Command::List,
         Command::Target,
         Command::Key,
         Command::Show,
+        Command::Hex,
         Command::Store,
         Command::Diff,
         Command::Audit,
+        Command::Report,
         Command::Rewrite,
         Command::Set,
         Command::Move,
@@ -309,11 +346,16 @@ impl Command {
 
     /// Whether it writes files, so that it goes on when nobody reads its lines.
     pub fn writes(self) -> bool {
+        self == Command::Report || self.writes_shortcuts()
+    }
+
+    /// Whether it writes shortcuts, or shelves of them.
+    pub fn writes_shortcuts(self) -> bool {
         matches!(self, Command::Rewrite | Command::Set | Command::Move | Command::Shelf | Command::Salvage)
     }
 
     /// Whether a refusal is its answer, and not a complaint.
     pub fn answers_refusals(self) -> bool {
-        matches!(self, Command::Check | Command::List)
+        matches!(self, Command::Check | Command::List | Command::Hex)
     }
 }

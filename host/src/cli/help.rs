@@ -3,14 +3,14 @@ use super::command::Command;
 use super::options::choices;
 
 /// What the exit statuses mean.
-pub const STATUS: &str =
-    "  0  every shortcut was accepted; of diff and key --diff: both are equal; of audit: nothing found
+pub const STATUS: &str = "  0  every shortcut was accepted; of diff and key --diff: both are equal; of audit and
+     report: nothing found
   1  a shortcut was refused
   2  the command line makes no sense, and nothing was done
   3  a file could not be read or written, or lines of output were lost
-  4  of key --no-blind and audit: the key of a shortcut does not tell the driver
-  5  of diff and key --diff: they differ; of audit: files that share a key differ in what could
-     name the driver
+  4  of key --no-blind, audit and report: the key of a shortcut does not tell the driver
+  5  of diff and key --diff: they differ; of audit and report: files that share a key differ in
+     what could name the driver
 Where several hold, it is the first of 3, 5, 1, 4. One file's fault does not keep the others from
 being done.
 ";

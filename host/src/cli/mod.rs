@@ -10,6 +10,7 @@ mod help;
 mod input;
 mod manual;
 mod options;
+mod report;
 mod run;
 mod saved;
 mod set;

@@ -13,6 +13,7 @@ pub enum Asks {
     Json,
     Raw,
     Hex,
+    All,
     Shelf,
     NoBlind,
     Diff,
@@ -52,6 +53,7 @@ const PRINTING: &[Command] = &[
     Command::Target,
     Command::Key,
     Command::Show,
+    Command::Hex,
     Command::Store,
     Command::Diff,
     Command::Audit,
@@ -63,8 +65,10 @@ const EACH: &[Command] = &[
     Command::Target,
     Command::Key,
     Command::Show,
+    Command::Hex,
     Command::Store,
     Command::Audit,
+    Command::Report,
     Command::Rewrite,
     Command::Set,
     Command::Move,
@@ -77,9 +81,11 @@ const PROFILED: &[Command] = &[
     Command::Target,
     Command::Key,
     Command::Show,
+    Command::Hex,
     Command::Store,
     Command::Diff,
     Command::Audit,
+    Command::Report,
     Command::Rewrite,
     Command::Set,
     Command::Move,
@@ -88,7 +94,7 @@ const WRITING: &[Command] = &[Command::Rewrite, Command::Set, Command::Move, Com
 const MOVE: &[Command] = &[Command::Move];
 
 /// All options but those of `set` alone, in the order of help.
-const CHOICES: [Choice; 18] = [
+const CHOICES: [Choice; 19] = [
     Choice {
         asks: Asks::Recursive,
         words: &["-r", "--recursive"],
@@ -165,6 +171,13 @@ const CHOICES: [Choice; 18] = [
         ],
     },
     Choice {
+        asks: Asks::All,
+        words: &["--all"],
+        value: None,
+        commands: &[Command::Hex],
+        lines: &["fold no line: print all bytes and all of each value; JSON has them always"],
+    },
+    Choice {
         asks: Asks::Shelf,
         words: &["--shelf"],
         value: None,
@@ -199,7 +212,7 @@ const CHOICES: [Choice; 18] = [
         asks: Asks::Output,
         words: &["-o", "--output"],
         value: Some("OUTPUT"),
-        commands: &[Command::Rewrite, Command::Set, Command::Move, Command::Salvage, Command::Shelf],
+        commands: &[Command::Report, Command::Rewrite, Command::Set, Command::Move, Command::Salvage, Command::Shelf],
         lines: &["write to OUTPUT; an older file there is replaced; - is standard output"],
     },
     Choice {

@@ -7,9 +7,12 @@ use super::input::{reason, Input};
 use super::saved::{lost, said};
 use super::set::Setting;
 use super::walk::Walk;
+use herringnet::boundary::system::is_terminal;
+use herringnet::hex::Style;
 use herringnet::show::text::Hex;
 use herringnet::{salvage, to_bytes_under, to_unicode_under, unmapped_under};
 use herringnet::{Fault, Profile, Record, Refusal};
+use std::env;
 use std::ffi::OsString;
 use std::io;
 use std::path::{Path, PathBuf};
@@ -35,6 +38,8 @@ pub struct Run {
     pub json: bool,
     pub raw: bool,
     pub hex: bool,
+    /// Whether no line of bytes is folded.
+    pub all: bool,
     /// The way of a move.
     pub to_unicode: bool,
     /// Whether each input is a shelf.
@@ -66,6 +71,7 @@ impl Run {
         match self.listed() {
             Ok(inputs) if self.diff => self.compare(&inputs, &mut console),
             Ok(inputs) if self.command == Command::Audit => self.audit(inputs, &mut console),
+            Ok(inputs) if self.command == Command::Report => self.report(inputs, &mut console),
             Ok(inputs) => self.each(inputs, &mut console),
             Err((list, error)) => self.unread(&list, &error, &mut console),
         }
@@ -144,7 +150,7 @@ impl Run {
                     self.print(input, &format!("{} {}", Hex(&key.bytes), number), console);
                 }
             }
-            Ok(answer) => self.print(input, &answer.text(), console),
+            Ok(answer) => self.print(input, &answer.text(self.style()), console),
             Err(refused) if self.command.answers_refusals() => {
                 self.print(input, &self.refused(&refused), console);
             }
@@ -172,9 +178,16 @@ impl Run {
     fn refused(&self, refused: &Refused) -> String {
         match self.command {
             Command::List => format!("refused {} {}", refused.refusal.number(), refused.refusal.position),
+            Command::Hex => format!("{}\n{}", refused.text(), refused.lines(self.style())),
             _ if self.hex => format!("{}{}", refused.text(), refused.dump()),
             _ => refused.text(),
         }
+    }
+
+    /// How the lines of bytes are printed: with colours for a person, if nothing in the environment forbids them.
+    fn style(&self) -> Style {
+        let forbidden = env::var_os("NO_COLOR").map_or(false, |value| !value.is_empty());
+        Style { all: self.all, colour: !forbidden && is_terminal(&io::stdout()) }
     }
 
     pub fn unread(&self, input: &Input, error: &io::Error, console: &mut Console) {
@@ -197,14 +210,16 @@ impl Run {
                 [&name, &b": "[..], text].concat()
             }
             Command::Target if self.several => [&name, &b": "[..], one_colon(text).as_bytes()].concat(),
-            Command::List | Command::Show | Command::Store if self.several => {
+            Command::List | Command::Show | Command::Hex | Command::Store if self.several => {
                 // An empty line stands between two inputs, unless zero bytes part them.
                 let gap: &[u8] = if console.has_written() && !self.zero { b"\n" } else { b"" };
                 [gap, &name, b":\n", text].concat()
             }
-            Command::Target | Command::List | Command::Show | Command::Store | Command::Shelf => text.to_vec(),
+            Command::Target | Command::List | Command::Show | Command::Hex | Command::Store | Command::Shelf => {
+                text.to_vec()
+            }
             // These print no answer about one input.
-            Command::Diff | Command::Audit => text.to_vec(),
+            Command::Diff | Command::Audit | Command::Report => text.to_vec(),
         });
     }
 

@@ -103,6 +103,11 @@ impl Field {
         Field::new(name, line, json)
     }
 
+    /// The value in its line.
+    pub fn line(&self) -> &str {
+        &self.line
+    }
+
     /// The lines of the field and of what is inside it.
     pub fn lines(&self, indent: usize, out: &mut String) {
         let name = format!("{:indent$}{}", "", self.name, indent = indent);

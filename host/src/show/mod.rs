@@ -77,11 +77,26 @@ fn header(header: &Header, fields: &mut Vec<Field>) {
     fields.push(Field::time("write time", header.write));
     fields.push(Field::number("file size", header.file_size));
     fields.push(Field::number("icon index", header.icon_index));
-    let window = header.window().word();
-    let line = format!("{} ({} window)", header.command, window);
-    fields.push(numbered("show command", header.command, line, "window", window));
-    let key = names::hotkey(header.hotkey);
-    fields.push(numbered("hot key", header.hotkey.into(), &key, "name", &key));
+    fields.push(show_command(header.command));
+    fields.push(hot_key(header.hotkey));
+}
+
+/// ShowCommand with its window.
+pub(crate) fn show_command(command: u32) -> Field {
+    let window = (Header { command, ..Header::default() }).window().word();
+    numbered("show command", command, format!("{} ({} window)", command, window), "window", window)
+}
+
+/// HotKey by its keys.
+pub(crate) fn hot_key(number: u16) -> Field {
+    let key = names::hotkey(number);
+    numbered("hot key", number.into(), &key, "name", &key)
+}
+
+/// A drive type by its name.
+pub(crate) fn drive_type(number: u32) -> Field {
+    let name = names::drive(number);
+    numbered("drive type", number, format!("{} ({})", number, name), "name", name)
 }
 
 /// A number with a word for it.
@@ -113,8 +128,7 @@ fn info(start: usize, info: &Info) -> Field {
 }
 
 fn local(local: &Local, fields: &mut Vec<Field>) {
-    let drive = names::drive(local.drive);
-    fields.push(numbered("drive type", local.drive, format!("{} ({})", local.drive, drive), "name", drive));
+    fields.push(drive_type(local.drive));
     fields.push(Field::hex("drive serial", local.serial));
     fields.push(match local.label {
         Label::Byte(label) => Field::bytes("volume label", label),

@@ -50,6 +50,12 @@ const ATTRIBUTES: [&str; 15] = [
     "ENCRYPTED",
 ];
 
+/// LinkInfoFlags, bit 0 first (section 2.3).
+const INFO_FLAGS: [&str; 2] = ["VolumeIDAndLocalBasePath", "CommonNetworkRelativeLinkAndPathSuffix"];
+
+/// CommonNetworkRelativeLinkFlags, bit 0 first (section 2.3.2).
+const NETWORK_FLAGS: [&str; 2] = ["ValidDevice", "ValidNetType"];
+
 /// Drive types from 0 (section 2.3.1).
 const DRIVES: [&str; 7] = ["unknown", "no root directory", "removable", "fixed", "remote", "CD-ROM", "RAM disk"];
 
@@ -84,6 +90,16 @@ pub fn link_flags(flags: u32) -> Vec<&'static str> {
 /// FileAttributes by name.
 pub fn attributes(attributes: u32) -> Vec<&'static str> {
     bits(attributes, &ATTRIBUTES)
+}
+
+/// LinkInfoFlags by name.
+pub fn info_flags(flags: u32) -> Vec<&'static str> {
+    bits(flags, &INFO_FLAGS)
+}
+
+/// CommonNetworkRelativeLinkFlags by name.
+pub fn network_flags(flags: u32) -> Vec<&'static str> {
+    bits(flags, &NETWORK_FLAGS)
 }
 
 /// A drive type by name.

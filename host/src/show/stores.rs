@@ -37,7 +37,7 @@ fn value(value: &Value) -> Field {
 }
 
 /// What a value is known by: its number or its name.
-pub(crate) fn called(name: ValueName) -> String {
+pub fn called(name: ValueName) -> String {
     match name {
         ValueName::Number(number) => number.to_string(),
         ValueName::Bytes(name) => named(name),
@@ -45,7 +45,7 @@ pub(crate) fn called(name: ValueName) -> String {
 }
 
 /// A name that is a text of 16-bit units with its terminator, in quotes; any other as bytes.
-fn named(name: &[u8]) -> String {
+pub(crate) fn named(name: &[u8]) -> String {
     match name.strip_suffix(&[0, 0]) {
         _ if name.is_empty() => "empty".to_string(),
         Some(text) if text.len() % 2 == 0 => quoted_units(text),

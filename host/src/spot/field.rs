@@ -1,6 +1,8 @@
-//! The fields that reading can find wrong, by the names of MS-SHLLINK and, of a property store, MS-PROPSTORE.
+//! The fields that stand at fixed offsets of their structure, by the names of MS-SHLLINK and, of a property store,
+//! MS-PROPSTORE, with the rules by which reading can find them wrong.
+use super::form::Form;
 use super::part::{parts, Kind, Part};
-use super::rule::{Rule, CLASS};
+use super::rule::{is_leftover, Rule, CLASS};
 use super::Spot;
 use std::fmt;
 use std::ops::Range;
@@ -38,66 +40,123 @@ enum Where {
     In(&'static [u32]),
     /// Inside the size of its part: the zero size that ends a store or a storage is a part without further fields.
     Within,
+    /// The same in a value that has a name.
+    Named,
+    /// The same in a value that has a number.
+    Numbered,
 }
 
+use Form::{
+    AttributeBits, Command, Drive, Held, Hex, Identifiers, InfoBits, LinkBits, NetworkBits, Number, Raw, Signed, Stamp,
+    Time, Words,
+};
 use Rule::{
-    Apart, AtLeast, AtMost, Attributes, Bytes, Clear, Ended, Fits, Head, HotKey, Is, Label, Name, Once, Present,
+    Apart, AtLeast, AtMost, Attributes, Bytes, Clear, Ended, Fits, Head, HotKey, Is, Kept, Label, Name, Once, Present,
     Signature, Structure, Text, Walked,
 };
-use Where::{Everywhere, In, LongHead, Within};
+use Where::{Everywhere, In, LongHead, Named, Numbered, Within};
 
-/// A field: structure, offset, width, name, where it exists, and its rules in the order of the tests.
-struct Row(Kind, usize, usize, &'static str, Where, &'static [Rule]);
+/// A field: structure, offset, width, name, where it exists, its rules in the order of the tests, and how its value is
+/// said.
+struct Row(Kind, usize, usize, &'static str, Where, &'static [Rule], Form);
 
 /// The environment and the icon block, whose texts have the same names.
 const TARGETS: &[u32] = &[0xA000_0001, 0xA000_0007];
 const DARWIN: &[u32] = &[0xA000_0006];
+const CONSOLE: &[u32] = &[0xA000_0002];
+const TRACKER: &[u32] = &[0xA000_0003];
+const CONSOLE_FE: &[u32] = &[0xA000_0004];
+const SPECIAL: &[u32] = &[0xA000_0005];
+const KNOWN: &[u32] = &[0xA000_000B];
 
 /// The bits of both flag fields in LinkInfo that are to be clear.
 const ABOVE_1: u32 = !3;
 
 #[rustfmt::skip]
-const ROWS: [Row; 40] = [
-    Row(Kind::Header, 0, 4, "HeaderSize", Everywhere, &[Is(0x4C)]),
-    Row(Kind::Header, 4, 16, "LinkCLSID", Everywhere, &[Bytes(&CLASS)]),
-    Row(Kind::Header, 20, 4, "LinkFlags", Everywhere, &[Clear(0xF800_0000)]),
-    Row(Kind::Header, 24, 4, "FileAttributes", Everywhere, &[Attributes]),
-    Row(Kind::Header, 64, 2, "HotKey", Everywhere, &[HotKey]),
-    Row(Kind::Header, 66, 10, "Reserved1 to Reserved3", Everywhere, &[Bytes(&[0; 10])]),
-    Row(Kind::List, 0, 2, "IDListSize", Everywhere, &[Fits]),
-    Row(Kind::Items, 0, 2, "ItemIDSize", Everywhere, &[Walked(2)]),
-    Row(Kind::Info, 0, 4, "LinkInfoSize", Everywhere, &[AtLeast(0x1C), Fits]),
-    Row(Kind::Info, 4, 4, "LinkInfoHeaderSize", Everywhere, &[Head]),
-    Row(Kind::Info, 8, 4, "LinkInfoFlags", Everywhere, &[Clear(ABOVE_1)]),
-    Row(Kind::Info, 12, 4, "VolumeIDOffset", Everywhere, &[Present(0), Structure]),
-    Row(Kind::Info, 16, 4, "LocalBasePathOffset", Everywhere, &[Present(0), Text(1), Apart]),
-    Row(Kind::Info, 20, 4, "CommonNetworkRelativeLinkOffset", Everywhere, &[Present(1), Structure, Apart]),
-    Row(Kind::Info, 24, 4, "CommonPathSuffixOffset", Everywhere, &[Text(1), Apart]),
-    Row(Kind::Info, 28, 4, "LocalBasePathOffsetUnicode", LongHead, &[Present(0), Text(2), Apart]),
-    Row(Kind::Info, 32, 4, "CommonPathSuffixOffsetUnicode", LongHead, &[Text(2), Apart]),
-    Row(Kind::Volume, 0, 4, "VolumeIDSize", Everywhere, &[AtLeast(0x11)]),
-    Row(Kind::Volume, 4, 4, "DriveType", Everywhere, &[AtMost(6)]),
-    Row(Kind::Volume, 12, 4, "VolumeLabelOffset", Everywhere, &[Label]),
-    Row(Kind::Volume, 16, 4, "VolumeLabelOffsetUnicode", LongHead, &[Text(2)]),
-    Row(Kind::Network, 0, 4, "CommonNetworkRelativeLinkSize", Everywhere, &[AtLeast(0x14)]),
-    Row(Kind::Network, 4, 4, "CommonNetworkRelativeLinkFlags", Everywhere, &[Clear(ABOVE_1)]),
-    Row(Kind::Network, 8, 4, "NetNameOffset", Everywhere, &[AtLeast(0x14), Text(1)]),
-    Row(Kind::Network, 12, 4, "DeviceNameOffset", Everywhere, &[Present(0), Text(1), Apart]),
-    Row(Kind::Network, 20, 4, "NetNameOffsetUnicode", LongHead, &[Text(2), Apart]),
-    Row(Kind::Network, 24, 4, "DeviceNameOffsetUnicode", LongHead, &[Present(0), Text(2), Apart]),
-    Row(Kind::String, 0, 2, "CountCharacters", Everywhere, &[Fits]),
-    Row(Kind::Block, 0, 4, "BlockSize", Everywhere, &[AtLeast(8), Fits, Signature]),
-    Row(Kind::Block, 4, 4, "BlockSignature", Everywhere, &[Once]),
-    Row(Kind::Block, 8, 260, "TargetAnsi", In(TARGETS), &[Ended(1)]),
-    Row(Kind::Block, 8, 260, "DarwinDataAnsi", In(DARWIN), &[Ended(1)]),
-    Row(Kind::Block, 268, 520, "TargetUnicode", In(TARGETS), &[Ended(2)]),
-    Row(Kind::Block, 268, 520, "DarwinDataUnicode", In(DARWIN), &[Ended(2)]),
-    Row(Kind::Storage, 0, 4, "Storage Size", Everywhere, &[Walked(28)]),
-    Row(Kind::Storage, 4, 4, "Version", Within, &[Is(0x5350_5331)]),
-    Row(Kind::Value, 0, 4, "Value Size", Everywhere, &[Walked(9)]),
-    Row(Kind::Value, 4, 4, "Name Size", Within, &[Name]),
-    Row(Kind::Value, 8, 1, "Reserved", Within, &[Is(0)]),
-    Row(Kind::End, 0, 4, "TerminalBlock", Everywhere, &[]),
+const ROWS: [Row; 83] = [
+    Row(Kind::Header, 0, 4, "HeaderSize", Everywhere, &[Is(0x4C)], Number),
+    Row(Kind::Header, 4, 16, "LinkCLSID", Everywhere, &[Bytes(&CLASS)], Identifiers),
+    Row(Kind::Header, 20, 4, "LinkFlags", Everywhere, &[Clear(0xF800_0000)], LinkBits),
+    Row(Kind::Header, 24, 4, "FileAttributes", Everywhere, &[Attributes], AttributeBits),
+    Row(Kind::Header, 28, 8, "CreationTime", Everywhere, &[], Time),
+    Row(Kind::Header, 36, 8, "AccessTime", Everywhere, &[], Time),
+    Row(Kind::Header, 44, 8, "WriteTime", Everywhere, &[], Time),
+    Row(Kind::Header, 52, 4, "FileSize", Everywhere, &[], Number),
+    Row(Kind::Header, 56, 4, "IconIndex", Everywhere, &[], Signed),
+    Row(Kind::Header, 60, 4, "ShowCommand", Everywhere, &[], Command),
+    Row(Kind::Header, 64, 2, "HotKey", Everywhere, &[HotKey], Held),
+    Row(Kind::Header, 66, 10, "Reserved1 to Reserved3", Everywhere, &[Bytes(&[0; 10])], Raw),
+    Row(Kind::List, 0, 2, "IDListSize", Everywhere, &[Fits], Number),
+    Row(Kind::Items, 0, 2, "ItemIDSize", Everywhere, &[Walked(2)], Number),
+    Row(Kind::Info, 0, 4, "LinkInfoSize", Everywhere, &[AtLeast(0x1C), Fits], Number),
+    Row(Kind::Info, 4, 4, "LinkInfoHeaderSize", Everywhere, &[Head], Hex),
+    Row(Kind::Info, 8, 4, "LinkInfoFlags", Everywhere, &[Clear(ABOVE_1)], InfoBits),
+    Row(Kind::Info, 12, 4, "VolumeIDOffset", Everywhere, &[Present(0), Structure], Hex),
+    Row(Kind::Info, 16, 4, "LocalBasePathOffset", Everywhere, &[Present(0), Text(1), Apart], Hex),
+    Row(Kind::Info, 20, 4, "CommonNetworkRelativeLinkOffset", Everywhere, &[Present(1), Structure, Apart], Hex),
+    Row(Kind::Info, 24, 4, "CommonPathSuffixOffset", Everywhere, &[Text(1), Apart], Hex),
+    Row(Kind::Info, 28, 4, "LocalBasePathOffsetUnicode", LongHead, &[Present(0), Text(2), Apart], Hex),
+    Row(Kind::Info, 32, 4, "CommonPathSuffixOffsetUnicode", LongHead, &[Text(2), Apart], Hex),
+    Row(Kind::Volume, 0, 4, "VolumeIDSize", Everywhere, &[AtLeast(0x11)], Number),
+    Row(Kind::Volume, 4, 4, "DriveType", Everywhere, &[AtMost(6)], Drive),
+    Row(Kind::Volume, 8, 4, "DriveSerialNumber", Everywhere, &[], Hex),
+    Row(Kind::Volume, 12, 4, "VolumeLabelOffset", Everywhere, &[Label], Hex),
+    Row(Kind::Volume, 16, 4, "VolumeLabelOffsetUnicode", LongHead, &[Text(2)], Hex),
+    Row(Kind::Network, 0, 4, "CommonNetworkRelativeLinkSize", Everywhere, &[AtLeast(0x14)], Number),
+    Row(Kind::Network, 4, 4, "CommonNetworkRelativeLinkFlags", Everywhere, &[Clear(ABOVE_1)], NetworkBits),
+    Row(Kind::Network, 8, 4, "NetNameOffset", Everywhere, &[AtLeast(0x14), Text(1)], Hex),
+    Row(Kind::Network, 12, 4, "DeviceNameOffset", Everywhere, &[Present(0), Text(1), Apart], Hex),
+    Row(Kind::Network, 16, 4, "NetworkProviderType", Everywhere, &[Kept(1)], Hex),
+    Row(Kind::Network, 20, 4, "NetNameOffsetUnicode", LongHead, &[Text(2), Apart], Hex),
+    Row(Kind::Network, 24, 4, "DeviceNameOffsetUnicode", LongHead, &[Present(0), Text(2), Apart], Hex),
+    Row(Kind::String, 0, 2, "CountCharacters", Everywhere, &[Fits], Number),
+    Row(Kind::Block, 0, 4, "BlockSize", Everywhere, &[AtLeast(8), Fits, Signature], Number),
+    Row(Kind::Block, 4, 4, "BlockSignature", Everywhere, &[Once], Stamp),
+    Row(Kind::Block, 8, 260, "TargetAnsi", In(TARGETS), &[Ended(1)], Words(1)),
+    Row(Kind::Block, 8, 260, "DarwinDataAnsi", In(DARWIN), &[Ended(1)], Words(1)),
+    Row(Kind::Block, 268, 520, "TargetUnicode", In(TARGETS), &[Ended(2)], Words(2)),
+    Row(Kind::Block, 268, 520, "DarwinDataUnicode", In(DARWIN), &[Ended(2)], Words(2)),
+    Row(Kind::Block, 8, 2, "FillAttributes", In(CONSOLE), &[], Number),
+    Row(Kind::Block, 10, 2, "PopupFillAttributes", In(CONSOLE), &[], Number),
+    Row(Kind::Block, 12, 2, "ScreenBufferSizeX", In(CONSOLE), &[], Number),
+    Row(Kind::Block, 14, 2, "ScreenBufferSizeY", In(CONSOLE), &[], Number),
+    Row(Kind::Block, 16, 2, "WindowSizeX", In(CONSOLE), &[], Number),
+    Row(Kind::Block, 18, 2, "WindowSizeY", In(CONSOLE), &[], Number),
+    Row(Kind::Block, 20, 2, "WindowOriginX", In(CONSOLE), &[], Number),
+    Row(Kind::Block, 22, 2, "WindowOriginY", In(CONSOLE), &[], Number),
+    Row(Kind::Block, 24, 4, "Unused1", In(CONSOLE), &[], Number),
+    Row(Kind::Block, 28, 4, "Unused2", In(CONSOLE), &[], Number),
+    Row(Kind::Block, 32, 4, "FontSize", In(CONSOLE), &[], Number),
+    Row(Kind::Block, 36, 4, "FontFamily", In(CONSOLE), &[], Number),
+    Row(Kind::Block, 40, 4, "FontWeight", In(CONSOLE), &[], Number),
+    Row(Kind::Block, 44, 64, "Face Name", In(CONSOLE), &[], Words(2)),
+    Row(Kind::Block, 108, 4, "CursorSize", In(CONSOLE), &[], Number),
+    Row(Kind::Block, 112, 4, "FullScreen", In(CONSOLE), &[], Number),
+    Row(Kind::Block, 116, 4, "QuickEdit", In(CONSOLE), &[], Number),
+    Row(Kind::Block, 120, 4, "InsertMode", In(CONSOLE), &[], Number),
+    Row(Kind::Block, 124, 4, "AutoPosition", In(CONSOLE), &[], Number),
+    Row(Kind::Block, 128, 4, "HistoryBufferSize", In(CONSOLE), &[], Number),
+    Row(Kind::Block, 132, 4, "NumberOfHistoryBuffers", In(CONSOLE), &[], Number),
+    Row(Kind::Block, 136, 4, "HistoryNoDup", In(CONSOLE), &[], Number),
+    Row(Kind::Block, 140, 64, "ColorTable", In(CONSOLE), &[], Raw),
+    Row(Kind::Block, 8, 4, "Length", In(TRACKER), &[], Number),
+    Row(Kind::Block, 12, 4, "Version", In(TRACKER), &[], Number),
+    Row(Kind::Block, 16, 16, "MachineID", In(TRACKER), &[], Words(1)),
+    Row(Kind::Block, 32, 32, "Droid", In(TRACKER), &[], Identifiers),
+    Row(Kind::Block, 64, 32, "DroidBirth", In(TRACKER), &[], Identifiers),
+    Row(Kind::Block, 8, 4, "CodePage", In(CONSOLE_FE), &[], Number),
+    Row(Kind::Block, 8, 4, "SpecialFolderID", In(SPECIAL), &[], Hex),
+    Row(Kind::Block, 12, 4, "Offset", In(SPECIAL), &[], Number),
+    Row(Kind::Block, 8, 16, "KnownFolderID", In(KNOWN), &[], Identifiers),
+    Row(Kind::Block, 24, 4, "Offset", In(KNOWN), &[], Number),
+    Row(Kind::Storage, 0, 4, "Storage Size", Everywhere, &[Walked(28)], Number),
+    Row(Kind::Storage, 4, 4, "Version", Within, &[Is(0x5350_5331)], Hex),
+    Row(Kind::Storage, 8, 16, "Format ID", Within, &[], Identifiers),
+    Row(Kind::Value, 0, 4, "Value Size", Everywhere, &[Walked(9)], Number),
+    Row(Kind::Value, 4, 4, "Name Size", Named, &[Name], Number),
+    Row(Kind::Value, 4, 4, "Id", Numbered, &[], Number),
+    Row(Kind::Value, 8, 1, "Reserved", Within, &[Is(0)], Number),
+    Row(Kind::End, 0, 4, "TerminalBlock", Everywhere, &[], Number),
 ];
 
 impl Row {
@@ -107,9 +166,19 @@ impl Row {
             Everywhere => true,
             LongHead => part.has_long_head(),
             Within => offset < part.field(0),
+            Named => part.named && offset < part.field(0),
+            Numbered => !part.named && offset < part.field(0),
             In(signatures) => part.number(4, 4).map_or(false, |number| signatures.contains(&(number as u32))),
         };
         self.0 == part.kind && there && (self.1 == offset || part.kind == Kind::Items)
+    }
+
+    fn standing(&self, part: &Part) -> Standing {
+        let start = part.start + self.1;
+        let is_present = self.5.iter().all(|rule| rule.is_present(part));
+        let leads = self.5.iter().any(|rule| rule.width().is_some());
+        let is_skipped = !is_present && (!leads || is_leftover(part));
+        Standing { place: start..start + self.2, name: self.3, form: self.6, is_present, leads, is_skipped }
     }
 }
 
@@ -139,4 +208,25 @@ pub fn pieces(part: &Part) -> Vec<(usize, &'static str, usize)> {
     let rows = ROWS.iter().filter(|row| row.stands(part, row.1)).filter(present);
     let width = |row: &Row| row.5.iter().find_map(|rule| rule.width());
     rows.filter_map(|row| width(row).map(|width| (row.1, row.3, width))).collect()
+}
+
+/// A field at its place in a part, and how its value is said.
+pub struct Standing {
+    pub place: Range<usize>,
+    pub name: &'static str,
+    pub form: Form,
+    /// Whether a flag says that what it holds or leads to is there.
+    pub is_present: bool,
+    /// Whether it leads to a piece.
+    pub leads: bool,
+    /// Whether no rule looks at it.
+    pub is_skipped: bool,
+}
+
+/// All fields that stand at fixed offsets of a part, in file order, as far as the part has bytes for them.
+pub fn standing(part: &Part) -> Vec<Standing> {
+    let rows = ROWS.iter().filter(|row| row.stands(part, row.1) && row.1 + row.2 <= part.bytes.len());
+    let mut found: Vec<Standing> = rows.map(|row| row.standing(part)).collect();
+    found.sort_by_key(|field| field.place.start);
+    found
 }

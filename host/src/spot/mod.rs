@@ -1,7 +1,8 @@
 //! Where a shortcut is refused: the section at fault, and the field in it.
-mod field;
-mod part;
-mod rule;
+pub(crate) mod field;
+pub(crate) mod form;
+pub(crate) mod part;
+pub(crate) mod rule;
 
 pub use field::WrongField;
 

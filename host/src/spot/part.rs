@@ -2,7 +2,9 @@
 use super::Spot;
 use crate::refusal::Fault;
 use crate::section::{sections_under, SectionName};
+use crate::store::NAMED;
 use crate::Profile;
+use std::ops::Range;
 
 /// The kinds of structures that have fields of their own.
 #[derive(Clone, Copy, Debug, PartialEq, Eq)]
@@ -38,10 +40,22 @@ pub struct Part<'a> {
     pub wide: bool,
     /// Where the first block stands that has this one's signature, if that is what is wrong with it.
     pub twin: Option<usize>,
+    /// Whether values have names, and not numbers.
+    pub named: bool,
     pub profile: Profile,
 }
 
 impl<'a> Part<'a> {
+    /// A structure of which no more is known.
+    pub fn new(kind: Kind, start: usize, bytes: &'a [u8], profile: Profile) -> Part<'a> {
+        Part { kind, start, bytes, wide: false, twin: None, named: false, profile }
+    }
+
+    /// Where its bytes stand in the shortcut.
+    pub fn place(&self) -> Range<usize> {
+        self.start..self.start + self.bytes.len()
+    }
+
     /// The number at an offset, little-endian, if all of it is there.
     pub fn number(&self, at: usize, width: usize) -> Option<u64> {
         let bytes = self.bytes.get(at..at + width)?;
@@ -122,7 +136,7 @@ impl<'a> Part<'a> {
     }
 
     /// The structure at an offset, by the size in its first four bytes; `None` if it does not lie in this part.
-    fn inner(&self, kind: Kind, at: usize) -> Option<Part<'a>> {
+    pub fn inner(&self, kind: Kind, at: usize) -> Option<Part<'a>> {
         let rest = self.bytes.get(self.field(at)..).filter(|_| self.field(at) >= self.head())?;
         let size = u32::from_le_bytes(rest.get(..SIZE)?.try_into().ok()?) as usize;
         let bytes = rest.get(..size.max(SIZE))?;
@@ -135,7 +149,7 @@ pub fn parts<'a>(spot: &Spot, shortcut: &'a [u8]) -> Vec<Part<'a>> {
     let rest = shortcut.get(spot.start..).unwrap_or(&[]);
     let wide = shortcut.get(20).map_or(false, |flags| flags & 0x80 != 0);
     let twin = if spot.refusal.fault == Fault::Twice { twin(spot, shortcut) } else { None };
-    let whole = |kind, bytes| Part { kind, start: spot.start, bytes, wide, twin, profile: spot.profile };
+    let whole = |kind, bytes| Part { wide, twin, ..Part::new(kind, spot.start, bytes, spot.profile) };
     match spot.section {
         SectionName::Header => vec![whole(Kind::Header, rest)],
         SectionName::Items => vec![whole(Kind::List, rest), items(whole(Kind::List, rest), 2)],
@@ -179,7 +193,8 @@ fn store(block: Part) -> Vec<Part> {
 
 /// A storage, and after it its values.
 fn with_values(storage: Part) -> Vec<Part> {
-    let own = Part { bytes: declared(storage.bytes), ..storage };
+    let named = storage.bytes.get(8..24) == Some(&NAMED);
+    let own = Part { bytes: declared(storage.bytes), named, ..storage };
     std::iter::once(storage).chain(run(own, 24, Kind::Value)).collect()
 }
 

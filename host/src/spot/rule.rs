@@ -29,6 +29,8 @@ pub enum Rule {
     Head,
     /// An offset field is 0 unless this bit of the structure's flags is set.
     Present(u32),
+    /// A field means something only where this bit of the structure's flags is set, and may hold anything.
+    Kept(u32),
     /// An offset field leads to a text in the part, with so many bytes to a character.
     Text(usize),
     /// The same for a label, of whose kind the offset field at 12 decides.
@@ -87,7 +89,7 @@ impl Rule {
             Kind::Info => part.field(8),
             _ => part.field(4),
         };
-        !matches!(self, Rule::Present(bit) if flags >> bit & 1 == 0)
+        !matches!(self, Rule::Present(bit) | Rule::Kept(bit) if flags >> bit & 1 == 0)
     }
 
     /// How many bytes a character has that this rule lets a field lead to, 0 for a structure.
@@ -109,7 +111,7 @@ fn unkept(profile: Profile) -> u32 {
 }
 
 /// Whether what stands in the offset field of an absent part is ignored: under 95, in LinkInfo's own head.
-fn is_leftover(part: &Part) -> bool {
+pub fn is_leftover(part: &Part) -> bool {
     part.kind == Kind::Info && part.profile == Profile::NinetyFive
 }
 
@@ -208,7 +210,7 @@ fn length(text: &[u8], width: usize) -> Option<usize> {
 }
 
 /// The bytes of a piece, by the kind of what its offset leads to.
-fn piece(part: &Part, at: usize, width: usize) -> Option<(usize, usize)> {
+pub fn piece(part: &Part, at: usize, width: usize) -> Option<(usize, usize)> {
     let offset = part.field(at);
     let length = match width {
         0 => part.field(offset),
