@@ -128,3 +128,25 @@ fn the_lines_to_believe_are_counted() {
     let page = fs::read_to_string(root().join("docs/TRUST.md")).unwrap();
     assert!(page.contains(&said), "docs/TRUST.md does not say {}", said);
 }
+
+/// How much of it says the rules a second time.
+#[test]
+fn the_lines_of_the_grammar_are_counted() {
+    let lines: usize = definitions().iter().filter(|one| one.name.0 == "grammar").map(|one| one.lines).sum();
+    let said = format!("{} of those lines", lines);
+    let page = fs::read_to_string(root().join("docs/TRUST.md")).unwrap();
+    assert!(page.contains(&said), "docs/TRUST.md does not say {}", said);
+}
+
+/// What the grammar took from the definitions of reading could be wrong in both at once.
+#[test]
+fn the_grammar_has_nothing_of_reading_but_numbers_in_bytes_and_types() {
+    let text = fs::read_to_string(root().join("crates/grammar/specs/Grammar.antt")).unwrap();
+    let shared = |name: &Name| {
+        (name.0 == "octets" && name.1 == "Numbers") || (name.0 == "format" && name.1.starts_with("declared."))
+    };
+    let taken = imports(&text);
+    assert!(!taken.is_empty(), "the grammar takes nothing");
+    let wrong: Vec<&Name> = taken.values().filter(|name| !shared(name)).collect();
+    assert!(wrong.is_empty(), "the grammar takes {:?}", wrong);
+}

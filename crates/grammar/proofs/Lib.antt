@@ -1,0 +1,17 @@
+pub mod Agree
+pub mod FieldLaws
+pub mod TextLaws
+pub mod HeaderLaws
+pub mod ItemLaws
+pub mod StringLaws
+pub mod StoreLaws
+pub mod BlockLaws
+pub mod OnceLaws
+pub mod BlocksLaws
+pub mod PieceLaws
+pub mod VolumeLaws
+pub mod NetworkLaws
+pub mod LinkLaws
+pub mod InfoLaws
+pub mod WholeLaws
+pub mod Demands
