@@ -53,7 +53,7 @@ none-left before p [] h = refl
 none-left before p (a ∷ s) h = rw (lt-leb 4 (length (a ∷ s)) h)
 
 -- what follows a step follows its tests
-follow-tests : (w : Site) (ts : List Test) (o : Outcome Standing) (rest : Outcome (List ℕ)) → follow (tests w ts o) rest ≡ tests w ts (follow o rest)
+pub follow-tests : (w : Site) (ts : List Test) (o : Outcome Standing) (rest : Outcome (List ℕ)) → follow (tests w ts o) rest ≡ tests w ts (follow o rest)
 follow-tests w [] o rest = refl
 follow-tests w (t ∷ ts) o rest = go (t .holds) (follow-tests w ts o rest)
   where

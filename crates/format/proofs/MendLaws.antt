@@ -27,7 +27,7 @@ use Rattle.format.specs.Pieces.{structTests, pieceTests}
 use Rattle.format.specs.Volume.{volumeRules}
 use Rattle.format.specs.Network.{networkRules}
 use Rattle.format.specs.Info.{infoSize, infoHead, infoHeadTests, infoPieces, infoRules, infoFields, info, noInfo}
-use Rattle.format.specs.Blocks.{slotOf, slotAt, blockSize, insideTests, blockTests, block, terminal, once, onceTests, blocksAfter, blocks}
+use Rattle.format.specs.Blocks.{slotOf, slotAt, blockSize, insideTests, blockRules, blockTests, block, terminal, once, onceTests, blocksAfter, blocks}
 use Rattle.format.specs.Shortcut.{Section, Sections, found, sectionIf, stringSection, Tail, tail, sections, sum}
 use Rattle.format.specs.Steps.Wrong.{heldFault}
 use Rattle.format.proofs.Bools.{by-order}
@@ -56,7 +56,7 @@ pub no-refusal {ℓ} : {A : Type 0} {X : Type ℓ} {f : Fault} {p : Spot} {a : A
 no-refusal e = absurd (let z : _≡_ {A = ℕ} 0 1 = cc in omega arith)
 
 -- one of the tests failed, or what follows them refused
-tests-refused : {A : Type 0} (X : Fault → ℕ → Type 0) (Y : Fault → Spot → Type 0) (w : Site) (ts : List Test) (r : Outcome A) → Each X ts
+pub tests-refused : {A : Type 0} (X : Fault → ℕ → Type 0) (Y : Fault → Spot → Type 0) (w : Site) (ts : List Test) (r : Outcome A) → Each X ts
     → ((f : Fault) (i : ℕ) → X f i → Y f (spotAt w i)) → {f : Fault} {q : Spot} → (Pass ts → r ≡ refused f q → Y f q) → tests w ts r ≡ refused f q → Y f q
 tests-refused X Y w [] r h g k e = k tt e
 tests-refused {A = A} X Y w (t ∷ ts) r h g {f} {q} k e = go (t .holds) refl (λ i z. tests-refused X Y w ts r (h .1 i) g (λ c. k (i, c)) z) e
@@ -73,9 +73,10 @@ NoTrail f = f ≡ TRAIL → ⊥
 abbrev Other : Fault → ℕ → Type 0
 Other f i = NoTrail f
 
-each-fault : (f : Fault) (ts : List Test) → NoTrail f → Faults f ts → Each Other ts
-each-fault f [] h g = tt
-each-fault f (t ∷ ts) h g = ((λ e q. h (sym (g .0) ∙ q)), λ e. each-fault f ts h (g .1 .1))
+-- what holds of a fault holds of all tests that give it
+pub each-fault : (X : Fault → Type 0) (f : Fault) (ts : List Test) → X f → Faults f ts → Each (λ g i. X g) ts
+each-fault X f [] h g = tt
+each-fault X f (t ∷ ts) h g = ((λ e. rw (g .0) h), λ e. each-fault X f ts h (g .1 .1))
 
 -- ---- readers of what stands before the blocks
 
@@ -165,7 +166,7 @@ front-items =
     front-sized 1 2 itemsLength (λ n. []) itemsRules itemsValue _ _ items-law (λ p s. place (p + 2) (itemsLength s - 4)) (λ p s t e u. rw e) (omega arith)
     (λ s. (
       (λ e. not-cut),
-      λ e. ((λ e. not-cut), λ e. each-fault ITEMS (itemsRules (take (itemsLength s) s)) not-items (item-faults ITEMS 2 0 (drop 2 (take (itemsLength s) s)) (omega arith))),
+      λ e. ((λ e. not-cut), λ e. each-fault NoTrail ITEMS (itemsRules (take (itemsLength s) s)) not-items (item-faults ITEMS 2 0 (drop 2 (take (itemsLength s) s)) (omega arith))),
     ))
 
 front-string : (k : ℕ) (u : Bool) → k < 8 → Front (string k u)
@@ -174,41 +175,47 @@ front-string k u h =
     (λ p s t e z. let q : bytesOf u (u16At t 0) ≡ bytesOf u (u16At s 0) = omega arith in rw q) h
     (λ s. ((λ e. not-cut), λ e. ((λ e. not-cut), λ e. tt)))
 
--- LinkInfo's tests give INFO, then PIECE
-info-other : (profile : Profile) (l : List ℕ) → Each Other (infoRules profile l)
-info-other profile l =
-    each-append Other (infoHeadTests profile l) (pieceTests (infoHead l) (infoPieces l))
-    ((λ e. not-info), λ e. ((λ e. not-info), λ e. ((λ e. not-info), λ e. ((λ e. not-info), λ e. ((λ e. not-info), λ e. ((λ e. not-info), λ e. tt))))))
-    (λ c. each-piece Other (infoHead l) (infoPieces l) pieces)
+-- what LinkInfo's offsets lead to gives PIECE, and its tests before that INFO
+pub each-pieces : (X : Fault → Type 0) → X PIECE → (l : List ℕ) → Each (λ f i. X f) (pieceTests (infoHead l) (infoPieces l))
+each-pieces X piece l = each-piece Every (infoHead l) (infoPieces l) pieces
   where
-    struct : (i o least : ℕ) (rules : List ℕ → List Test) → ((v : List ℕ) → least ≤ length v → Each Other (rules v)) → Each Other (structTests i o least rules (drop o l))
+    Every : Fault → ℕ → Type 0
+    Every f i = X f
+
+    struct : (i o least : ℕ) (rules : List ℕ → List Test) → ((v : List ℕ) → least ≤ length v → Each Every (rules v)) → Each Every (structTests i o least rules (drop o l))
     struct i o least rules g =
-        each-struct Other i o least rules (drop o l) not-piece (λ h. not-piece)
+        each-struct Every i o least rules (drop o l) piece (λ h. piece)
         (λ a b. g (take (u32At (drop o l) 0) (drop o l)) (omega (arith, length-take-le (u32At (drop o l) 0) (drop o l) a)))
 
-    pieces : PiecesIn Other (infoPieces l)
+    pieces : PiecesIn Every (infoPieces l)
     pieces = (
-      (λ e. (not-piece, struct 12 (u32At l 12) 0x11 volumeRules (λ v h. each-volume Other v h (λ j z. not-piece)))),
+      (λ e. (piece, struct 12 (u32At l 12) 0x11 volumeRules (λ v h. each-volume Every v h (λ j z. piece)))),
       (
-        (λ e. each-text Other 16 false (drop (u32At l 16) l) not-piece),
+        (λ e. each-text Every 16 false (drop (u32At l 16) l) piece),
         (
-          (λ e. (not-piece, struct 20 (u32At l 20) 0x14 networkRules (λ v h. each-network Other v h (λ j z. not-piece) (λ y z. not-piece) (λ y z. not-piece)))),
+          (λ e. (piece, struct 20 (u32At l 20) 0x14 networkRules (λ v h. each-network Every v h (λ j z. piece) (λ y z. piece) (λ y z. piece)))),
           (
-            (λ e. each-text Other 24 false (drop (u32At l 24) l) not-piece),
+            (λ e. each-text Every 24 false (drop (u32At l 24) l) piece),
             (
-              (λ e. each-text Other 28 true (drop (u32At l 28) l) not-piece),
-              ((λ e. each-text Other 32 true (drop (u32At l 32) l) not-piece), tt),
+              (λ e. each-text Every 28 true (drop (u32At l 28) l) piece),
+              ((λ e. each-text Every 32 true (drop (u32At l 32) l) piece), tt),
             ),
           ),
         ),
       ),
     )
 
+pub each-info : (X : Fault → Type 0) → X INFO → X PIECE → (profile : Profile) (l : List ℕ) → Each (λ f i. X f) (infoRules profile l)
+each-info X head piece profile l =
+    each-append (λ f i. X f) (infoHeadTests profile l) (pieceTests (infoHead l) (infoPieces l))
+    ((λ e. head), λ e. ((λ e. head), λ e. ((λ e. head), λ e. ((λ e. head), λ e. ((λ e. head), λ e. ((λ e. head), λ e. tt))))))
+    (λ c. each-pieces X piece l)
+
 pub front-info : (profile : Profile) → Front (info profile)
 front-info profile =
     front-sized 2 4 infoSize (λ n. leb 0x1C n else INFO at 0 ∷ []) (infoRules profile) infoValue _ _ (info-law profile) (λ p s. infoFields p (take (infoSize s) s))
     (λ p s t e u. ap (λ (l : List ℕ). infoFields p l) (ap (λ (n : ℕ). take n t) e ∙ u)) (omega arith)
-    (λ s. ((λ e. not-cut), λ e. ((λ e. not-info), λ e. ((λ e. not-cut), λ e. info-other profile (take (infoSize s) s)))))
+    (λ s. ((λ e. not-cut), λ e. ((λ e. not-info), λ e. ((λ e. not-cut), λ e. each-info NoTrail not-info not-piece profile (take (infoSize s) s)))))
 
 own-found : {A : Type 0} {P : Reader A} → Own P → Own (found P)
 own-found {P = P} F = record {
@@ -314,24 +321,17 @@ block-again before p s c o t u l r e =
     let d : Pass (blockTests t) = rw (f, u) (c .0, (le-leb n (length t) l, c .1 .1)) in
     one-more before p t (omega arith) (omega arith) ∙ pass (block p) (blockTests t) (more before p (blockSize t) t) d ∙ ap (λ (j : ℕ). more before p j t) f ∙ more-on before p n t r (rw x o) (rw x e)
 
-held-other : (slot : ℕ) → NoTrail (heldFault slot)
+-- what a block's rules give is BLOCK or STORE
+pub each-held : (X : Fault → Type 0) → X BLOCK → X STORE → (b : List ℕ) → Each (λ f i. X f) (blockRules b)
 unfolding heldFault
-held-other slot = go (eqb slot (slotOf 0xA0000009))
+each-held X rule store b = ((λ e. rule), λ e. each-fault X (heldFault (slotAt b)) (insideTests (slotAt b) b) (held (eqb (slotAt b) (slotOf 0xA0000009))) (inside-faults (slotAt b) b))
   where
-    go : (b : Bool) → NoTrail (cond b STORE BLOCK)
-    go true = not-store
-    go false = not-block
+    held : (t : Bool) → X (cond t STORE BLOCK)
+    held true = store
+    held false = rule
 
 block-other : (s : List ℕ) → Each Other (blockTests s)
-block-other s = (
-  (λ e. not-block),
-  λ e. (
-    (λ e. not-cut),
-    λ e.
-        let b : List ℕ = take (blockSize s) s in
-        ((λ e. not-block), λ e. each-fault (heldFault (slotAt b)) (insideTests (slotAt b) b) (held-other (slotAt b)) (inside-faults (slotAt b) b)),
-  ),
-)
+block-other s = ((λ e. not-block), λ e. ((λ e. not-cut), λ e. each-held NoTrail not-block not-store (take (blockSize s) s)))
 
 module _ (before : List ℕ) (p : ℕ) (s : List ℕ) where
   abbrev Stops : Fault → Spot → Type 0

@@ -126,7 +126,7 @@ slot-tells (r ∷ rs) x y e h = go (slot-tells rs x y) (eqb x (r .0)) refl (eqb 
     go f false p true q e h = absurd (omega arith)
     go f false p false q e h = f (omega arith) (omega arith)
 
-known-tells : (x y : ℕ) → known (slotOf y) ≡ true → slotOf x ≡ slotOf y → x ≡ y
+pub known-tells : (x y : ℕ) → known (slotOf y) ≡ true → slotOf x ≡ slotOf y → x ≡ y
 unfolding slotOf
 known-tells x y k e = slot-tells signatures x y e (ltb-true (slotIn signatures y) 11 k)
 

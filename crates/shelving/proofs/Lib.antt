@@ -9,6 +9,7 @@ pub mod RoundLaws
 pub mod ShelfLaws
 pub mod Demands
 pub mod BeginningDemands
+pub mod OldDemands
 pub mod OneOutcome
 pub mod Rows
 pub mod SmallLaws

@@ -1,0 +1,14 @@
+pub mod Rows
+pub mod StepLaws
+pub mod ReachLaws
+pub mod FileLaws
+pub mod NeedLaws
+pub mod CutLaws
+pub mod FailLaws
+pub mod FaultLaws
+pub mod ItemLaws
+pub mod HeldLaws
+pub mod Demands
+pub mod InfoDemands
+pub mod ItemsDemands
+pub mod BlockDemands
