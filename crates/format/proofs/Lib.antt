@@ -67,7 +67,5 @@ pub mod SalvageKeyDemands
 pub mod BeginningLaws
 pub mod BeginningDemands
 pub mod BlindLaws
-pub mod BlindRows
-pub mod BlindDemands
 pub mod AnswerLaws
 pub mod OneOutcome

@@ -31,17 +31,18 @@ use Rattle.format.proofs.WrongLaws.{Faults, one-fault, none-wrong}
 use Rattle.format.proofs.Holds.{infoPieceTests, info-head-holds, info-pieces-hold}
 use Rattle.info.specs.declared.InfoTaken.{InfoTaken}
 use Rattle.info.specs.declared.InfoTaken.the-variants.{Got, Refused}
-use Rattle.info.specs.declared.Text.{Text}
-use Rattle.info.specs.declared.VolumeFound.{VolumeFound}
-use Rattle.info.specs.declared.NetworkFound.{NetworkFound}
+use Rattle.pieces.specs.declared.Text.{Text}
+use Rattle.pieces.specs.declared.VolumeFound.{VolumeFound}
+use Rattle.pieces.specs.declared.NetworkFound.{NetworkFound}
 use Rattle.info.specs.declared.Pieces.{Pieces}
-use Rattle.info.specs.Steps.Found.{fieldIf, ignoresLeftovers, pieceOk, textFound, volumeFound, networkFound, piecesFound}
+use Rattle.pieces.specs.Steps.Found.{fieldIf, pieceOk, textFound, volumeFound, networkFound}
+use Rattle.info.specs.Steps.Found.{ignoresLeftovers, piecesFound}
 use Rattle.info.specs.Steps.Taken.{infoTaken, infoAt, infoNumber, infoValue, InfoAnswer}
-use Rattle.info.proofs.TestLaws.{first-unless, fields-told, fields-one, fields-most, text-fields, AllFields, pieces-fields, judge, pieces-judged}
-use Rattle.info.proofs.TextLaws.{any-field, text-judged, text-field, zero-field}
-use Rattle.info.proofs.StructLaws.{first-number, struct-fields}
-use Rattle.info.proofs.VolumeLaws.{volume-fields}
-use Rattle.info.proofs.NetworkLaws.{network-fields}
+use Rattle.pieces.proofs.TestLaws.{first-unless, fields-told, fields-one, fields-most, text-fields, AllFields, pieces-fields, judge, pieces-judged}
+use Rattle.pieces.proofs.TextLaws.{any-field, text-judged, text-field, zero-field}
+use Rattle.pieces.proofs.StructLaws.{first-number, struct-fields}
+use Rattle.pieces.proofs.VolumeLaws.{volume-fields}
+use Rattle.pieces.proofs.NetworkLaws.{network-fields}
 
 -- ---- the head, field after field
 

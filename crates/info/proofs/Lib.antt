@@ -1,7 +1,2 @@
-pub mod TestLaws
-pub mod TextLaws
-pub mod StructLaws
-pub mod VolumeLaws
-pub mod NetworkLaws
 pub mod InfoLaws
 pub mod OneOutcome
