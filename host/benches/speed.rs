@@ -1,14 +1,19 @@
 //! The proved library and the independent implementation, timed on the same shortcuts in one run.
 //!
-//! Without words it prints tables. `speed count SHAPE CALL N --proved` (or `--independent`) makes
-//! N calls of one side and ends, so that instructions can be counted from outside; `speed length SHAPE` prints a length.
+//! Without words it prints tables of times. For tools/count: `speed rows` prints each shape with its bytes and a call that
+//! is counted, and `speed count SHAPE CALL N --proved` (or `--independent`) makes N calls of one side and ends, so that
+//! instructions can be counted from outside. For tools/bench: `speed table RUN LAST` prints a run beside the last one, and
+//! `speed page RUN PAGE` the page with its tables made of the run.
 
+mod figures;
 #[path = "../tests/independent/mod.rs"]
 mod independent;
 mod shapes;
 
+use figures::Run;
 use herringnet::boundary as proved;
-use independent::{Profile, FIELDS, LIMIT};
+use independent::{FIELDS, LIMIT};
+use std::fs;
 use std::time::{Duration, Instant};
 
 const REPEATS: usize = 11;
@@ -25,11 +30,19 @@ const COPY_SETTING: &str = "glibc.cpu.x86_rep_movsb_threshold=1000000000";
 struct Case {
     shape: String,
     shortcut: Vec<u8>,
+    profile: u32,
     /// The shortcut with strings of bytes and with Unicode ones; empty where it cannot be moved.
     in_bytes: Vec<u8>,
     in_unicode: Vec<u8>,
     record: [u64; FIELDS],
     fields: [u64; FIELDS],
+    /// The rows of its property store; empty where it has none.
+    rows: Vec<u64>,
+    listed: Vec<u64>,
+    /// Of a shelf: the lengths of its entries, these end to end, and the old form.
+    lengths: Vec<u64>,
+    bodies: Vec<u8>,
+    old: Vec<u8>,
     out: Vec<u8>,
 }
 
@@ -42,80 +55,61 @@ struct Call {
     independent: Side,
 }
 
-const CALLS: [Call; 13] = [
-    Call {
-        name: "check",
-        proved: |case| proved::check(&case.shortcut, 0),
-        independent: |case| independent::boundary_check(&case.shortcut, 0),
-    },
-    Call {
-        name: "read",
-        proved: |case| proved::read(&case.shortcut, &mut case.fields, 0),
-        independent: |case| independent::boundary_read(&case.shortcut, &mut case.fields, 0),
-    },
-    Call {
-        name: "target",
-        proved: |case| proved::target(&case.shortcut, &mut case.out, 0),
-        independent: |case| independent::boundary_target(&case.shortcut, &mut case.out, 0),
-    },
-    Call {
-        name: "key",
-        proved: |case| proved::key(&case.shortcut, &mut case.out, 0),
-        independent: |case| independent::boundary_key(&case.shortcut, &mut case.out, 0),
-    },
-    Call {
-        name: "key_blind",
-        proved: |case| proved::key_blind(&case.shortcut, 0),
-        independent: |case| independent::boundary_key_blind(&case.shortcut, 0),
-    },
+/// A call by its name: the same expression on both sides.
+macro_rules! calls {
+    ($($name:literal: $case:ident => $proved:expr, $independent:expr;)*) => {
+        [$(Call { name: $name, proved: |$case| $proved, independent: |$case| $independent }),*]
+    };
+}
+
+const CALLS: [Call; 22] = calls! {
+    "check": c => proved::check(&c.shortcut, c.profile), independent::boundary_check(&c.shortcut, c.profile);
+    "fault": c => proved::fault(&c.shortcut, c.profile), independent::boundary_fault(&c.shortcut, c.profile);
+    "read": c => proved::read(&c.shortcut, &mut c.fields, c.profile),
+        independent::boundary_read(&c.shortcut, &mut c.fields, c.profile);
+    // The first block.
+    "section": c => proved::section(&c.shortcut, 8, 0, c.profile),
+        independent::boundary_section(&c.shortcut, 8, 0, c.profile);
+    "target": c => proved::target(&c.shortcut, &mut c.out, c.profile),
+        independent::boundary_target(&c.shortcut, &mut c.out, c.profile);
+    "key": c => proved::key(&c.shortcut, &mut c.out, c.profile),
+        independent::boundary_key(&c.shortcut, &mut c.out, c.profile);
+    "key_blind": c => proved::key_blind(&c.shortcut, c.profile),
+        independent::boundary_key_blind(&c.shortcut, c.profile);
     // What a scheduler does with each shortcut.
-    Call {
-        name: "check+key",
-        proved: |case| proved::check(&case.shortcut, 0) + proved::key(&case.shortcut, &mut case.out, 0),
-        independent: |case| {
-            independent::boundary_check(&case.shortcut, 0) + independent::boundary_key(&case.shortcut, &mut case.out, 0)
-        },
-    },
-    Call {
-        name: "write",
-        proved: |case| proved::write(&case.record, &case.shortcut, &mut case.out, 0),
-        independent: |case| independent::boundary_write(&case.record, &case.shortcut, &mut case.out, 0),
-    },
-    // A shortcut of nearly 64 KiB has no space for one more block, unless it replaces one.
-    Call {
-        name: "path_block",
-        proved: |case| proved::path_block(&case.record, &case.shortcut, ENVIRONMENT, TEXT, UNICODE, &mut case.out, 0),
-        independent: |case| {
-            independent::boundary_path_block(&case.record, &case.shortcut, ENVIRONMENT, TEXT, UNICODE, &mut case.out, 0)
-        },
-    },
-    Call {
-        name: "to_unicode",
-        proved: |case| proved::to_unicode(&case.in_bytes, &mut case.out, 0),
-        independent: |case| independent::boundary_to_unicode(&case.in_bytes, &mut case.out, 0),
-    },
-    Call {
-        name: "to_bytes",
-        proved: |case| proved::to_bytes(&case.in_unicode, &mut case.out, 0),
-        independent: |case| independent::boundary_to_bytes(&case.in_unicode, &mut case.out, 0),
-    },
-    // The last of 64 on a shelf: with a test of all entries, and of this one alone.
-    Call {
-        name: "entry",
-        proved: |case| proved::shelf_entry(&case.shortcut, 63),
-        independent: |case| independent::boundary_shelf_entry(&case.shortcut, 63),
-    },
-    Call {
-        name: "one",
-        proved: |case| proved::shelf_one(&case.shortcut, 63),
-        independent: |case| independent::boundary_shelf_one(&case.shortcut, 63),
-    },
-    Call {
-        name: "salvage",
-        proved: |case| proved::salvage(&case.shortcut, &mut case.out),
-        independent: |case| independent::boundary_salvage(&case.shortcut, &mut case.out),
-    },
-];
+    "check+key": c => proved::check(&c.shortcut, c.profile) + proved::key(&c.shortcut, &mut c.out, c.profile),
+        independent::boundary_check(&c.shortcut, c.profile)
+            + independent::boundary_key(&c.shortcut, &mut c.out, c.profile);
+    "write": c => proved::write(&c.record, &c.shortcut, &mut c.out, c.profile),
+        independent::boundary_write(&c.record, &c.shortcut, &mut c.out, c.profile);
+    "rewrite": c => proved::read(&c.shortcut, &mut c.fields, c.profile)
+            + proved::write(&c.fields, &c.shortcut, &mut c.out, c.profile),
+        independent::boundary_read(&c.shortcut, &mut c.fields, c.profile)
+            + independent::boundary_write(&c.fields, &c.shortcut, &mut c.out, c.profile);
+    "path_block": c => proved::path_block(&c.record, &c.shortcut, ENVIRONMENT, TEXT, UNICODE, &mut c.out, c.profile),
+        independent::boundary_path_block(&c.record, &c.shortcut, ENVIRONMENT, TEXT, UNICODE, &mut c.out, c.profile);
+    "to_unicode": c => proved::to_unicode(&c.in_bytes, &mut c.out, c.profile),
+        independent::boundary_to_unicode(&c.in_bytes, &mut c.out, c.profile);
+    "to_bytes": c => proved::to_bytes(&c.in_unicode, &mut c.out, c.profile),
+        independent::boundary_to_bytes(&c.in_unicode, &mut c.out, c.profile);
+    "store_list": c => proved::store_list(&c.shortcut, &mut c.listed, c.profile),
+        independent::boundary_store_list(&c.shortcut, &mut c.listed, c.profile);
+    "store_write": c => proved::store_write(&c.rows, &c.shortcut, &mut c.out),
+        independent::boundary_store_write(&c.rows, &c.shortcut, &mut c.out);
+    "salvage": c => proved::salvage(&c.shortcut, &mut c.out), independent::boundary_salvage(&c.shortcut, &mut c.out);
+    "shelf_check": c => proved::shelf_check(&c.shortcut), independent::boundary_shelf_check(&c.shortcut);
+    // The last entry of a shelf: with a test of all entries, and of this one alone.
+    "shelf_entry": c => proved::shelf_entry(&c.shortcut, c.lengths.len() - 1),
+        independent::boundary_shelf_entry(&c.shortcut, c.lengths.len() - 1);
+    "shelf_one": c => proved::shelf_one(&c.shortcut, c.lengths.len() - 1),
+        independent::boundary_shelf_one(&c.shortcut, c.lengths.len() - 1);
+    "shelf_build": c => proved::shelf_build(&c.lengths, &c.bodies, &mut c.out),
+        independent::boundary_shelf_build(&c.lengths, &c.bodies, &mut c.out);
+    "shelf_from_old": c => proved::shelf_from_old(&c.old, &mut c.out),
+        independent::boundary_shelf_from_old(&c.old, &mut c.out);
+    "shelf_to_old": c => proved::shelf_to_old(&c.shortcut, &mut c.out),
+        independent::boundary_shelf_to_old(&c.shortcut, &mut c.out);
+};
 
 /// The path block that is put in.
 const ENVIRONMENT: u32 = 0xA000_0001;
@@ -125,46 +119,122 @@ const UNICODE: &[u8] = b"%\0T\0%\0\\\0c\0c\0";
 impl Case {
     fn new(shape: &str) -> Case {
         let shortcut = shapes::shape(shape).unwrap_or_else(|| stop("no such shape"));
+        let profile = shapes::profile(shape);
         let mut record = [0; FIELDS];
-        independent::boundary_read(&shortcut, &mut record, 0);
-        let [in_bytes, in_unicode] = both_kinds(&shortcut);
-        Case {
+        independent::boundary_read(&shortcut, &mut record, profile);
+        let mut listed = vec![0; LIMIT];
+        let answer = independent::boundary_store_list(&shortcut, &mut listed, profile);
+        let rows = if is_ok(answer) { listed[..6 * (answer >> 8) as usize].to_vec() } else { Vec::new() };
+        let [in_bytes, in_unicode] = both_kinds(&shortcut, profile);
+        let mut case = Case {
             shape: shape.to_string(),
             shortcut,
+            profile,
             in_bytes,
             in_unicode,
             record,
             fields: [0; FIELDS],
+            rows,
+            listed,
+            lengths: Vec::new(),
+            bodies: Vec::new(),
+            old: Vec::new(),
             out: vec![0; LIMIT],
-        }
+        };
+        case.take_shelf();
+        case
     }
 
-    /// A refused shortcut has no record to write, not all can be moved, and a shelf has calls of its own.
-    fn can(&self, call: &Call) -> bool {
-        let on_shelf = ["entry", "one"].contains(&call.name);
-        if on_shelf != (self.shape == shapes::SHELF) {
+    fn is_shelf(&self) -> bool {
+        self.shape.starts_with("shelf")
+    }
+
+    /// What the calls of a shelf are given.
+    fn take_shelf(&mut self) {
+        if !self.is_shelf() {
+            return;
+        }
+        let count = self.shortcut[0] as usize;
+        self.bodies = self.shortcut[4 + 8 * count..].to_vec();
+        self.lengths = vec![(self.bodies.len() / count) as u64; count];
+        let answer = independent::boundary_shelf_to_old(&self.shortcut, &mut self.out);
+        self.old = self.out[..(answer >> 8) as usize].to_vec();
+    }
+
+    /// A refused shortcut is only looked at, not every one has a store or can be moved or has space for one more block,
+    /// salvage is strict, and a shelf has calls of its own.
+    fn can(&mut self, call: &Call) -> bool {
+        if call.name.starts_with("shelf") != self.is_shelf() {
             return false;
         }
         match call.name {
-            "write" | "path_block" => independent::check(&self.shortcut, Profile::Strict).is_ok(),
+            "write" | "rewrite" | "path_block" | "salvage" => is_ok((call.independent)(self)),
             "to_unicode" | "to_bytes" => !self.in_unicode.is_empty(),
+            "store_list" | "store_write" => !self.rows.is_empty(),
             _ => true,
         }
     }
 }
 
+fn is_ok(answer: u64) -> bool {
+    answer & 0xFF == 0
+}
+
 /// A shortcut with strings of bytes and what it is in Unicode, if it can be moved.
-fn both_kinds(shortcut: &[u8]) -> [Vec<u8>; 2] {
+fn both_kinds(shortcut: &[u8], profile: u32) -> [Vec<u8>; 2] {
     let moved = |to: fn(&[u8], &mut [u8], u32) -> u64, shortcut: &[u8]| {
         let mut out = vec![0; LIMIT];
-        let answer = to(shortcut, &mut out, 0);
+        let answer = to(shortcut, &mut out, profile);
         out.truncate((answer >> 8) as usize);
-        (answer & 0xFF == 0).then_some(out)
+        is_ok(answer).then_some(out)
     };
     let home = moved(independent::boundary_to_bytes, shortcut).unwrap_or_else(|| shortcut.to_vec());
     match moved(independent::boundary_to_unicode, &home) {
         Some(there) => [home, there],
         None => [Vec::new(), Vec::new()],
+    }
+}
+
+/// What is counted of a long shape: some are there for one kind of call, and two calls in a row say nothing more.
+fn is_counted(kind: &str, call: &str) -> bool {
+    match kind {
+        "letters" => ["to_unicode", "to_bytes"].contains(&call),
+        "paths" => call == "path_block",
+        "overlap" | "unended" => false,
+        _ => !["fault", "section", "check+key", "rewrite", "path_block", "to_unicode", "to_bytes"].contains(&call),
+    }
+}
+
+/// A line for each shape and call that is counted, with the shape's length.
+fn print_rows() {
+    for shape in shapes::SMALL {
+        print_calls(shape, |_| true);
+    }
+    for kind in shapes::LONG {
+        for size in [4, 64] {
+            print_calls(&format!("{}-{}", kind, size), |call| is_counted(kind, call));
+        }
+    }
+}
+
+fn print_calls(shape: &str, is_counted: impl Fn(&str) -> bool) {
+    let mut case = Case::new(shape);
+    let length = case.shortcut.len();
+    for call in CALLS.iter().filter(|call| is_counted(call.name) && case.can(call)) {
+        println!("{} {} {}", shape, length, call.name);
+    }
+}
+
+fn run_in(path: &str) -> Run {
+    let text = fs::read_to_string(path).unwrap_or_else(|error| stop(&format!("{}: {}", path, error)));
+    Run::parse(&text).unwrap_or_else(|| stop(&format!("{} is no run", path)))
+}
+
+fn print_page(run: &str, path: &str) {
+    let page = fs::read_to_string(path).unwrap_or_else(|error| stop(&format!("{}: {}", path, error)));
+    match figures::page(&page, &run_in(run)) {
+        Some(page) => print!("{}", page),
+        None => stop(&format!("{} has not all marks of tables", path)),
     }
 }
 
@@ -174,8 +244,10 @@ fn main() {
     match words[..] {
         [] => tables(),
         ["count", shape, call, count, side] => count_calls(shape, call, count, side),
-        ["length", shape] => println!("{}", Case::new(shape).shortcut.len()),
-        _ => stop("speed [count SHAPE CALL N --proved|--independent | length SHAPE]"),
+        ["rows"] => print_rows(),
+        ["table", run, last] => print!("{}", figures::table(&run_in(run), &run_in(last))),
+        ["page", run, path] => print_page(run, path),
+        _ => stop("speed [rows | count SHAPE CALL N --proved|--independent | table RUN LAST | page RUN PAGE]"),
     }
 }
 
@@ -293,7 +365,6 @@ fn tables() {
     for shape in shapes::LONG {
         rows(&format!("{}-64", shape));
     }
-    rows(shapes::SHELF);
     println!("\nNanoseconds per byte, proved / independent:\n");
     println!("| Shape | Call | 4 KiB | 16 KiB | 64 KiB |");
     println!("|---|---|---|---|---|");
@@ -331,7 +402,7 @@ fn rows(shape: &str) {
 fn per_byte(shape: &str) {
     let mut cases = [4, 16, 64].map(|size| Case::new(&format!("{}-{}", shape, size)));
     for call in CALLS {
-        if !cases.iter().all(|case| case.can(&call)) {
+        if !cases.iter_mut().all(|case| case.can(&call)) {
             continue;
         }
         let columns: Vec<String> = cases

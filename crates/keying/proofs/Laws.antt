@@ -41,7 +41,7 @@ use Rattle.format.specs.Target.{hasTarget}
 use Rattle.format.specs.Key.{noPart, somePart, partIf, Key, blockText, environment, partBytes, keyBytes, key, keyAnswer, keyOutput, keyIn}
 use Rattle.format.specs.Demands.{Accepts}
 use Rattle.format.proofs.AnswerLaws.{nowhere, numbered}
-use Rattle.format.proofs.BodyLaws.{body-part}
+use Rattle.format.proofs.BodyLaws.{body-part, part-length}
 use Rattle.format.proofs.Chains.{drop-take}
 use Rattle.format.proofs.AcceptedLaws.{accepted-read, accepted-held, accepted-bodies, accepted-limit, refused-read}
 use Rattle.format.proofs.Demands.{accepted-whole}
@@ -56,7 +56,7 @@ use Rattle.target.specs.Steps.Texts.{Stands, textsLength, textsBytes, textsOf}
 use Rattle.target.proofs.Laws.{TextsInside, texts-inside, texts-stand, texts-are, texts-long}
 use Rattle.keying.specs.declared.KeyPart.{KeyPart}
 use Rattle.keying.specs.declared.KeyParts.{KeyParts}
-use Rattle.keying.specs.Steps.KeyParts.{only, keyPart, partShown, partLength, PartStands, TextOf, BlockAt, EnvironmentOf, keyShown, keyLength, KeyStands}
+use Rattle.keying.specs.Steps.KeyParts.{only, keyPart, partShown, partLength, PartStands, Alone, TextOf, BlockAt, EnvironmentOf, keyShown, keyLength, KeyStands}
 
 -- ---- one part
 
@@ -84,6 +84,11 @@ module _ (s : List ℕ) (there : Bool) (t : Texts) where
       go : (b : Bool) → Stands s (cond b t (only noPlace))
       go true = h
       go false = (omega arith, omega arith, omega arith)
+
+part-alone : (there : Bool) (b : Place) → Alone (keyPart there (only b))
+unfolding keyPart
+part-alone true b = refl
+part-alone false b = refl
 
 only-bytes : (s : List ℕ) (b : Place) → textsBytes s (only b) ≡ bytesAt s b
 unfolding textsBytes
@@ -137,6 +142,7 @@ module _ (s : List ℕ) {field : ℕ} (B : BlockAt s field) {b : Place} (f : b �
       rw (i, e, ← f)
       (record {
         stands = part-stands s false (only b) (B .small) (inside, omega arith, omega arith);
+        alone = part-alone false b;
         is = part-shown s false (only b) ∙ no-block s b z;
       })
 
@@ -145,6 +151,7 @@ module _ (s : List ℕ) {field : ℕ} (B : BlockAt s field) {b : Place} (f : b �
       rw (i, e, ← f)
       (record {
         stands = part-stands s true (only a) (B .small) (x .inside, omega arith, omega arith);
+        alone = part-alone true a;
         is = part-shown s true (only a) ∙ ap somePart (only-bytes s a ∙ x .is) ∙ a-block s b z;
       })
 
@@ -196,6 +203,25 @@ module _ (s : List ℕ) (p : KeyPart) (h : PartStands s p) where
           let b : (little 1 (oneOr0 (p .there)) ++ little 4 (m - 5)) ++ w ≡ partBytes (partShown s p)
           = append-assoc (little 1 (oneOr0 (p .there))) (little 4 (m - 5)) w ∙ rw c part-bytes in
           rw (← j) (reword (join counted t) b refl)
+
+  -- the same of one body
+  module _ (alone : Alone p) {out x : List ℕ} {at k : ℕ} (room : at + partLength p ≤ length out) (flag : Wrote out at (little 1 (oneOr0 (p .there))) 1 x k)
+      {y : List ℕ} (ey : y ≡ put x k (little 4 (p .texts .first .len))) {b : List ℕ} (eb : b ≡ part s (p .texts .first .at) (p .texts .first .len)) where
+    only-long : 5 + p .texts .first .len ≡ partLength p
+    only-long = rw alone (omega arith)
+
+    only-counted : y ≡ put x k (little 4 (5 + p .texts .first .len - 5))
+    only-counted = let e : 5 + p .texts .first .len - 5 ≡ p .texts .first .len = omega arith in rw e ey
+
+    pub only-fits : at + 5 + length b ≤ length y
+    only-fits = omega (arith, only-long, kept (counted room only-long flag only-counted), part-length s (p .texts .first) (h .stands .0) eb)
+
+    pub only-put : {q : List ℕ} → q ≡ put y (at + 5) b → Wrote out at (partBytes (partShown s p)) (partLength p) q (at + (5 + p .texts .first .len))
+    only-put {q} eq =
+        let a = p .texts .first in
+        let w-is : b ≡ w = eb ∙ body-part s a (h .stands .0) ∙ sym (only-bytes s a) ∙ ap (textsBytes s) (sym alone) in
+        let put-is : q ≡ put y (at + 5) w = rw (← w-is) eq in
+        part-put room only-long flag only-counted put-is
 
   pub part-long : length (partBytes (partShown s p)) ≡ partLength p
   part-long = ap length (sym part-bytes) ∙ simp (length-append, length-little, texts-long s (p .texts) (h .stands)) (omega arith)
@@ -275,6 +301,9 @@ module _ (profile : Profile) (s : List ℕ) (r : Record) (e : Accepts profile s 
           arguments = rw (arguments, hu, ea) (part-stands s (stringThere argumentsBit f) (only (placeIn r (stringSlot argumentsBit))) small (inside (stringSlot argumentsBit), omega arith, omega arith));
           workdir = rw (workdir, hv, ew) (part-stands s (stringThere workdirBit f) (only (placeIn r (stringSlot workdirBit))) small (inside (stringSlot workdirBit), omega arith, omega arith));
           environment = environment .stands;
+          arguments-alone = rw (arguments, hu, ea) (part-alone (stringThere argumentsBit f) (placeIn r (stringSlot argumentsBit)));
+          workdir-alone = rw (workdir, hv, ew) (part-alone (stringThere workdirBit f) (placeIn r (stringSlot workdirBit)));
+          environment-alone = environment .alone;
         }
 
     pub parts-are : (keyShown s k ≡ keyIn profile s) × KeyStands s k

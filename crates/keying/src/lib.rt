@@ -17,7 +17,7 @@ ghost use Rattle.format.specs.Key.{partBytes, keyBytes, key, keyIn, keyAnswer, 
 ghost use Rattle.format.specs.Demands.{Accepts};
 ghost use Rattle.blocks.specs.Steps.Walk.{blockFrom};
 ghost use Rattle.reader.specs.Steps.Finish.{FirstsOf};
-ghost use Rattle.keying.specs.Steps.KeyParts.{only, keyPart, partShown, partLength, PartStands, TextOf, BlockAt, EnvironmentOf, keyShown, keyLength, KeyStands};
+ghost use Rattle.keying.specs.Steps.KeyParts.{only, keyPart, partShown, partLength, PartStands, Alone, TextOf, BlockAt, EnvironmentOf, keyShown, keyLength, KeyStands};
 
 // One of the four parts: whether it is there, and where its texts stand.
 struct KeyPart {
@@ -120,7 +120,7 @@ fn key_length(k: KeyParts) -> usize
         + part_length(k.environment)
 }
 
-// A byte 0 or 1. This function and the two below answer the place after what they put.
+// A byte 0 or 1. This function and the three below answer the place after what they put.
 fn put_flag(out: &mut [u8], at: usize, b: bool) -> usize
     requires { ⌜ at + 1 ≤ length (now out) ⌝ }
     ensures { λ r. ⌜ Wrote (now (out .entry)) at (little 1 (oneOr0 b)) 1 (now (out .exit)) r ⌝ }
@@ -142,6 +142,21 @@ fn put_part(s: &[u8], p: KeyPart, at: usize, out: &mut [u8]) -> usize
     at + n
 }
 
+// The same of a part that is one body: it has a function of its own, so that the compiler merges it into the three calls.
+fn put_only(s: &[u8], p: KeyPart, at: usize, out: &mut [u8]) -> usize
+    requires { ⌜ PartStands (now s) p × Alone p × (at + partLength p ≤ length (now out)) ⌝ }
+    ensures written { λ r. ⌜ Wrote (now (out .entry)) at (partBytes (partShown (now (s .entry)) p))
+        (partLength p) (now (out .exit)) r ⌝ }
+{
+    let b = p.texts.first;
+    let q = put_flag(out, at, p.there);
+    octets::put_u32(out, q, b.len as u32);
+    let from = b.at;
+    let end = from + b.len;
+    octets::put_bytes(out, at + 5, &s[from..end]);
+    at + (5 + b.len)
+}
+
 fn put_key(s: &[u8], k: KeyParts, out: &mut [u8]) -> usize
     requires { ⌜ KeyStands (now s) k × (keyLength k ≤ length (now out)) ⌝ }
     ensures written { λ r. ⌜ Wrote (now (out .entry)) 0 (keyBytes (keyShown (now (s .entry)) k))
@@ -149,9 +164,9 @@ fn put_key(s: &[u8], k: KeyParts, out: &mut [u8]) -> usize
 {
     let p = put_flag(out, 0, k.unicode);
     let p = put_part(s, k.target, p, out);
-    let p = put_part(s, k.arguments, p, out);
-    let p = put_part(s, k.workdir, p, out);
-    put_part(s, k.environment, p, out)
+    let p = put_only(s, k.arguments, p, out);
+    let p = put_only(s, k.workdir, p, out);
+    put_only(s, k.environment, p, out)
 }
 
 // ---- the call

@@ -7,5 +7,6 @@ pub mod CursorLaws
 pub mod ZeroLaws
 pub mod PartLaws
 pub mod WroteLaws
+pub mod CopyLaws
 pub mod Outcomes
 pub mod OneOutcome

@@ -2,9 +2,9 @@
 use mathlib.Core.Path.{_≡_, refl, sym, ap, _∙_}
 use mathlib.Core.List.{List, [], _∷_}
 use mathlib.Core.Bool.{Bool, true, false, not, cond, _&&_}
-use Prim.Native.Nat.{ℕ, zero, suc, _+_, _*_, _/_, _≤_, _<_}
+use Prim.Native.Nat.{ℕ, zero, suc, _+_, _-_, _*_, _/_, _≤_, _<_}
 use native.Mathlib.Omega.{arith}
-use lib.ListN.{length, take, drop, length-drop}
+use lib.ListN.{length, take, drop, getD, length-drop}
 use lib.Seq.{drop-drop}
 use lib.Dec.{eqb, leb, leb·suc-suc}
 use borrow.Author.Tests.{lt-ltb, leb-true, leb-false, eqb-false, ne-eqb, not-true, not-false}
@@ -14,6 +14,7 @@ use Rattle.octets.specs.Steps.Cursors.{okOrCut}
 use Rattle.octets.specs.Steps.Scans.{zeroFrom, zeroNumber, zeroValue, ScanAnswer, scanOn, scanAt, other, others, before, sixteens, Passed}
 use Rattle.octets.specs.declared.Zero.{Zero}
 use Rattle.octets.specs.declared.Zero.the-variants.{After, Nowhere}
+use Rattle.octets.proofs.ReadLaws.{number-byte}
 use Rattle.octets.proofs.AndLaws.{and-true, and-assoc, and-yes}
 use Rattle.octets.proofs.CharacterLaws.{before-le, characters-fit, bytes-of-le, bytes-of-add}
 use Rattle.octets.proofs.ChoiceLaws.{cond-first, cond-second}
@@ -88,6 +89,12 @@ no-bytes false i = omega arith
 next-place : (u : Bool) (i k : ℕ) → i + bytesOf u (suc k) ≡ i + bytesOf u k + bytesOf u 1
 next-place true i k = omega arith
 next-place false i k = omega arith
+
+-- a byte that is not zero is passed
+pub byte-passed : (s : List ℕ) (f i m : ℕ) {z : Zero} → f ≤ i → i < length s → scanAt false s i (i - f) ≡ z → (getD s i 0 ≡ 0 → ⊥) → m ≡ i + 1 → scanAt false s m (m - f) ≡ z
+byte-passed s f i m h l e q next =
+    let n : m - f ≡ i - f + 1 = omega arith in
+    rw (n, next) (scan-other false s i (i - f) e (omega arith) (number-byte s i) q)
 
 pub four-others : (u : Bool) (s : List ℕ) (i : ℕ) {a b c d : ℕ} → a ≡ numberAt (bytesOf u 1) s i → b ≡ numberAt (bytesOf u 1) s (i + bytesOf u 1)
     → c ≡ numberAt (bytesOf u 1) s (i + bytesOf u 2) → d ≡ numberAt (bytesOf u 1) s (i + bytesOf u 3)

@@ -1,15 +1,19 @@
 // Bytes: numbers at a place, the cursor, scans for a zero, parts, and writing into a lent buffer.
+mod copies;
 mod zeros;
 
+use crate::copies::put_few;
+use crate::copies::put_sixteen;
+use crate::copies::put_turns;
 use crate::zeros::skip_bytes;
 use crate::zeros::skip_units;
 ghost use mathlib.Core.Path.{_≡_};
 ghost use mathlib.Core.Bool.{true, false};
-ghost use Prim.Native.Nat.{_+_, _≤_, _<_};
+ghost use Prim.Native.Nat.{_+_, _-_, _≤_, _<_};
 ghost use lib.ListN.{length};
 ghost use Rattle.octets.specs.Numbers.{u16At, u32At, u64At, little};
 ghost use Rattle.octets.specs.Characters.{characters, hasZero};
-ghost use Rattle.octets.specs.Steps.Scans.{zeroFrom, ScanAnswer};
+ghost use Rattle.octets.specs.Steps.Scans.{zeroFrom, scanAt, ScanAnswer};
 ghost use Rattle.octets.specs.Steps.Cursors.{TakeAnswer, SkipAnswer};
 ghost use Rattle.octets.specs.Parts.{put};
 ghost use Rattle.octets.specs.Steps.Puts.{part};
@@ -117,11 +121,12 @@ impl Cursor {
     }
 }
 
-// How many bytes stand before the first zero one.
-fn zero_byte(s: &[u8], from: usize) -> Zero
+// A scan from `from` on that has come to `start`.
+fn zero_rest(s: &[u8], from: usize, start: usize) -> Zero
+    requires { ⌜ (from ≤ start) × (scanAt false (now s) start (start - from) ≡ zeroFrom false (now s) from) ⌝ }
     ensures { λ r. ⌜ r ≡ zeroFrom false (now (s .entry)) from ⌝ }
 {
-    let mut i = skip_bytes(s, from);
+    let mut i = start;
     while i < s.len() {
         if s[i] == 0 {
             return Zero::After(i - from);
@@ -129,6 +134,35 @@ fn zero_byte(s: &[u8], from: usize) -> Zero
         i += 1;
     }
     Zero::Nowhere
+}
+
+// How many bytes stand before the first zero one. Near it they are looked at four in a turn: two instructions a byte, and
+// three for the turn.
+fn zero_byte(s: &[u8], from: usize) -> Zero
+    ensures { λ r. ⌜ r ≡ zeroFrom false (now (s .entry)) from ⌝ }
+{
+    let mut i = skip_bytes(s, from);
+    if s.len() < 4 {
+        return zero_rest(s, from, i);
+    }
+    // The last place where a turn can start: up to it i + 4 cannot wrap.
+    let last = s.len() - 4;
+    while i <= last {
+        if s[i] == 0 {
+            return Zero::After(i - from);
+        }
+        if s[i + 1] == 0 {
+            return Zero::After(i + 1 - from);
+        }
+        if s[i + 2] == 0 {
+            return Zero::After(i + 2 - from);
+        }
+        if s[i + 3] == 0 {
+            return Zero::After(i + 3 - from);
+        }
+        i += 4;
+    }
+    zero_rest(s, from, i)
 }
 
 // The same of 16-bit units, counted from the place itself, at any alignment.
@@ -183,15 +217,22 @@ pub fn part(s: &[u8], at: usize, n: usize) -> &[u8]
     &s[..0]
 }
 
+// By turns, then by sixteen bytes, of which the last are at the end.
 pub fn put_bytes(out: &mut [u8], at: usize, src: &[u8])
     requires { ⌜ at + length (now src) ≤ length (now out) ⌝ }
     ensures { λ _. ⌜ now (out .exit) ≡ put (now (out .entry)) at (now (src .entry)) ⌝ }
 {
-    let mut i: usize = 0;
-    while i < src.len() {
-        out[at + i] = src[i];
-        i += 1;
+    if src.len() < 16 {
+        put_few(out, at, src);
+        return;
     }
+    let last = src.len() - 16;
+    let mut i = put_turns(out, at, src);
+    while i < last {
+        put_sixteen(out, at, src, i);
+        i += 16;
+    }
+    put_sixteen(out, at, src, last);
 }
 
 pub fn put_u16(out: &mut [u8], at: usize, n: u16)

@@ -1,6 +1,6 @@
 -- One law for each way out of the target call.
 use mathlib.Core.Path.{_≡_, refl, sym, ap, _∙_}
-use mathlib.Core.List.{List, [], _∷_, _++_}
+use mathlib.Core.List.{List, [], _∷_, _++_, append-nil}
 use mathlib.Core.Bool.{Bool, true, false, not, cond}
 use Prim.Native.Nat.{ℕ, _+_, _-_, _≤_, _<_}
 use native.Mathlib.Omega.{arith}
@@ -198,6 +198,10 @@ module _ (profile : Profile) (s out : List ℕ) {g : Reading} (e : g ≡ reading
 separator-is : {k : ℕ} {q : List ℕ} → k ≤ 1 → q ≡ part backslash 0 k → q ≡ take k backslash
 separator-is {k} h e = e ∙ sym (part-in backslash 0 k (omega arith))
 
+-- what is cut out from a body's place to its end
+pub body-cut : (s : List ℕ) (b : Place) → b .at + b .len ≤ length s → take (b .at + b .len - b .at) (drop (b .at) s) ≡ part s (b .at) (b .len)
+body-cut s b h = let l : b .at + b .len - b .at ≡ b .len = omega arith in rw l (part-in s (b .at) (b .len) h)
+
 module _ (s d : List ℕ) (t : Texts) (at : ℕ) (h : Stands s t) (room : at + textsLength t ≤ length d) where
   pub first-fits : {p : List ℕ} → p ≡ part s (t .first .at) (t .first .len) → at + length p ≤ length d
   first-fits e = omega (arith, part-length s (t .first) (h .0) e)
@@ -205,6 +209,14 @@ module _ (s d : List ℕ) (t : Texts) (at : ℕ) (h : Stands s t) (room : at + t
   module _ {p x : List ℕ} (ep : p ≡ part s (t .first .at) (t .first .len)) (ex : x ≡ put d at p) where
     same-x : length x ≡ length d
     same-x = ap length ex ∙ length-put d at p (first-fits ep)
+
+    pub first-put : t .separators + t .suffix .len ≡ 0 → x ≡ put d at (textsBytes s t)
+    unfolding textsBytes
+    first-put z =
+        let none : t .separators ≡ 0 = omega arith in
+        let empty : t .suffix .len ≡ 0 = omega arith in
+        let tail : take (t .separators) backslash ++ bytesAt s (t .suffix) ≡ [] = rw (none, empty) in
+        ex ∙ ap (put d at) (ep ∙ body-part s (t .first) (h .0) ∙ rw (tail, append-nil (bytesAt s (t .first))))
 
     pub separators-fits : {q : List ℕ} → q ≡ part backslash 0 (t .separators) → at + t .first .len + length q ≤ length x
     separators-fits {q} e = omega (arith, same-x, ap length (separator-is (h .2) e), separator-length (h .2))

@@ -80,7 +80,13 @@ pub fn put_texts(s: &[u8], t: Texts, at: usize, out: &mut [u8])
 {
     let middle = at + t.first.len;
     let last = middle + t.separators;
-    octets::put_bytes(out, at, octets::part(s, t.first.at, t.first.len));
+    let from = t.first.at;
+    let end = from + t.first.len;
+    octets::put_bytes(out, at, &s[from..end]);
+    // Most targets are one text.
+    if t.separators + t.suffix.len == 0 {
+        return;
+    }
     octets::put_bytes(out, middle, octets::part(b"\\", 0, t.separators));
     octets::put_bytes(out, last, octets::part(s, t.suffix.at, t.suffix.len));
 }

@@ -6,19 +6,28 @@ struct Texts<'a> {
     suffix: &'a [u8],
     /// Unicode local path and Unicode suffix, with the long head.
     unicode: Option<(&'a [u8], &'a [u8])>,
+    /// Further bytes of the long head.
+    further: &'a [u8],
 }
 
-pub const SMALL: [&str; 3] = ["local", "network", "environment"];
-pub const SHELF: &str = "shelf";
-pub const LONG: [&str; 8] = ["string", "letters", "items", "blocks", "store", "texts", "overlap", "unended"];
+pub const SMALL: [&str; 6] = ["local", "network", "environment", "stored", "longhead", "win95"];
+pub const LONG: [&str; 10] =
+    ["string", "letters", "items", "blocks", "store", "texts", "paths", "shelf", "overlap", "unended"];
 
-/// A small shape by its name, or a long one by its name, a hyphen and its KiB.
+/// The profile that a shape is read under.
+pub fn profile(name: &str) -> u32 {
+    u32::from(name == "win95")
+}
+
+/// A small shape by its name, or a long one by its name, a hyphen and its KiB; a shelf has one entry for each.
 pub fn shape(name: &str) -> Option<Vec<u8>> {
     match name {
         "local" => Some(local()),
         "network" => Some(network()),
         "environment" => Some(environment()),
-        SHELF => Some(shelf()),
+        "stored" => Some(stored()),
+        "longhead" => Some(long_head()),
+        "win95" => Some(windows_95()),
         _ => {
             let (kind, kibibytes) = name.rsplit_once('-')?;
             long(kind, kibibytes.parse::<usize>().ok()? * 1024)
@@ -34,22 +43,24 @@ fn long(kind: &str, length: usize) -> Option<Vec<u8>> {
         "blocks" => Some(many_blocks(length)),
         "store" => Some(many_values(length)),
         "texts" => Some(long_texts(length)),
+        "paths" => Some(long_with_path(length)),
+        "shelf" => Some(shelf(length / 1024)),
         "overlap" => Some(overlapping_texts(length)),
         "unended" => Some(unended_text(length)),
         _ => None,
     }
 }
 
-/// A full shelf of small shortcuts.
-fn shelf() -> Vec<u8> {
+/// So many small shortcuts on a shelf.
+fn shelf(count: usize) -> Vec<u8> {
     let entry = local();
     let mut bytes = Vec::new();
-    put(&mut bytes, 64);
-    for number in 0..64 {
-        put(&mut bytes, (4 + 8 * 64 + number * entry.len()) as u32);
+    put(&mut bytes, count as u32);
+    for number in 0..count {
+        put(&mut bytes, (4 + 8 * count + number * entry.len()) as u32);
         put(&mut bytes, entry.len() as u32);
     }
-    (0..64).for_each(|_| bytes.extend(&entry));
+    (0..count).for_each(|_| bytes.extend(&entry));
     bytes
 }
 
@@ -115,8 +126,9 @@ fn path_block(bytes: &mut Vec<u8>, signature: u32, text: &str) {
 /// LinkInfo with a volume and a local path.
 fn local_info(bytes: &mut Vec<u8>, texts: &Texts) {
     let base = bytes.len();
-    let head: usize = if texts.unicode.is_some() { 0x24 } else { 0x1C };
-    bytes.resize(base + head, 0);
+    let head: usize = if texts.unicode.is_some() { 0x24 + texts.further.len() } else { 0x1C };
+    bytes.resize(base + head - texts.further.len(), 0);
+    bytes.extend(texts.further);
     put_size(bytes, base + 4, head);
     put_size(bytes, base + 8, 1);
     put_size(bytes, base + 12, head);
@@ -173,7 +185,7 @@ fn local() -> Vec<u8> {
     let mut bytes = header(0xFF);
     items(&mut bytes, &[0x14, 0x19, 0x46, 0x48, 0x52]);
     let path = b"C:\\Program Files\\Compilers\\bin\\compiler.exe";
-    local_info(&mut bytes, &Texts { local_path: path, suffix: b"", unicode: None });
+    local_info(&mut bytes, &Texts { local_path: path, suffix: b"", unicode: None, further: b"" });
     string(&mut bytes, "Compiler of the farm");
     string(&mut bytes, "..\\..\\..\\Program Files\\Compilers\\bin\\compiler.exe");
     string(&mut bytes, "C:\\Program Files\\Compilers\\bin");
@@ -202,7 +214,7 @@ fn environment() -> Vec<u8> {
     let mut bytes = header(0x029B);
     items(&mut bytes, &[0x14, 0x19, 0x46]);
     let path = b"C:\\Windows\\System32\\cmd.exe";
-    local_info(&mut bytes, &Texts { local_path: path, suffix: b"", unicode: None });
+    local_info(&mut bytes, &Texts { local_path: path, suffix: b"", unicode: None, further: b"" });
     string(&mut bytes, "..\\Windows\\System32\\cmd.exe");
     string(&mut bytes, "%HOMEDRIVE%%HOMEPATH%");
     path_block(&mut bytes, 0xA000_0001, "%windir%\\system32\\cmd.exe");
@@ -212,9 +224,106 @@ fn environment() -> Vec<u8> {
     bytes
 }
 
+/// As Windows makes them since it keeps a property store: known folder, tracker and four storages.
+fn stored() -> Vec<u8> {
+    let mut bytes = header(0x0020_009B);
+    items(&mut bytes, &[0x14, 0x19, 0x46, 0x52]);
+    let path = b"C:\\Program Files\\Compilers\\bin\\link.exe";
+    local_info(&mut bytes, &Texts { local_path: path, suffix: b"", unicode: None, further: b"" });
+    string(&mut bytes, "..\\..\\Program Files\\Compilers\\bin\\link.exe");
+    string(&mut bytes, "C:\\Program Files\\Compilers\\bin");
+    block(&mut bytes, 0xA000_000B, 0x1C);
+    block(&mut bytes, 0xA000_0003, 0x60);
+    real_store(&mut bytes);
+    put(&mut bytes, 0);
+    bytes
+}
+
+/// A property store of values that shortcuts have: a SID, an identifier, details of the file, its path.
+fn real_store(bytes: &mut Vec<u8>) {
+    let start = bytes.len();
+    put(bytes, 0);
+    put(bytes, 0xA000_0009);
+    let text = |text: &str| {
+        let mut raw = vec![0x1F, 0, 0, 0];
+        put(&mut raw, text.len() as u32 + 1);
+        raw.extend(wide(text));
+        raw.extend([0, 0]);
+        raw
+    };
+    let number = |kind: u8, number: u64| [[kind, 0, 0, 0, 0, 0, 0, 0], number.to_le_bytes()].concat();
+    storage(bytes, 0x46, &[(4, text("S-1-5-21-1004336348-1177238915-682003330-1001"))]);
+    storage(bytes, 0x9F, &[(5, text("Herringnet.Compilers.Link"))]);
+    let details = [
+        (10, text("link.exe")),
+        (4, text("Application")),
+        (12, number(0x15, 2_334_720)),
+        (14, number(0x40, 0x01C9_1515_F2EE_E9D0)),
+    ];
+    storage(bytes, 0x30, &details);
+    storage(bytes, 0x28, &[(30, text("C:\\Program Files\\Compilers\\bin\\link.exe"))]);
+    put(bytes, 0);
+    let size = bytes.len() - start;
+    put_size(bytes, start, size);
+}
+
+/// A storage of numbered values; one byte stands for its format.
+fn storage(bytes: &mut Vec<u8>, format: u8, values: &[(u32, Vec<u8>)]) {
+    let start = bytes.len();
+    put(bytes, 0);
+    put(bytes, 0x5350_5331);
+    bytes.extend([format; 16]);
+    for (number, raw) in values {
+        put(bytes, 9 + raw.len() as u32);
+        put(bytes, *number);
+        bytes.push(0);
+        bytes.extend(raw);
+    }
+    put(bytes, 0);
+    let size = bytes.len() - start;
+    put_size(bytes, start, size);
+}
+
+/// LinkInfo's head has eight bytes more than its known fields.
+fn long_head() -> Vec<u8> {
+    let mut bytes = header(0x9B);
+    items(&mut bytes, &[0x14, 0x19, 0x46]);
+    let path = "C:\\Toolchains\\arm\\bin\\gcc.exe";
+    let unicode = wide(path);
+    let texts = Texts {
+        local_path: path.as_bytes(),
+        suffix: b"",
+        unicode: Some((&unicode, b"")),
+        further: &[0, 0, 0, 0, 0x2C, 0, 0, 0],
+    };
+    local_info(&mut bytes, &texts);
+    string(&mut bytes, "..\\Toolchains\\arm\\bin\\gcc.exe");
+    string(&mut bytes, "C:\\Toolchains\\arm");
+    block(&mut bytes, 0xA000_0003, 0x60);
+    put(&mut bytes, 0);
+    bytes
+}
+
+/// Byte strings, attribute bit 15, and an offset that is left over in LinkInfo: accepted under the profile 95 alone.
+fn windows_95() -> Vec<u8> {
+    let mut bytes = header(0x1B);
+    put_size(&mut bytes, 24, 0x8020);
+    items(&mut bytes, &[0x14, 0x19, 0x32]);
+    let info = bytes.len();
+    let path = b"C:\\WINDOWS\\COMMAND\\EDIT.COM";
+    local_info(&mut bytes, &Texts { local_path: path, suffix: b"", unicode: None, further: b"" });
+    put_size(&mut bytes, info + 20, 0x55);
+    for text in [&b"..\\COMMAND\\EDIT.COM"[..], b"C:\\WINDOWS"] {
+        bytes.extend((text.len() as u16).to_le_bytes());
+        bytes.extend(text);
+    }
+    put(&mut bytes, 0);
+    bytes
+}
+
 /// A little LinkInfo, so that a long shape has a target text too.
 fn little_info(bytes: &mut Vec<u8>) {
-    local_info(bytes, &Texts { local_path: b"C:\\a\\b.exe", suffix: b"", unicode: None });
+    local_info(bytes, &Texts { local_path: b"C:\\a\\b.exe", suffix: b"", unicode: None, further: b"" });
 }
 
 fn long_string(length: usize) -> Vec<u8> {
@@ -232,6 +341,15 @@ fn long_letters(length: usize) -> Vec<u8> {
     let mut bytes = header(0xA0);
     let units = (length - bytes.len() - 6) / 2;
     string(&mut bytes, &"–O2 ".chars().cycle().take(units).collect::<String>());
+    put(&mut bytes, 0);
+    bytes
+}
+
+/// A long string and the path block that another takes the place of.
+fn long_with_path(length: usize) -> Vec<u8> {
+    let mut bytes = long_string(length - 0x314);
+    bytes.truncate(bytes.len() - 4);
+    path_block(&mut bytes, 0xA000_0001, "%windir%\\system32\\cmd.exe");
     put(&mut bytes, 0);
     bytes
 }
@@ -290,7 +408,7 @@ fn long_texts(length: usize) -> Vec<u8> {
     let mut bytes = header(2);
     let each = (length - 200) / 4 & !1;
     let text = vec![0x61; each];
-    let texts = Texts { local_path: &text, suffix: &text, unicode: Some((&text, &text)) };
+    let texts = Texts { local_path: &text, suffix: &text, unicode: Some((&text, &text)), further: b"" };
     local_info(&mut bytes, &texts);
     put(&mut bytes, 0);
     bytes
@@ -301,7 +419,7 @@ fn overlapping_texts(length: usize) -> Vec<u8> {
     let mut bytes = header(2);
     let text = vec![0x61; length - 200 & !1];
     let base = bytes.len();
-    let texts = Texts { local_path: b"", suffix: b"", unicode: Some((&text, b"")) };
+    let texts = Texts { local_path: b"", suffix: b"", unicode: Some((&text, b"")), further: b"" };
     local_info(&mut bytes, &texts);
     let start = u32::from_le_bytes(bytes[base + 28..base + 32].try_into().unwrap()) as usize;
     put_size(&mut bytes, base + 16, start + 2);
@@ -316,7 +434,7 @@ fn unended_text(length: usize) -> Vec<u8> {
     let mut bytes = header(2);
     let text = vec![0x61; (length - 200) / 2];
     let base = bytes.len();
-    local_info(&mut bytes, &Texts { local_path: &text, suffix: &text, unicode: None });
+    local_info(&mut bytes, &Texts { local_path: &text, suffix: &text, unicode: None, further: b"" });
     let size = bytes.len() - base - 1;
     bytes.truncate(base + size);
     put_size(&mut bytes, base, size);

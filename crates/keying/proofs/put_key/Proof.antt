@@ -10,14 +10,14 @@ put-flag-requires c κs = search needs
 put-part-requires : tie.Need-put-part-requires
 put-part-requires c κs = search needs
 
-put-part-requires-2 : tie.Need-put-part-requires-2
-put-part-requires-2 c κs = search needs
+put-only-requires : tie.Need-put-only-requires
+put-only-requires c κs = search needs
 
-put-part-requires-3 : tie.Need-put-part-requires-3
-put-part-requires-3 c κs = search needs
+put-only-requires-2 : tie.Need-put-only-requires-2
+put-only-requires-2 c κs = search needs
 
-put-part-requires-4 : tie.Need-put-part-requires-4
-put-part-requires-4 c κs = search needs
+put-only-requires-3 : tie.Need-put-only-requires-3
+put-only-requires-3 c κs = search needs
 
 same-length : tie.Need-same-length
 same-length c = search needs
@@ -29,7 +29,7 @@ returns c =
     let after-arguments = after-workdir .before .before .before .before in
     let after-target = after-arguments .before .before .before .before in
     let after-unicode = after-target .before .before .before .before in
-    key-put _ _ (after-unicode .put-flag .ensures) (after-target .put-part .ensures) (after-arguments .put-part2 .ensures) (after-workdir .put-part3 .ensures) (after-environment .put-part4 .ensures)
+    key-put _ _ (after-unicode .put-flag .ensures) (after-target .put-part .ensures) (after-arguments .put-only .ensures) (after-workdir .put-only2 .ensures) (after-environment .put-only3 .ensures)
 
 pub put-key-spec : {M : Type 1} → statement M
 put-key-spec =
@@ -37,8 +37,8 @@ put-key-spec =
     (tie.spec
     put-flag-requires
     put-part-requires
-    put-part-requires-2
-    put-part-requires-3
-    put-part-requires-4
+    put-only-requires
+    put-only-requires-2
+    put-only-requires-3
     same-length
     returns)

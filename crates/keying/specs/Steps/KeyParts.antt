@@ -37,6 +37,10 @@ pub record PartStands (s : List ℕ) (p : KeyPart) : Type 0 where
   pub empty : p .there ≡ false → textsLength (p .texts) ≡ 0
   pub small : length s ≤ most
 
+-- a part that is one body
+abbrev pub Alone : KeyPart → Type 0
+Alone p = p .texts ≡ only (p .texts .first)
+
 -- b is where the byte string of the block a stands
 pub record TextOf (s : List ℕ) (a b : Place) : Type 0 where
   pub inside : b .at + b .len ≤ length s
@@ -52,6 +56,7 @@ pub record BlockAt (s : List ℕ) (field : ℕ) : Type 0 where
 -- p shows the environment that the block b holds
 pub record EnvironmentOf (s : List ℕ) (b : Place) (p : KeyPart) : Type 0 where
   pub stands : PartStands s p
+  pub alone : Alone p
   pub is : partShown s p ≡ environment s b
 
 -- ---- the whole key
@@ -74,3 +79,6 @@ pub record KeyStands (s : List ℕ) (k : KeyParts) : Type 0 where
   pub arguments : PartStands s (k .arguments)
   pub workdir : PartStands s (k .workdir)
   pub environment : PartStands s (k .environment)
+  pub arguments-alone : Alone (k .arguments)
+  pub workdir-alone : Alone (k .workdir)
+  pub environment-alone : Alone (k .environment)

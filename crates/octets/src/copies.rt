@@ -1,0 +1,92 @@
+// Many bytes in one store each, so that a copy goes by sixteen bytes at a time. Where the last step would pass the end it
+// stands back, and puts some bytes a second time.
+ghost use mathlib.Core.Path.{_≡_};
+ghost use Prim.Native.Nat.{_+_, _*_, _/_, _≤_, _<_};
+ghost use lib.ListN.{length, take};
+ghost use Rattle.octets.specs.Parts.{put};
+ghost use Rattle.octets.specs.Steps.Puts.{part};
+
+fn put_four(out: &mut [u8], at: usize, src: &[u8], i: usize)
+    requires { ⌜ (i + 4 ≤ length (now src)) × (at + length (now src) ≤ length (now out)) ⌝ }
+    ensures { λ _. ⌜ now (out .exit) ≡ put (now (out .entry)) (at + i) (part (now (src .entry)) i 4) ⌝ }
+{
+    crate::put_u32(out, at + i, crate::u32_at(src, i));
+}
+
+fn put_eight(out: &mut [u8], at: usize, src: &[u8], i: usize)
+    requires { ⌜ (i + 8 ≤ length (now src)) × (at + length (now src) ≤ length (now out)) ⌝ }
+    ensures { λ _. ⌜ now (out .exit) ≡ put (now (out .entry)) (at + i) (part (now (src .entry)) i 8) ⌝ }
+{
+    crate::put_u64(out, at + i, crate::u64_at(src, i));
+}
+
+// Both halves are read before the first is put: only so does the compiler make one load and one store of them.
+pub fn put_sixteen(out: &mut [u8], at: usize, src: &[u8], i: usize)
+    requires { ⌜ (i + 16 ≤ length (now src)) × (at + length (now src) ≤ length (now out)) ⌝ }
+    ensures { λ _. ⌜ now (out .exit) ≡ put (now (out .entry)) (at + i) (part (now (src .entry)) i 16) ⌝ }
+{
+    let low = crate::u64_at(src, i);
+    let high = crate::u64_at(src, i + 8);
+    crate::put_u64(out, at + i, low);
+    crate::put_u64(out, at + i + 8, high);
+}
+
+fn put_sixty_four(out: &mut [u8], at: usize, src: &[u8], i: usize)
+    requires { ⌜ (i + 64 ≤ length (now src)) × (at + length (now src) ≤ length (now out)) ⌝ }
+    ensures { λ _. ⌜ now (out .exit) ≡ put (now (out .entry)) (at + i) (part (now (src .entry)) i 64) ⌝ }
+{
+    put_sixteen(out, at, src, i);
+    put_sixteen(out, at, src, i + 16);
+    put_sixteen(out, at, src, i + 32);
+    put_sixteen(out, at, src, i + 48);
+}
+
+fn put_each(out: &mut [u8], at: usize, src: &[u8])
+    requires { ⌜ at + length (now src) ≤ length (now out) ⌝ }
+    ensures { λ _. ⌜ now (out .exit) ≡ put (now (out .entry)) at (now (src .entry)) ⌝ }
+{
+    let mut i: usize = 0;
+    while i < src.len() {
+        out[at + i] = src[i];
+        i += 1;
+    }
+}
+
+// Fewer than sixteen bytes.
+pub fn put_few(out: &mut [u8], at: usize, src: &[u8])
+    requires { ⌜ (length (now src) < 16) × (at + length (now src) ≤ length (now out)) ⌝ }
+    ensures { λ _. ⌜ now (out .exit) ≡ put (now (out .entry)) at (now (src .entry)) ⌝ }
+{
+    let n = src.len();
+    if 8 <= n {
+        put_eight(out, at, src, 0);
+        put_eight(out, at, src, n - 8);
+        return;
+    }
+    if 4 <= n {
+        put_four(out, at, src, 0);
+        put_four(out, at, src, n - 4);
+        return;
+    }
+    put_each(out, at, src);
+}
+
+// As many bytes as whole turns of 128 have, which is answered: three instructions of a turn copy nothing.
+pub fn put_turns(out: &mut [u8], at: usize, src: &[u8]) -> usize
+    requires { ⌜ at + length (now src) ≤ length (now out) ⌝ }
+    ensures count { λ r. ⌜ r ≡ 128 * (length (now (src .entry)) / 128) ⌝ }
+    ensures output { λ r. ⌜ now (out .exit) ≡ put (now (out .entry)) at (take r (now (src .entry))) ⌝ }
+{
+    if src.len() < 128 {
+        return 0;
+    }
+    // The last place where a turn can start: up to it i + 128 cannot wrap.
+    let last = src.len() - 128;
+    let mut i: usize = 0;
+    while i <= last {
+        put_sixty_four(out, at, src, i);
+        put_sixty_four(out, at, src, i + 64);
+        i += 128;
+    }
+    i
+}
