@@ -23,7 +23,8 @@ pub fn page() -> String {
     }
     page += ".SH OPTIONS\n";
     for choice in all() {
-        let commands: Vec<&str> = choice.commands.iter().map(|command| command.word()).collect();
+        let takers = Command::ALL.iter().filter(|command| choice.commands.has(**command));
+        let commands: Vec<&str> = takers.map(|command| command.word()).collect();
         let lines = escaped(&choice.lines.join("\n"));
         page += &format!(".TP\n.B {}\n{}\n({})\n", escaped(&choice.heading()), lines, commands.join(", "));
     }

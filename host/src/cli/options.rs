@@ -1,6 +1,7 @@
 //! The options: one table for the command line, for help, for the manual and for completion.
 use super::command::Command;
 use super::set::asks::{Ask, CHANGES};
+use Takers::{AllBut, Only};
 
 /// What an option asks for.
 #[derive(Clone, Copy, PartialEq, Eq)]
@@ -42,12 +43,27 @@ pub struct Choice {
     pub words: &'static [&'static str],
     /// What its value is called, if it has one.
     pub value: Option<&'static str>,
-    pub commands: &'static [Command],
+    pub commands: Takers,
     /// Its lines in help.
     pub lines: &'static [&'static str],
 }
 
-const PRINTING: &[Command] = &[
+/// The commands that take an option.
+pub enum Takers {
+    Only(&'static [Command]),
+    AllBut(&'static [Command]),
+}
+
+impl Takers {
+    pub fn has(&self, command: Command) -> bool {
+        match self {
+            Only(these) => these.contains(&command),
+            AllBut(others) => !others.contains(&command),
+        }
+    }
+}
+
+const PRINTING: Takers = Only(&[
     Command::Check,
     Command::List,
     Command::Target,
@@ -57,41 +73,13 @@ const PRINTING: &[Command] = &[
     Command::Store,
     Command::Diff,
     Command::Audit,
-];
+]);
 /// Those that take shortcuts, file by file.
-const EACH: &[Command] = &[
-    Command::Check,
-    Command::List,
-    Command::Target,
-    Command::Key,
-    Command::Show,
-    Command::Hex,
-    Command::Store,
-    Command::Audit,
-    Command::Report,
-    Command::Rewrite,
-    Command::Set,
-    Command::Move,
-    Command::Salvage,
-];
+const EACH: Takers = AllBut(&[Command::Diff, Command::Shelf]);
 /// All that are not strict alone.
-const PROFILED: &[Command] = &[
-    Command::Check,
-    Command::List,
-    Command::Target,
-    Command::Key,
-    Command::Show,
-    Command::Hex,
-    Command::Store,
-    Command::Diff,
-    Command::Audit,
-    Command::Report,
-    Command::Rewrite,
-    Command::Set,
-    Command::Move,
-];
-const WRITING: &[Command] = &[Command::Rewrite, Command::Set, Command::Move, Command::Salvage];
-const MOVE: &[Command] = &[Command::Move];
+const PROFILED: Takers = AllBut(&[Command::Shelf, Command::Salvage]);
+const WRITING: Takers = Only(&[Command::Rewrite, Command::Set, Command::Move, Command::Salvage]);
+const MOVE: Takers = Only(&[Command::Move]);
 
 /// All options but those of `set` alone, in the order of help.
 const CHOICES: [Choice; 19] = [
@@ -157,14 +145,14 @@ const CHOICES: [Choice; 19] = [
         asks: Asks::Raw,
         words: &["--raw"],
         value: None,
-        commands: &[Command::Target],
+        commands: Only(&[Command::Target]),
         lines: &["print the bytes as they stand in the file, and no line feed; for one FILE"],
     },
     Choice {
         asks: Asks::Hex,
         words: &["--hex"],
         value: None,
-        commands: &[Command::Check],
+        commands: Only(&[Command::Check]),
         lines: &[
             "after a refusal, print the field's bytes with the sixteen before and after",
             "it, each line with its place in hex; lines of the field begin with >",
@@ -174,21 +162,21 @@ const CHOICES: [Choice; 19] = [
         asks: Asks::All,
         words: &["--all"],
         value: None,
-        commands: &[Command::Hex],
+        commands: Only(&[Command::Hex]),
         lines: &["fold no line: print all bytes and all of each value; JSON has them always"],
     },
     Choice {
         asks: Asks::Shelf,
         words: &["--shelf"],
         value: None,
-        commands: &[Command::Key],
+        commands: Only(&[Command::Key]),
         lines: &["take each FILE for a shelf, and print the keys of all its entries"],
     },
     Choice {
         asks: Asks::NoBlind,
         words: &["--no-blind"],
         value: None,
-        commands: &[Command::Key],
+        commands: Only(&[Command::Key]),
         lines: &[
             "refuse a shortcut whose key does not tell the driver, and a shelf",
             "with such an entry; the status is 4",
@@ -198,21 +186,21 @@ const CHOICES: [Choice; 19] = [
         asks: Asks::Diff,
         words: &["--diff"],
         value: None,
-        commands: &[Command::Key],
+        commands: Only(&[Command::Key]),
         lines: &["compare the keys of two FILEs part by part, and print what differs"],
     },
     Choice {
         asks: Asks::One,
         words: &["--one"],
         value: None,
-        commands: &[Command::Shelf],
+        commands: Only(&[Command::Shelf]),
         lines: &["with fetch: test the table and the entry that is written, and no other"],
     },
     Choice {
         asks: Asks::Output,
         words: &["-o", "--output"],
         value: Some("OUTPUT"),
-        commands: &[Command::Report, Command::Rewrite, Command::Set, Command::Move, Command::Salvage, Command::Shelf],
+        commands: Only(&[Command::Report, Command::Rewrite, Command::Set, Command::Move, Command::Salvage, Command::Shelf]),
         lines: &["write to OUTPUT; an older file there is replaced; - is standard output"],
     },
     Choice {
@@ -236,7 +224,7 @@ const CHOICES: [Choice; 19] = [
         asks: Asks::Keep,
         words: &["--keep"],
         value: Some("SUFFIX"),
-        commands: &[Command::Salvage],
+        commands: Only(&[Command::Salvage]),
         lines: &[
             "with --in-place, which needs it: first copy each FILE that changes to a file",
             "beside it, with SUFFIX put after its name; one that is there stays as it is",
@@ -260,7 +248,7 @@ const CHOICES: [Choice; 19] = [
 
 /// The last one in every help.
 const HELP: Choice =
-    Choice { asks: Asks::Help, words: &["-h", "--help"], value: None, commands: &Command::ALL, lines: &["print this"] };
+    Choice { asks: Asks::Help, words: &["-h", "--help"], value: None, commands: AllBut(&[]), lines: &["print this"] };
 
 /// All options, in the order of help.
 pub fn all() -> impl Iterator<Item = &'static Choice> {
@@ -269,7 +257,7 @@ pub fn all() -> impl Iterator<Item = &'static Choice> {
 
 /// The options of a command.
 pub fn choices(command: Command) -> impl Iterator<Item = &'static Choice> {
-    all().filter(move |choice| choice.commands.contains(&command))
+    all().filter(move |choice| choice.commands.has(command))
 }
 
 impl Choice {

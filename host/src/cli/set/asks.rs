@@ -1,6 +1,6 @@
 //! The options of `set`: one row for each, and which of them are about one part.
 use crate::cli::command::Command;
-use crate::cli::options::{Asks, Choice};
+use crate::cli::options::{Asks, Choice, Takers};
 use herringnet::{PathKind, StringName};
 
 /// What an option of `set` asks for.
@@ -121,7 +121,7 @@ const BYTES: Option<&str> = Some("BYTES");
 type Words = &'static [&'static str];
 
 const fn row(ask: Ask, words: Words, value: Option<&'static str>, lines: Words) -> Choice {
-    Choice { asks: Asks::Set(ask), words, value, commands: &[Command::Set], lines }
+    Choice { asks: Asks::Set(ask), words, value, commands: Takers::Only(&[Command::Set]), lines }
 }
 
 use StringName::{Arguments, Icon, Name, Relative, Workdir};
