@@ -1,4 +1,4 @@
-//! The pairs of issue 31: shortcuts that start different drivers and share a key.
+//! Three pairs of shortcuts that start different drivers and share a key.
 use super::everything::{block, put};
 use herringnet::record::{Info, InfoUnicode, Label, Local, Record};
 
