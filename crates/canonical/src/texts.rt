@@ -18,7 +18,7 @@ pub fn put_body(out: &mut [u8], at: usize, d: &[u8], b: Place) -> usize
     let from = b.at;
     let n = b.len;
     let end = from + n;
-    octets::put_bytes(out, at, &d[from..end]);
+    copies::put_bytes(out, at, &d[from..end]);
     at + n
 }
 

@@ -153,7 +153,7 @@ fn put_only(s: &[u8], p: KeyPart, at: usize, out: &mut [u8]) -> usize
     octets::put_u32(out, q, b.len as u32);
     let from = b.at;
     let end = from + b.len;
-    octets::put_bytes(out, at + 5, &s[from..end]);
+    copies::put_bytes(out, at + 5, &s[from..end]);
     at + (5 + b.len)
 }
 

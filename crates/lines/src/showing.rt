@@ -23,13 +23,13 @@ pub(crate) fn show(out: &mut [u8], w: Window, text: &[u8]) -> Window
     let rest = &text[skip..];
     let room = out.len() - at;
     if room < rest.len() {
-        octets::put_bytes(out, at, &rest[..room]);
+        copies::put_bytes(out, at, &rest[..room]);
         return Window {
             skip: 0,
             at: at + room,
         };
     }
-    octets::put_bytes(out, at, rest);
+    copies::put_bytes(out, at, rest);
     Window {
         skip: 0,
         at: at + rest.len(),

@@ -7,6 +7,5 @@ pub mod CursorLaws
 pub mod ZeroLaws
 pub mod PartLaws
 pub mod WroteLaws
-pub mod CopyLaws
 pub mod Outcomes
 pub mod OneOutcome

@@ -1,5 +1,5 @@
 -- Any two outcomes that the contract of a public call allows are equal.
-use mathlib.Core.Path.{_≡_, refl, sym, _∙_}
+use mathlib.Core.Path.{refl, sym, _∙_}
 use denote.Ref.{now}
 use Rattle.octets.proofs.Outcomes.{OneAnswer, OneShown, OneOutcome}
 use Rattle.octets.proofs.u16_at as u16-at
@@ -12,13 +12,9 @@ use Rattle.octets.proofs.Cursor.skip as cursor-skip
 use Rattle.octets.proofs.zero_from as zero-from
 use Rattle.octets.proofs.has_zero as has-zero
 use Rattle.octets.proofs.part as part
-use Rattle.octets.proofs.put_bytes as put-bytes
 use Rattle.octets.proofs.put_u16 as put-u16
 use Rattle.octets.proofs.put_u32 as put-u32
 use Rattle.octets.proofs.put_u64 as put-u64
-use Rattle.octets.proofs.copies.put_few as put-few
-use Rattle.octets.proofs.copies.put_sixteen as put-sixteen
-use Rattle.octets.proofs.copies.put_turns as put-turns
 use Rattle.octets.proofs.zeros.skip_bytes as skip-bytes
 use Rattle.octets.proofs.zeros.skip_units as skip-units
 
@@ -52,9 +48,6 @@ has-zero-one-outcome κs a r q s t p o = p ∙ sym o
 pub part-one-outcome : OneShown part.ended (λ κs r. now r) part.Reads.Post
 part-one-outcome κs a r q s t p o = p ∙ sym o
 
-pub put-bytes-one-outcome : OneOutcome put-bytes.ended (λ κs s. now (s .0)) put-bytes.Reads.Post
-put-bytes-one-outcome κs a r q s t p o = (refl, p ∙ sym o)
-
 pub put-u16-one-outcome : OneOutcome put-u16.ended (λ κs s. now (s .0)) put-u16.Reads.Post
 put-u16-one-outcome κs a r q s t p o = (refl, p ∙ sym o)
 
@@ -63,15 +56,6 @@ put-u32-one-outcome κs a r q s t p o = (refl, p ∙ sym o)
 
 pub put-u64-one-outcome : OneOutcome put-u64.ended (λ κs s. now (s .0)) put-u64.Reads.Post
 put-u64-one-outcome κs a r q s t p o = (refl, p ∙ sym o)
-
-pub put-few-one-outcome : OneOutcome put-few.ended (λ κs s. now (s .0)) put-few.Reads.Post
-put-few-one-outcome κs a r q s t p o = (refl, p ∙ sym o)
-
-pub put-sixteen-one-outcome : OneOutcome put-sixteen.ended (λ κs s. now (s .0)) put-sixteen.Reads.Post
-put-sixteen-one-outcome κs a r q s t p o = (refl, p ∙ sym o)
-
-pub put-turns-one-outcome : OneOutcome put-turns.ended (λ κs s. now (s .0)) put-turns.Reads.Post
-put-turns-one-outcome κs a r q s t p o = let e : r ≡ q = p .0 ∙ sym (o .0) in (e, p .1 ∙ rw e (sym (o .1)))
 
 pub skip-bytes-one-outcome : OneAnswer skip-bytes.ended skip-bytes.Reads.Post
 skip-bytes-one-outcome κs a r q s t p o = p ∙ sym o

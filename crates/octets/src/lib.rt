@@ -1,10 +1,6 @@
-// Bytes: numbers at a place, the cursor, scans for a zero, parts, and writing into a lent buffer.
-mod copies;
+// Bytes: numbers at a place, the cursor, scans for a zero, parts, and numbers put into a lent buffer.
 mod zeros;
 
-use crate::copies::put_few;
-use crate::copies::put_sixteen;
-use crate::copies::put_turns;
 use crate::zeros::skip_bytes;
 use crate::zeros::skip_units;
 ghost use mathlib.Core.Path.{_≡_};
@@ -215,24 +211,6 @@ pub fn part(s: &[u8], at: usize, n: usize) -> &[u8]
         return &s[at..end];
     }
     &s[..0]
-}
-
-// By turns, then by sixteen bytes, of which the last are at the end.
-pub fn put_bytes(out: &mut [u8], at: usize, src: &[u8])
-    requires { ⌜ at + length (now src) ≤ length (now out) ⌝ }
-    ensures { λ _. ⌜ now (out .exit) ≡ put (now (out .entry)) at (now (src .entry)) ⌝ }
-{
-    if src.len() < 16 {
-        put_few(out, at, src);
-        return;
-    }
-    let last = src.len() - 16;
-    let mut i = put_turns(out, at, src);
-    while i < last {
-        put_sixteen(out, at, src, i);
-        i += 16;
-    }
-    put_sixteen(out, at, src, last);
 }
 
 pub fn put_u16(out: &mut [u8], at: usize, n: u16)

@@ -52,8 +52,8 @@ fn block_of(signature: u32, text: &[u8], unicode: &[u8]) -> [u8; 788]
     let mut b = [0u8; 788];
     octets::put_u32(&mut b, 0, 788);
     octets::put_u32(&mut b, 4, signature);
-    octets::put_bytes(&mut b, 8, text);
-    octets::put_bytes(&mut b, 268, unicode);
+    copies::put_bytes(&mut b, 8, text);
+    copies::put_bytes(&mut b, 268, unicode);
     b
 }
 
@@ -106,7 +106,7 @@ fn put_over(out: &mut [u8], b: [u8; 788], at: usize, end: usize)
     requires { ⌜ (at + 788 ≤ length (now out)) × (end + 4 ≤ length (now out)) ⌝ }
     ensures { λ _. ⌜ now (out .exit) ≡ put (put (now (out .entry)) at b) end (little 4 0) ⌝ }
 {
-    octets::put_bytes(out, at, &b);
+    copies::put_bytes(out, at, &b);
     octets::put_u32(out, end, 0);
 }
 

@@ -90,7 +90,7 @@ fn put_saved(s: &[u8], r: Rescue, out: &mut [u8])
     ensures { λ _. ⌜ now (out .exit) ≡ put (now (out .entry)) 0 (rescued (now (s .entry)) r) ⌝ }
 {
     let kept = r.kept;
-    octets::put_bytes(out, 0, &s[..kept]);
+    copies::put_bytes(out, 0, &s[..kept]);
     if r.mended {
         octets::put_u32(out, kept, 0);
     }

@@ -82,13 +82,13 @@ pub fn put_texts(s: &[u8], t: Texts, at: usize, out: &mut [u8])
     let last = middle + t.separators;
     let from = t.first.at;
     let end = from + t.first.len;
-    octets::put_bytes(out, at, &s[from..end]);
+    copies::put_bytes(out, at, &s[from..end]);
     // Most targets are one text.
     if t.separators + t.suffix.len == 0 {
         return;
     }
-    octets::put_bytes(out, middle, octets::part(b"\\", 0, t.separators));
-    octets::put_bytes(out, last, octets::part(s, t.suffix.at, t.suffix.len));
+    copies::put_bytes(out, middle, octets::part(b"\\", 0, t.separators));
+    copies::put_bytes(out, last, octets::part(s, t.suffix.at, t.suffix.len));
 }
 
 pub fn target(s: &[u8], out: &mut [u8], profile: Profile) -> Verdict

@@ -1,34 +1,34 @@
-// Many bytes in one store each, so that a copy goes by sixteen bytes at a time. Where the last step would pass the end it
-// stands back, and puts some bytes a second time.
+// Copies into a lent buffer: many bytes in one store each, so that a copy goes by sixteen bytes at a time. Where the last
+// step would pass the end it stands back, and puts some bytes a second time.
 ghost use mathlib.Core.Path.{_≡_};
 ghost use Prim.Native.Nat.{_+_, _*_, _/_, _≤_, _<_};
 ghost use lib.ListN.{length, take};
 ghost use Rattle.octets.specs.Parts.{put};
 ghost use Rattle.octets.specs.Steps.Puts.{part};
 
 fn put_four(out: &mut [u8], at: usize, src: &[u8], i: usize)
     requires { ⌜ (i + 4 ≤ length (now src)) × (at + length (now src) ≤ length (now out)) ⌝ }
     ensures { λ _. ⌜ now (out .exit) ≡ put (now (out .entry)) (at + i) (part (now (src .entry)) i 4) ⌝ }
 {
-    crate::put_u32(out, at + i, crate::u32_at(src, i));
+    octets::put_u32(out, at + i, octets::u32_at(src, i));
 }
 
 fn put_eight(out: &mut [u8], at: usize, src: &[u8], i: usize)
     requires { ⌜ (i + 8 ≤ length (now src)) × (at + length (now src) ≤ length (now out)) ⌝ }
     ensures { λ _. ⌜ now (out .exit) ≡ put (now (out .entry)) (at + i) (part (now (src .entry)) i 8) ⌝ }
 {
-    crate::put_u64(out, at + i, crate::u64_at(src, i));
+    octets::put_u64(out, at + i, octets::u64_at(src, i));
 }
 
 // Both halves are read before the first is put: only so does the compiler make one load and one store of them.
-pub fn put_sixteen(out: &mut [u8], at: usize, src: &[u8], i: usize)
+fn put_sixteen(out: &mut [u8], at: usize, src: &[u8], i: usize)
     requires { ⌜ (i + 16 ≤ length (now src)) × (at + length (now src) ≤ length (now out)) ⌝ }
     ensures { λ _. ⌜ now (out .exit) ≡ put (now (out .entry)) (at + i) (part (now (src .entry)) i 16) ⌝ }
 {
-    let low = crate::u64_at(src, i);
-    let high = crate::u64_at(src, i + 8);
-    crate::put_u64(out, at + i, low);
-    crate::put_u64(out, at + i + 8, high);
+    let low = octets::u64_at(src, i);
+    let high = octets::u64_at(src, i + 8);
+    octets::put_u64(out, at + i, low);
+    octets::put_u64(out, at + i + 8, high);
 }
 
 fn put_sixty_four(out: &mut [u8], at: usize, src: &[u8], i: usize)
@@ -53,7 +53,7 @@ fn put_each(out: &mut [u8], at: usize, src: &[u8])
 }
 
 // Fewer than sixteen bytes.
-pub fn put_few(out: &mut [u8], at: usize, src: &[u8])
+fn put_few(out: &mut [u8], at: usize, src: &[u8])
     requires { ⌜ (length (now src) < 16) × (at + length (now src) ≤ length (now out)) ⌝ }
     ensures { λ _. ⌜ now (out .exit) ≡ put (now (out .entry)) at (now (src .entry)) ⌝ }
 {
@@ -72,7 +72,7 @@ pub fn put_few(out: &mut [u8], at: usize, src: &[u8])
 }
 
 // As many bytes as whole turns of 128 have, which is answered: three instructions of a turn copy nothing.
-pub fn put_turns(out: &mut [u8], at: usize, src: &[u8]) -> usize
+fn put_turns(out: &mut [u8], at: usize, src: &[u8]) -> usize
     requires { ⌜ at + length (now src) ≤ length (now out) ⌝ }
     ensures count { λ r. ⌜ r ≡ 128 * (length (now (src .entry)) / 128) ⌝ }
     ensures output { λ r. ⌜ now (out .exit) ≡ put (now (out .entry)) at (take r (now (src .entry))) ⌝ }
@@ -89,4 +89,22 @@ pub fn put_turns(out: &mut [u8], at: usize, src: &[u8]) -> usize
         i += 128;
     }
     i
+}
+
+// By turns, then by sixteen bytes, of which the last are at the end.
+pub fn put_bytes(out: &mut [u8], at: usize, src: &[u8])
+    requires { ⌜ at + length (now src) ≤ length (now out) ⌝ }
+    ensures { λ _. ⌜ now (out .exit) ≡ put (now (out .entry)) at (now (src .entry)) ⌝ }
+{
+    if src.len() < 16 {
+        put_few(out, at, src);
+        return;
+    }
+    let last = src.len() - 16;
+    let mut i = put_turns(out, at, src);
+    while i < last {
+        put_sixteen(out, at, src, i);
+        i += 16;
+    }
+    put_sixteen(out, at, src, last);
 }

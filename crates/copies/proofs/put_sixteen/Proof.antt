@@ -1,10 +1,10 @@
 -- Two numbers that adjoin are put as the bytes that they were read from.
 use native.Mathlib.Omega.{arith}
 use Rattle.octets.specs.Numbers.{Bytes}
-use Rattle.octets.proofs.CopyLaws.{put-number, put-parts}
+use Rattle.copies.proofs.CopyLaws.{put-number, put-parts}
 use borrow.Author.Needs.{needs}
-use Rattle.octets.proofs.copies.put_sixteen.Statement.{statement}
-use Rattle.octets.proofs.copies.put_sixteen.Tie as tie
+use Rattle.copies.proofs.put_sixteen.Statement.{statement}
+use Rattle.copies.proofs.put_sixteen.Tie as tie
 
 u64-at-requires : tie.Need-u64-at-requires
 u64-at-requires c κs = search needs

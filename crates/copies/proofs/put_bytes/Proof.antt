@@ -5,10 +5,10 @@ use Prim.Native.Nat.{ℕ, _+_, _≤_, _-_}
 use mathlib.Core.Path.{_≡_, refl}
 use mathlib.Core.List.{List}
 use lib.ListN.{length, take}
 use Rattle.octets.specs.Parts.{put}
-use Rattle.octets.proofs.CopyLaws.{put-over, put-last}
-use Rattle.octets.proofs.put_bytes.Statement.{statement}
-use Rattle.octets.proofs.put_bytes.Tie as tie
+use Rattle.copies.proofs.CopyLaws.{put-over, put-last}
+use Rattle.copies.proofs.put_bytes.Statement.{statement}
+use Rattle.copies.proofs.put_bytes.Tie as tie
 
 abbrev Inv-loop : tie.InvT-loop
 Inv-loop out₀ at src last i₀ out i =

@@ -2,11 +2,11 @@
 use native.Mathlib.Omega.{arith}
 use Prim.Native.Nat.{_-_}
 use lib.ListN.{length}
-use Rattle.octets.proofs.CopyLaws.{put-over, put-last}
+use Rattle.copies.proofs.CopyLaws.{put-over, put-last}
 use Rattle.octets.proofs.WroteLaws.{put-nil}
 use borrow.Author.Needs.{needs}
-use Rattle.octets.proofs.copies.put_few.Statement.{statement}
-use Rattle.octets.proofs.copies.put_few.Tie as tie
+use Rattle.copies.proofs.put_few.Statement.{statement}
+use Rattle.copies.proofs.put_few.Tie as tie
 
 put-eight-requires : tie.Need-put-eight-requires
 put-eight-requires c κs = search needs

@@ -3,9 +3,9 @@ use native.Mathlib.Omega.{arith}
 use Prim.Native.Nat.{_≤_, _-_}
 use mathlib.Core.Path.{_≡_, refl}
 use lib.ListN.{length, length-set}
 use Rattle.octets.proofs.PartLaws.{putting, put-none, put-more, put-whole}
-use Rattle.octets.proofs.copies.put_each.Statement.{statement}
-use Rattle.octets.proofs.copies.put_each.Tie as tie
+use Rattle.copies.proofs.put_each.Statement.{statement}
+use Rattle.copies.proofs.put_each.Tie as tie
 
 abbrev Inv-loop : tie.InvT-loop
 Inv-loop out₀ at src i₀ out i = (i ≤ length src) × (length out ≡ length out₀) × (out ≡ putting out₀ at src i)

@@ -3,11 +3,11 @@ use native.Mathlib.Omega.{arith}
 use Prim.Native.Nat.{_≤_, _-_, _%_}
 use mathlib.Core.Path.{_≡_, refl}
 use lib.ListN.{length, take}
 use Rattle.octets.specs.Parts.{put}
-use Rattle.octets.proofs.CopyLaws.{put-parts, put-over}
+use Rattle.copies.proofs.CopyLaws.{put-parts, put-over}
 use Rattle.octets.proofs.WroteLaws.{put-nil}
-use Rattle.octets.proofs.copies.put_turns.Statement.{statement}
-use Rattle.octets.proofs.copies.put_turns.Tie as tie
+use Rattle.copies.proofs.put_turns.Statement.{statement}
+use Rattle.copies.proofs.put_turns.Tie as tie
 
 abbrev Inv-loop : tie.InvT-loop
 Inv-loop out₀ at src last i₀ out i = (i ≤ length src) × (i % 128 ≡ 0) × (length out ≡ length out₀) × (out ≡ put out₀ at (take i src))

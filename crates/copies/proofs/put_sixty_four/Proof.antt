@@ -1,9 +1,9 @@
 -- Four sixteens that adjoin are one part.
 use native.Mathlib.Omega.{arith}
-use Rattle.octets.proofs.CopyLaws.{put-parts}
+use Rattle.copies.proofs.CopyLaws.{put-parts}
 use borrow.Author.Needs.{needs}
-use Rattle.octets.proofs.copies.put_sixty_four.Statement.{statement}
-use Rattle.octets.proofs.copies.put_sixty_four.Tie as tie
+use Rattle.copies.proofs.put_sixty_four.Statement.{statement}
+use Rattle.copies.proofs.put_sixty_four.Tie as tie
 
 put-sixteen-requires : tie.Need-put-sixteen-requires
 put-sixteen-requires c κs = search needs
