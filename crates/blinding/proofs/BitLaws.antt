@@ -15,7 +15,8 @@ use Rattle.format.specs.declared.Reading.{Reading}
 use Rattle.format.specs.declared.Fault.{Fault}
 use Rattle.format.specs.declared.Verdict.{Verdict}
 use Rattle.format.specs.declared.Verdict.the-variants.{Accepted, Refused}
-use Rattle.format.specs.Tests.{got}
+use Rattle.format.specs.declared.Spot.{Spot}
+use Rattle.format.specs.Tests.{got, refused}
 use Rattle.format.specs.Numbers.{Numbered}
 use Rattle.format.specs.Blocks.{slotOf, sizeFits, blocks, firstPlace}
 use Rattle.format.specs.Shortcut.{Sections, blocksOf, shortcut, recordOf, reading}
@@ -27,8 +28,7 @@ use Rattle.format.specs.StoreList.{blockRows, rowsOf, rowsBy}
 use Rattle.format.specs.Blind.{couldName, otherTarget, blockOf, otherEnvironment, hasValues, blindBits, keyBlind, keyBlindAnswer}
 use Rattle.format.specs.Steps.Firsts.{firstField, firsts}
 use Rattle.format.proofs.AnswerLaws.{numbered}
-use Rattle.format.proofs.AcceptedLaws.{accepted-read, accepted-held, accepted-bodies, refused-read, shortcut-whole}
-use Rattle.format.proofs.Demands.{accepted-whole}
+use Rattle.format.proofs.AcceptedLaws.{accepted-read, accepted-bodies, shortcut-whole}
 use Rattle.format.proofs.FoundLaws.{read-walk}
 use Rattle.format.proofs.HeldLaws.{first-held}
 use Rattle.blocks.specs.Steps.Walk.{blockFrom}
@@ -96,8 +96,8 @@ module _ (profile : Profile) (s : List ℕ) (r : Record) (a : Accepts profile s 
       let F = first-block s signature start lengths _ walk in
       let field : getD row k 0 ≡ firstField s signature start lengths = ap (λ (l : List ℕ). getD l k 0) is ∙ e in
       record { reached = rw field (F .field); is = ap (blockFrom s) field ∙ F .block } in
-      let S = store-field profile s {g = reading profile s} refl {n = length s} (ap (λ (x : Reading). x .verdict) a) {row = row} (rw (ap (λ (x : Reading). x .held) a) noted) in
-      let T = S .stored refl in
+      let S = store-field profile s r a noted in
+      let T = S .stored refl refl in
       record {
         sections = c;
         is = x .is;
@@ -144,18 +144,15 @@ blind-call : (profile : Profile) (s : List ℕ) {v : Verdict} → v ≡ keyBlind
 unfolding keyBlindAnswer
 blind-call profile s e = (e, numbered (keyBlind profile s) e)
 
-module _ (profile : Profile) (s : List ℕ) {g : Reading} (e : g ≡ reading profile s) where
+module _ (profile : Profile) (s : List ℕ) where
   -- leaving with the refusal
-  pub blind-left : {f : Fault} {p : ℕ} → g .verdict ≡ Refused f p → BlindCall profile s (g .verdict)
+  pub blind-left : {f : Fault} {p : Spot} → shortcut profile s ≡ refused f p → BlindCall profile s (Refused f (p .position))
   unfolding keyBlindAnswer keyBlind
-  blind-left q = let i = refused-read profile s (ap (λ (x : Reading). x .verdict) (sym e) ∙ q) in blind-call profile s (q ∙ rw (i .is, i .told))
+  blind-left e = blind-call profile s (rw e)
 
-  pub blind-accepts : {n : ℕ} → g .verdict ≡ Accepted n → Accepts profile s (g .held)
-  blind-accepts {n} q = accepted-whole profile s (g .held) n (accepted-held profile s e q)
-
-  pub blind-told : {n bits : ℕ} → g .verdict ≡ Accepted n → bits ≡ bitsIn profile s → BlindCall profile s (Accepted bits)
+  pub blind-told : (r : Record) → Accepts profile s r → {bits : ℕ} → bits ≡ bitsIn profile s → BlindCall profile s (Accepted bits)
   unfolding keyBlindAnswer keyBlind bitsIn Accepts
-  blind-told {n} {bits} q i =
-      let x = accepted-read profile s (g .held) (length s) (blind-accepts q) in
+  blind-told r a {bits} i =
+      let x = accepted-read profile s r (length s) a in
       let b : bits ≡ blindBits s (x .sections) = i ∙ ap (bitsBy s) (x .is) in
       blind-call profile s (rw (x .is, b))

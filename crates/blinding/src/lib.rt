@@ -4,6 +4,7 @@ use format::Profile;
 use format::Record;
 use format::Verdict;
 use octets::Zero;
+use reader::Next;
 ghost use mathlib.Core.Path.{_≡_};
 ghost use Prim.Native.Nat.{_+_, _≤_};
 ghost use mathlib.Core.Bool.{cond};
@@ -178,14 +179,13 @@ pub fn key_blind(s: &[u8], profile: Profile) -> Verdict
     ensures answer { λ r. ⌜ r ≡ keyBlindAnswer profile (now (s .entry)) ⌝ }
     ensures numbers { λ r. ⌜ Numbered r (keyBlind profile (now (s .entry))) ⌝ }
 {
-    let o = reader::outline_of(s, profile);
+    let mut texts = [0u32; 9];
+    let mut firsts = [0u32; 11];
+    let o = reader::outline_of(s, profile, &mut texts, &mut firsts);
     let next = o.next;
-    let held = o.held;
-    let firsts = o.firsts;
-    let g = reader::finish(s.len(), next, held);
-    let v = g.verdict;
-    let Verdict::Accepted(_) = v else {
-        return v;
-    };
-    Verdict::Accepted(bits_of(s, g.held, firsts, profile))
+    if let Next::Off(f, p) = next {
+        return Verdict::Refused(f, p.position);
+    }
+    let held = reader::record_of(s, o.ends, &texts, profile);
+    Verdict::Accepted(bits_of(s, held, firsts, profile))
 }

@@ -15,8 +15,8 @@ step-one-outcome κs a r q s t p o = p .is ∙ sym (o .is)
 pub run-one-outcome : OneOutcome run.ended (λ κs s. now (s .1 .1 .0)) run.Reads.Post
 run-one-outcome κs a r q s t p o = passed-once (p .0) (p .1) (o .0) (o .1)
 
-pub blocks-one-outcome : OneAnswer blocks.ended blocks.Reads.Post
-blocks-one-outcome κs a r q s t p o = p .is ∙ sym (o .is)
+pub blocks-one-outcome : OneOutcome blocks.ended (λ κs s. now (s .1 .1 .0)) blocks.Reads.Post
+blocks-one-outcome κs a r q s t p o = (p .0 .is ∙ sym (o .0 .is), p .1 ∙ sym (o .1))
 
 pub block-from-one-outcome : OneAnswer block-from.ended block-from.Reads.Post
 block-from-one-outcome κs a r q s t p o = p ∙ sym o

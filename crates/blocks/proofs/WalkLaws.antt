@@ -14,6 +14,7 @@ use Rattle.octets.proofs.NumberLaws.{number-drop}
 use Rattle.format.specs.declared.Fault.{Fault}
 use Rattle.format.specs.declared.Fault.the-variants.{Cut as CUT, Twice as TWICE}
 use Rattle.format.specs.declared.Spot.{Spot}
+use Rattle.format.specs.declared.Taken.{Taken}
 use Rattle.format.specs.Tests.{spotAt, Outcome, got, refused, andThen}
 use Rattle.format.specs.Blocks.{slotOf, insideTests, slotAt, blockSize, aBlock, aTerminal, block, terminal, blockStep, once, blocksAfter, blocks}
 use Rattle.format.specs.Numbers.{outcomeNumber}
@@ -23,8 +24,7 @@ use Rattle.format.specs.Steps.Wrong.{wrong, heldFault}
 use Rattle.format.specs.Shortcut.{most, sum}
 use Rattle.format.proofs.Bools.{clash}
 use Rattle.format.proofs.BlockLaws.{none-left, blocks-step}
-use Rattle.blocks.specs.Steps.Walk.{Sized, noFirsts, fieldOf, isFree, taken, noted, notedAll, BlocksTo, NoMore, after, Passed, blocksTaken, blocksRead, BlocksAnswer, readTo, stoppedAt, wrongBlock}
-use Rattle.blocks.specs.declared.BlocksRead.{BlocksRead}
+use Rattle.blocks.specs.Steps.Walk.{Sized, noFirsts, fieldOf, isFree, taken, noted, notedAll, BlocksTo, NoMore, after, Passed, blocksTaken, blocksAt, blocksFirsts, BlocksAnswer, readTo, stoppedAt, wrongBlock}
 use Rattle.blocks.proofs.StepLaws.{tail-part, holds-right, holds-wrong, longer, step-longer}
 use Rattle.blocks.proofs.FirstLaws.{firsts-more}
 use Rattle.blocks.proofs.SlotLaws.{none-taken, free-more, wide-more, taken-stays}
@@ -153,10 +153,14 @@ module _ {s : List ℕ} {a p : ℕ} {row rest : List ℕ} (P : Passed s a p row)
 
 -- ---- the ways out
 
+-- the answer, and the row that is left
+abbrev Leaves : List ℕ → ℕ → Taken → List ℕ → Type 0
+Leaves s a r row = BlocksAnswer s a r × (row ≡ blocksFirsts s a)
+
 module _ (s : List ℕ) (a : ℕ) where
   -- the number and the value of the answer
-  all-read : {r : BlocksRead} → r ≡ blocksRead s a → BlocksAnswer s a r
-  unfolding blocksRead takenNumber takenValue
+  all-read : {r : Taken} → r ≡ blocksAt s a → BlocksAnswer s a r
+  unfolding blocksAt takenNumber takenValue
   all-read e = record { is = e; number = rw e (number (blocks a (drop a s))); value = rw e (value (blocks a (drop a s))) }
     where
       number : (o : Outcome (List ℕ)) → takenNumber (blocksTaken a o) ≡ outcomeNumber o
@@ -167,43 +171,44 @@ module _ (s : List ℕ) (a : ℕ) where
       value (got ls n) = refl
       value (refused f q) = refl
 
-  pub read-nowhere : length s < a → BlocksAnswer s a (stoppedAt CUT (spotAt (terminal a) 0))
-  unfolding blocksRead
-  read-nowhere h = all-read (rw (none-left [] a (drop a s) (omega (arith, length-drop a s))))
+  none-noted : {f : Fault} {q : Spot} {row : List ℕ} → blocks a (drop a s) ≡ refused f q → row ≡ noFirsts → Leaves s a (stoppedAt f q) row
+  unfolding blocksAt blocksFirsts
+  none-noted o e = (all-read (rw o), rw o e)
+
+  pub read-nowhere : {row : List ℕ} → length s < a → row ≡ noFirsts → Leaves s a (stoppedAt CUT (spotAt (terminal a) 0)) row
+  read-nowhere h = none-noted (none-left [] a (drop a s) (omega (arith, length-drop a s)))
 
   module _ {p : ℕ} {row : List ℕ} (P : Passed s a p row) where
     all : blocks a (drop a s) ≡ after (P .lengths) (blocksAfter (P .before) p (drop p s))
     all = rw append-nil at (P .is [])
 
-    pub read-end : length s ≤ most → ((q : ℕ) → blockStep q (drop p s) ≡ got aTerminal 4) → BlocksAnswer s a (readTo a p row)
-    unfolding blocksRead
+    pub read-end : length s ≤ most → ((q : ℕ) → blockStep q (drop p s) ≡ got aTerminal 4) → Leaves s a (readTo a p) row
+    unfolding blocksAt blocksFirsts
     read-end small h =
         let o : blocks a (drop a s) ≡ got (P .lengths) (sum (P .lengths) + 4)
         = rw append-nil at (all ∙ ap (after (P .lengths)) (walk-ended (P .before) (drop p s) p (h p))) in
         let l : p - a ≡ sum (P .lengths) = omega (arith, P .adds) in
         let n : p + 4 ≡ a + (sum (P .lengths) + 4) = omega (arith, P .adds) in
-        all-read (rw (o, l, n, P .first small))
+        (all-read (rw (o, l, n)), rw o (P .first small))
 
-    pub read-stopped : {f : Fault} {q : Spot} → blockStep p (drop p s) ≡ refused f q → BlocksAnswer s a (stoppedAt f q)
-    unfolding blocksRead
-    read-stopped h =
-        let o = all ∙ ap (after (P .lengths)) (walk-refused (P .before) (drop p s) p h) in
-        all-read (rw o)
+    -- a refusal leaves another row, with nothing noted
+    module _ {left : List ℕ} (cleared : left ≡ noFirsts) where
+      pub read-stopped : {f : Fault} {q : Spot} → blockStep p (drop p s) ≡ refused f q → Leaves s a (stoppedAt f q) left
+      read-stopped h = none-noted (all ∙ ap (after (P .lengths)) (walk-refused (P .before) (drop p s) p h)) cleared
 
-    -- a block by its sizes at which the walk ended
-    pub read-wrong : NoMore s p row → {n k : ℕ} → Sized (drop p s) n k → BlocksAnswer s a (wrongBlock k (take n (drop p s)) p)
-    unfolding blocksRead wrongBlock
-    read-wrong none {n} {k} z = go (eqb (wrong (insideTests k (take n (drop p s)))) 0) refl
-      where
-        w : ℕ
-        w = wrong (insideTests k (take n (drop p s)))
+      -- a block by its sizes at which the walk ended
+      pub read-wrong : NoMore s p row → {n k : ℕ} → Sized (drop p s) n k → Leaves s a (wrongBlock k (take n (drop p s)) p) left
+      unfolding wrongBlock
+      read-wrong none {n} {k} z = go (eqb (wrong (insideTests k (take n (drop p s)))) 0) refl
+        where
+          w : ℕ
+          w = wrong (insideTests k (take n (drop p s)))
 
-        second : w ≡ 0 → BlocksAnswer s a (stoppedAt TWICE (spotAt (block p) 4))
-        second e =
-            let h = holds-right (drop p s) z refl e p in
-            let o = all ∙ ap (after (P .lengths)) (walk-twice (P .before) (drop p s) p h (sym (P .free (slotAt (drop p s))) ∙ none n h)) in
-            all-read (rw o)
+          second : w ≡ 0 → Leaves s a (stoppedAt TWICE (spotAt (block p) 4)) left
+          second e =
+              let h = holds-right (drop p s) z refl e p in
+              none-noted (all ∙ ap (after (P .lengths)) (walk-twice (P .before) (drop p s) p h (sym (P .free (slotAt (drop p s))) ∙ none n h))) cleared
 
-        go : (b : Bool) → eqb w 0 ≡ b → BlocksAnswer s a (cond b (stoppedAt TWICE (spotAt (block p) 4)) (stoppedAt (heldFault k) (spotAt (block p) w)))
-        go true e = second (eqb-true w 0 e)
-        go false e = read-stopped (holds-wrong (drop p s) z refl (eqb-false w 0 e) p)
+          go : (b : Bool) → eqb w 0 ≡ b → Leaves s a (cond b (stoppedAt TWICE (spotAt (block p) 4)) (stoppedAt (heldFault k) (spotAt (block p) w))) left
+          go true e = second (eqb-true w 0 e)
+          go false e = read-stopped (holds-wrong (drop p s) z refl (eqb-false w 0 e) p)

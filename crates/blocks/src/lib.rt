@@ -14,20 +14,13 @@ ghost use Rattle.format.specs.Tests.{spotAt};
 ghost use Rattle.format.specs.Blocks.{slotOf, sizeFits, pathTests, insideTests};
 ghost use Rattle.format.specs.Shortcut.{most};
 ghost use Rattle.format.specs.Steps.Wrong.{wrong, heldFault};
-ghost use Rattle.blocks.specs.Steps.Walk.{hasRule, StepAnswer, Stands, noFirsts, fieldOf, isFree, noted, Passed, NoMore, BlocksAnswer, readTo, stepSite, stoppedAt, wrongBlock, blockFrom, nthBlock};
+ghost use Rattle.blocks.specs.Steps.Walk.{hasRule, StepAnswer, Stands, noFirsts, fieldOf, isFree, noted, Passed, NoMore, BlocksAnswer, blocksFirsts, readTo, stepSite, stoppedAt, wrongBlock, blockFrom, nthBlock};
 
 // A block of so many bytes, with the slot of its signature; or the terminal block; or neither.
 pub enum BlockStep {
     Block(usize, usize),
     Terminal,
     Refused(Fault),
-}
-
-// The blocks up to the terminal as a single body, with the cursor after it; or the fault and where it stands.
-// Beside it, for each slot where its signature first stands; 0 where it does not, and after a refusal.
-pub struct BlocksRead {
-    pub taken: Taken,
-    pub firsts: [u32; 11],
 }
 
 // ---- one block
@@ -218,27 +211,24 @@ pub fn run(s: &[u8], start: usize, firsts: &mut [u32; 11]) -> usize
 }
 
 // The blocks from `start` to p, with the terminal block there.
-fn read_to(start: usize, p: usize, firsts: [u32; 11]) -> BlocksRead
+fn read_to(start: usize, p: usize) -> Taken
     requires { ⌜ (start ≤ p) × (p ≤ most) ⌝ }
-    ensures { λ r. ⌜ r ≡ readTo start p firsts ⌝ }
+    ensures { λ r. ⌜ r ≡ readTo start p ⌝ }
 {
     let body = Place {
         at: start,
         len: p - start,
     };
-    BlocksRead {
-        taken: Taken::Got(body, Cursor { at: p + 4 }),
-        firsts,
-    }
+    Taken::Got(body, Cursor { at: p + 4 })
 }
 
-fn stopped(f: Fault, q: Spot) -> BlocksRead
+// After a refusal nothing is noted.
+fn stopped(f: Fault, q: Spot, firsts: &mut [u32; 11]) -> Taken
     ensures { λ r. ⌜ r ≡ stoppedAt f q ⌝ }
+    ensures row { λ _. ⌜ now (firsts .exit) ≡ noFirsts ⌝ }
 {
-    BlocksRead {
-        taken: Taken::Refused(f, q),
-        firsts: no_firsts(),
-    }
+    *firsts = no_firsts();
+    Taken::Refused(f, q)
 }
 
 // The size of what is due at p, with so many bytes left: a block's, or the terminal's where no size is left.
@@ -260,35 +250,39 @@ fn has_rule(slot: usize) -> bool
 
 // A block whose sizes are right is refused for what it holds, or else as the second of its kind. What most blocks are
 // asked in the walk is not called from here, so that the compiler merges it into the walk.
-fn wrong_block(slot: usize, b: &[u8], p: usize) -> BlocksRead
+fn wrong_block(slot: usize, b: &[u8], p: usize, firsts: &mut [u32; 11]) -> Taken
     requires { ⌜ (sizeFits slot (length (now b)) ≡ true) × (p + length (now b) ≤ most) ⌝ }
     ensures { λ r. ⌜ r ≡ wrongBlock slot (now (b .entry)) p ⌝ }
+    ensures row { λ _. ⌜ now (firsts .exit) ≡ noFirsts ⌝ }
 {
     if !has_rule(slot) {
-        return stopped(Fault::Twice, spot_at(8, p, 4));
+        return stopped(Fault::Twice, spot_at(8, p, 4), firsts);
     }
     let field = held_wrong(slot, b);
     if field == 0 {
-        return stopped(Fault::Twice, spot_at(8, p, 4));
+        return stopped(Fault::Twice, spot_at(8, p, 4), firsts);
     }
-    stopped(held_fault(slot), spot_at(8, p, field))
+    stopped(held_fault(slot), spot_at(8, p, field), firsts)
 }
 
-pub fn blocks(s: &[u8], c: Cursor) -> BlocksRead
-    requires { ⌜ length (now s) ≤ most ⌝ }
-    ensures { λ r. ⌜ BlocksAnswer (now (s .entry)) (c .at) r ⌝ }
+// The blocks up to the terminal as a single body, with the cursor after it; or the fault and where it stands.
+// The row gets for each slot where its signature first stands; 0 where it does not, and after a refusal.
+pub fn blocks(s: &[u8], c: Cursor, firsts: &mut [u32; 11]) -> Taken
+    requires small { ⌜ length (now s) ≤ most ⌝ }
+    requires row { ⌜ now firsts ≡ noFirsts ⌝ }
+    ensures answer { λ r. ⌜ BlocksAnswer (now (s .entry)) (c .at) r ⌝ }
+    ensures row { λ _. ⌜ now (firsts .exit) ≡ blocksFirsts (now (s .entry)) (c .at) ⌝ }
 {
     let start = c.at;
     if s.len() < start {
-        return stopped(Fault::Cut, size_spot(start, 0));
+        return stopped(Fault::Cut, size_spot(start, 0), firsts);
     }
-    let mut firsts = no_firsts();
-    let p = run(s, start, &mut firsts);
+    let p = run(s, start, firsts);
     let rest = &s[p..];
     match step(rest) {
-        BlockStep::Terminal => read_to(start, p, firsts),
-        BlockStep::Refused(f) => stopped(f, size_spot(p, rest.len())),
-        BlockStep::Block(n, slot) => wrong_block(slot, &rest[..n], p),
+        BlockStep::Terminal => read_to(start, p),
+        BlockStep::Refused(f) => stopped(f, size_spot(p, rest.len()), firsts),
+        BlockStep::Block(n, slot) => wrong_block(slot, &rest[..n], p, firsts),
     }
 }
 

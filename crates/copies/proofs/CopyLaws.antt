@@ -10,6 +10,7 @@ use Rattle.octets.specs.Parts.{put}
 use Rattle.octets.specs.Steps.Puts.{part}
 use Rattle.octets.proofs.NumberLaws.{bytes-drop, bytes-take, little-number}
 use Rattle.octets.proofs.PartLaws.{part-in, put-put, length-put}
+use Rattle.octets.proofs.WroteLaws.{put-nil}
 
 -- ---- a number that was read is put as the bytes that it was read from
 
@@ -77,6 +78,22 @@ put-over d i s j k w {x} {y} p q hk hj hs hd =
     q ∙ ap (λ (z : List ℕ). put z (i + k) c) (p ∙ ap (put d i) e ∙ f) ∙ g ∙ h ∙ ap (put d i) t
 
 -- the last step ends where the bytes do
-pub put-last : (d : List ℕ) (i : ℕ) (s : List ℕ) (j k w : ℕ) {x y : List ℕ} → x ≡ put d i (take j s) → y ≡ put x (i + k) (part s k w)
+put-last : (d : List ℕ) (i : ℕ) (s : List ℕ) (j k w : ℕ) {x y : List ℕ} → x ≡ put d i (take j s) → y ≡ put x (i + k) (part s k w)
     → k ≤ j → j ≤ k + w → k + w ≡ length s → i + length s ≤ length d → y ≡ put d i s
 put-last d i s j k w p q hk hj e hd = put-over d i s j k w p q hk hj (omega arith) hd ∙ ap (put d i) (ap (λ (n : ℕ). take n s) e ∙ take-length s)
+
+-- two spans of one width, the first bytes and the last, are all of the bytes
+pub put-two : (d : List ℕ) (i : ℕ) (s : List ℕ) (w k : ℕ) {x y : List ℕ} → x ≡ put d (i + 0) (part s 0 w) → y ≡ put x (i + k) (part s k w)
+    → k ≤ w → k + w ≡ length s → i + length s ≤ length d → y ≡ put d i s
+put-two d i s w k p q hk e hd =
+    let first = put-over d i s 0 0 w (put-nil d i) p (omega arith) (omega arith) (omega arith) hd in
+    put-last d i s (0 + w) k w first q (omega arith) (omega arith) e hd
+
+-- two spans that adjoin, and end where the bytes do, stand back over bytes that were put before
+pub put-last-two : (d : List ℕ) (i : ℕ) (s : List ℕ) (j k w m : ℕ) {x y z : List ℕ} → x ≡ put d i (take j s) → y ≡ put x (i + k) (part s k w)
+    → z ≡ put y (i + m) (part s m w) → k ≤ j → j ≤ length s → m ≡ k + w → m + w ≡ length s → i + length s ≤ length d → z ≡ put d i s
+put-last-two d i s j k w m {x} p q r hk hj em e hd =
+    let lj : length (take j s) ≡ j = length-take-le j s hj in
+    let lx : length x ≡ length d = ap length p ∙ length-put d i (take j s) (omega (arith, lj)) in
+    let both = put-parts x (i + k) s k w w q (rw em at r) (omega arith) (omega arith) (omega arith) in
+    put-last d i s j k (w + w) p both hk (omega arith) (omega arith) hd

@@ -1,5 +1,5 @@
 // Copies into a lent buffer: many bytes in one store each, so that a copy goes by sixteen bytes at a time. Where the last
-// step would pass the end it stands back, and puts some bytes a second time.
+// span would pass the end it stands back, and puts some bytes a second time.
 ghost use mathlib.Core.Path.{_≡_};
 ghost use Prim.Native.Nat.{_+_, _*_, _/_, _≤_, _<_};
 ghost use lib.ListN.{length, take};
@@ -29,6 +29,14 @@ fn put_sixteen(out: &mut [u8], at: usize, src: &[u8], i: usize)
     let high = octets::u64_at(src, i + 8);
     octets::put_u64(out, at + i, low);
     octets::put_u64(out, at + i + 8, high);
+}
+
+fn put_thirty_two(out: &mut [u8], at: usize, src: &[u8], i: usize)
+    requires { ⌜ (i + 32 ≤ length (now src)) × (at + length (now src) ≤ length (now out)) ⌝ }
+    ensures { λ _. ⌜ now (out .exit) ≡ put (now (out .entry)) (at + i) (part (now (src .entry)) i 32) ⌝ }
+{
+    put_sixteen(out, at, src, i);
+    put_sixteen(out, at, src, i + 16);
 }
 
 fn put_sixty_four(out: &mut [u8], at: usize, src: &[u8], i: usize)
@@ -71,14 +79,13 @@ fn put_few(out: &mut [u8], at: usize, src: &[u8])
     put_each(out, at, src);
 }
 
-// As many bytes as whole turns of 128 have, which is answered: three instructions of a turn copy nothing.
-fn put_turns(out: &mut [u8], at: usize, src: &[u8]) -> usize
+// As many bytes as whole turns of 128 have: three instructions of a turn copy nothing.
+fn put_turns(out: &mut [u8], at: usize, src: &[u8])
     requires { ⌜ at + length (now src) ≤ length (now out) ⌝ }
-    ensures count { λ r. ⌜ r ≡ 128 * (length (now (src .entry)) / 128) ⌝ }
-    ensures output { λ r. ⌜ now (out .exit) ≡ put (now (out .entry)) at (take r (now (src .entry))) ⌝ }
+    ensures { λ _. ⌜ now (out .exit) ≡ put (now (out .entry)) at (take (128 * (length (now (src .entry)) / 128)) (now (src .entry))) ⌝ }
 {
     if src.len() < 128 {
-        return 0;
+        return;
     }
     // The last place where a turn can start: up to it i + 128 cannot wrap.
     let last = src.len() - 128;
@@ -88,23 +95,34 @@ fn put_turns(out: &mut [u8], at: usize, src: &[u8]) -> usize
         put_sixty_four(out, at, src, i + 64);
         i += 128;
     }
-    i
 }
 
-// By turns, then by sixteen bytes, of which the last are at the end.
+// Two spans that may overlap, first and last, cost less than a loop of sixteens; over 128 bytes whole turns come first.
 pub fn put_bytes(out: &mut [u8], at: usize, src: &[u8])
     requires { ⌜ at + length (now src) ≤ length (now out) ⌝ }
     ensures { λ _. ⌜ now (out .exit) ≡ put (now (out .entry)) at (now (src .entry)) ⌝ }
 {
-    if src.len() < 16 {
+    let n = src.len();
+    if n < 16 {
         put_few(out, at, src);
         return;
     }
-    let last = src.len() - 16;
-    let mut i = put_turns(out, at, src);
-    while i < last {
-        put_sixteen(out, at, src, i);
-        i += 16;
+    if n <= 32 {
+        put_sixteen(out, at, src, 0);
+        put_sixteen(out, at, src, n - 16);
+        return;
     }
-    put_sixteen(out, at, src, last);
+    if n <= 64 {
+        put_thirty_two(out, at, src, 0);
+        put_thirty_two(out, at, src, n - 32);
+        return;
+    }
+    if n <= 128 {
+        put_sixty_four(out, at, src, 0);
+        put_sixty_four(out, at, src, n - 64);
+        return;
+    }
+    put_turns(out, at, src);
+    put_sixty_four(out, at, src, n - 128);
+    put_sixty_four(out, at, src, n - 64);
 }

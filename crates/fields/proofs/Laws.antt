@@ -2,25 +2,25 @@
 use mathlib.Core.Path.{_≡_, refl, sym, ap, _∙_}
 use mathlib.Core.List.{List, [], _∷_, _++_, append-nil}
 use mathlib.Core.Bool.{Bool, true, _&&_}
-use Prim.Native.Nat.{ℕ, zero, suc, _+_, _*_, _≤_, _<_}
+use Prim.Native.Nat.{ℕ, zero, suc, _+_, _*_, _<_}
 use native.Mathlib.Omega.{arith}
 use native.Mathlib.Nat.{zero-add, add-zero}
-use lib.ListN.{length, getD, set, drop-of-length-le}
+use lib.ListN.{length, getD, set, replicate, getD-replicate, drop-of-length-le, length-set}
 use lib.Seq.{ext-getD}
 use lib.Dec.{ltb}
 use lib.IntN.{ℤ}
 use borrow.Author.Tests.{ltb-true}
 use Rattle.octets.specs.Parts.{put}
-use Rattle.octets.proofs.PartLaws.{putting, put-more, put-put}
+use Rattle.octets.proofs.PartLaws.{putting, put-none, put-more, put-whole}
 use Rattle.format.specs.declared.Place.{Place}
 use Rattle.format.specs.declared.Header.{Header}
 use Rattle.format.specs.declared.Link.{Link}
 use Rattle.format.specs.declared.Record.{Record}
-use Rattle.format.specs.Tests.{noPlace, oneOr0}
+use Rattle.format.specs.Tests.{noPlace}
 use Rattle.format.specs.Header.{signed}
-use Rattle.format.specs.Writing.{bits}
 use Rattle.format.proofs.Bools.{and-true, every-out}
-use Rattle.fields.specs.Fields.{fieldCount, numbersOf, pairs, fieldsOf, wordAt, flagAt, headerNumbers, infoNumbers, areRecord, headerFrom, linkFrom, slotAt, rowFrom, placesFrom, recordFrom}
+use Rattle.fields.specs.Fields.{fieldCount, pairs, wordAt, flagAt, headerNumbers, infoNumbers, areRecord, headerFrom, linkFrom, slotAt, rowFrom, placesFrom, recordFrom}
+use Rattle.fields.specs.Steps.Putting.{withPlace}
 
 module _ (f : List ℕ) where
   abbrev Word : ℕ → Type 0
@@ -122,30 +122,6 @@ module _ (f : List ℕ) where
       ext-getD noPlace row (rowFrom f 0 17) l
       (λ j k. let b : j < 17 = omega arith in h j b ∙ sym (rw zero-add at (row-at 0 17 j b)))
 
--- the numbers of a record from those that are computed
-pub numbers-are : (q : Record) {x u v w : ℕ} → x ≡ bits (q .header .«icon_index») → u ≡ oneOr0 (q .link .long) → v ≡ oneOr0 (q .link .«label_unicode»)
-    → w ≡ oneOr0 (q .link .«network_unicode»)
-    → (q .header .flags
-    ∷ q .header .attributes
-    ∷ q .header .creation
-    ∷ q .header .access
-    ∷ q .header .write
-    ∷ q .header .«file_size»
-    ∷ x
-    ∷ q .header .command
-    ∷ q .header .hotkey
-    ∷ q .link .flags
-    ∷ u
-    ∷ q .link .drive
-    ∷ q .link .serial
-    ∷ v
-    ∷ q .link .«network_flags»
-    ∷ q .link .provider
-    ∷ w
-    ∷ []) ≡ numbersOf q
-unfolding numbersOf
-numbers-are q e g h k = rw (e, g, h, k)
-
 -- ---- the pairs
 
 pub pairs-at : (ps : List Place) (k : ℕ) → getD (pairs ps) (2 * k) 0 ≡ getD ps k noPlace .at
@@ -162,27 +138,33 @@ pub length-pairs : (ps : List Place) → length (pairs ps) ≡ 2 * length ps
 length-pairs [] = refl
 length-pairs (p ∷ ps) = omega (arith, length-pairs ps)
 
--- the pair of slot k more
-pub pair-more : (d : List ℕ) (ps : List Place) (k : ℕ) {x : List ℕ} → x ≡ putting d 17 (pairs ps) (2 * k) → 17 + 2 * length ps ≤ length d → k < length ps
-    → set (set x (17 + 2 * k) (getD ps k noPlace .at)) (17 + 2 * k + 1) (getD ps k noPlace .len) ≡ putting d 17 (pairs ps) (2 * (k + 1))
-pair-more d ps k {x} e h l =
-    let m = length-pairs ps in
-    let one : set x (17 + 2 * k) (getD ps k noPlace .at) ≡ putting d 17 (pairs ps) (2 * k + 1)
-    = rw (← pairs-at ps k) (put-more d 17 (pairs ps) (2 * k) e (omega arith) (omega arith)) in
-    let i : 17 + 2 * k + 1 ≡ 17 + (2 * k + 1) = omega arith in
-    let j : 2 * k + 1 + 1 ≡ 2 * (k + 1) = omega arith in
-    rw (i, ← pairs-len ps k, ← j) (put-more d 17 (pairs ps) (2 * k + 1) one (omega arith) (omega arith))
+-- ---- zeros put over all
 
 -- a put as long as the buffer leaves nothing of what was there
 put-over : (d w : List ℕ) → length d ≡ length w → put d 0 w ≡ w
 unfolding put
 put-over d w e = ap (λ (t : List ℕ). w ++ t) (drop-of-length-le d {i = 0 + length w} (omega arith)) ∙ append-nil w
 
--- all 51 numbers, put one after another
-pub filled : (d : List ℕ) (q : Record) {x y n : List ℕ} → length d ≡ fieldCount → length (q .places) ≡ 17 → n ≡ numbersOf q → x ≡ put d 0 n → y ≡ put x 17 (pairs (q .places)) → y ≡ fieldsOf q
-unfolding fieldsOf numbersOf
-filled d q size row numbers h k =
-    let m = length-pairs (q .places) in
-    k
-    ∙ rw (h, numbers) (put-put d 0 (numbersOf q) (pairs (q .places)) refl (omega (arith, size)))
-    ∙ put-over d (numbersOf q ++ pairs (q .places)) (omega (arith, size))
+abbrev zeros : List ℕ
+zeros = replicate fieldCount 0
+
+unfoldable pub cleared : List ℕ → ℕ → List ℕ
+cleared d i = putting d 0 zeros i
+
+pub cleared-none : (d : List ℕ) → d ≡ cleared d 0
+unfolding cleared
+cleared-none d = put-none d 0 zeros
+
+module _ (d : List ℕ) (size : length d ≡ fieldCount) (i : ℕ) {x : List ℕ} (e : x ≡ cleared d i) where
+  pub cleared-more : i < length d → set x i 0 ≡ cleared d (i + 1)
+  unfolding cleared
+  cleared-more h = rw (zero-add i, getD-replicate {A = ℕ} fieldCount i 0 0 (omega arith)) at (put-more d 0 zeros i e (omega arith) (omega arith))
+
+  pub cleared-whole : i ≡ length d → x ≡ zeros
+  unfolding cleared
+  cleared-whole h = put-whole d 0 zeros i e (omega arith) ∙ put-over d zeros size
+
+-- a place that is put leaves the length as it is
+pub place-keeps : (f : List ℕ) (k : ℕ) (b : Place) {g : List ℕ} → g ≡ withPlace f k b → length g ≡ length f
+unfolding withPlace
+place-keeps f k b e = ap length e ∙ simp length-set

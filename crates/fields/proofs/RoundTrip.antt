@@ -94,10 +94,6 @@ fields-record q t =
       flag-small (q .link .«network_unicode»),
     )
 
--- what filled the fields with them has both, of a record that fits
-pub round-trip : (q : Record) → FitsRecord q → length (q .places) ≡ 17 → {x : List ℕ} → x ≡ fieldsOf q → (x ≡ fieldsOf q) × ((areRecord x ≡ true) × (recordFrom x ≡ q))
-round-trip q t row e = (e, (rw e (fields-record q t), rw e (record-back q t row)))
-
 -- ---- the numbers
 
 -- each fits 64 bits, as those of a slice do

@@ -5,38 +5,12 @@ use format::Place;
 use format::Record;
 ghost use mathlib.Core.Path.{_≡_};
 ghost use mathlib.Core.Bool.{true};
-ghost use Prim.Native.Nat.{_+_, _≤_, _<_};
-ghost use lib.ListN.{length, getD};
-ghost use Rattle.octets.specs.Parts.{put};
-ghost use Rattle.fields.specs.Fields.{fieldCount, numbersOf, pairs, fieldsOf, headerNumbers, infoNumbers, areRecord, slotAt, headerFrom, linkFrom, placesFrom, recordFrom};
+ghost use Prim.Native.Nat.{_<_};
+ghost use lib.ListN.{length, replicate};
+ghost use Rattle.fields.specs.Steps.Putting.{withPlace};
+ghost use Rattle.fields.specs.Fields.{fieldCount, headerNumbers, infoNumbers, areRecord, slotAt, headerFrom, linkFrom, placesFrom, recordFrom};
 
 const WORD: u64 = 0x1_0000_0000;
-
-fn numbers_of(q: Record) -> [u64; 17]
-    ensures { λ r. ⌜ r ≡ numbersOf q ⌝ }
-{
-    let h = q.header;
-    let l = q.link;
-    [
-        h.flags as u64,
-        h.attributes as u64,
-        h.creation,
-        h.access,
-        h.write,
-        h.file_size as u64,
-        format::bits_of(h.icon_index) as u64,
-        h.command as u64,
-        h.hotkey as u64,
-        l.flags as u64,
-        format::one_or_0(l.long) as u64,
-        l.drive as u64,
-        l.serial as u64,
-        format::one_or_0(l.label_unicode) as u64,
-        l.network_flags as u64,
-        l.provider as u64,
-        format::one_or_0(l.network_unicode) as u64,
-    ]
-}
 
 pub fn are_record(f: &[u64]) -> bool
     requires { ⌜ length (now f) ≡ fieldCount ⌝ }
@@ -97,42 +71,26 @@ fn info_numbers(f: &[u64]) -> bool
         & (f[16] < 2)
 }
 
-fn put_numbers(f: &mut [u64], at: usize, src: &[u64])
-    requires { ⌜ at + length (now src) ≤ length (now f) ⌝ }
-    ensures { λ _. ⌜ now (f .exit) ≡ put (now (f .entry)) at (now (src .entry)) ⌝ }
+// All zeros.
+pub fn clear(f: &mut [u64])
+    requires { ⌜ length (now f) ≡ fieldCount ⌝ }
+    ensures { λ _. ⌜ now (f .exit) ≡ replicate fieldCount 0 ⌝ }
 {
     let mut i: usize = 0;
-    while i < src.len() {
-        f[at + i] = src[i];
+    while i < f.len() {
+        f[i] = 0;
         i += 1;
     }
 }
 
-// Place and length of each slot.
-fn put_places(f: &mut [u64], row: [Place; 17])
-    requires { ⌜ length (now f) ≡ fieldCount ⌝ }
-    ensures { λ _. ⌜ now (f .exit) ≡ put (now (f .entry)) 17 (pairs row) ⌝ }
+// The place in slot k of the record.
+pub fn put_place(f: &mut [u64], k: usize, b: Place)
+    requires size { ⌜ length (now f) ≡ fieldCount ⌝ }
+    requires slot { ⌜ k < 17 ⌝ }
+    ensures { λ _. ⌜ now (f .exit) ≡ withPlace (now (f .entry)) k b ⌝ }
 {
-    let mut k: usize = 0;
-    while k < 17 {
-        let b = row[k];
-        let i = 17 + 2 * k;
-        f[i] = b.at as u64;
-        f[i + 1] = b.len as u64;
-        k += 1;
-    }
-}
-
-pub fn put_fields(f: &mut [u64], q: Record)
-    requires { ⌜ length (now f) ≡ fieldCount ⌝ }
-    ensures fields { λ _. ⌜ now (f .exit) ≡ fieldsOf q ⌝ }
-    ensures numbers { λ _. ⌜ areRecord (now (f .exit)) ≡ true ⌝ }
-    ensures back { λ _. ⌜ recordFrom (now (f .exit)) ≡ q ⌝ }
-{
-    let numbers = numbers_of(q);
-    put_numbers(f, 0, &numbers);
-    let row = q.places;
-    put_places(f, row);
+    f[17 + 2 * k] = b.at as u64;
+    f[18 + 2 * k] = b.len as u64;
 }
 
 fn link_from(f: &[u64]) -> Link

@@ -213,34 +213,6 @@ pub struct Salvaged {
 
 pub const NO_PLACE: Place = Place { at: 0, len: 0 };
 
-pub const NO_VOLUME: Volume = Volume {
-    drive: 0,
-    serial: 0,
-    label: Label::Byte(NO_PLACE),
-};
-
-pub const NO_NETWORK: Network = Network {
-    flags: 0,
-    provider: 0,
-    unicode: false,
-    net: NO_PLACE,
-    device: NO_PLACE,
-    net_unicode: NO_PLACE,
-    device_unicode: NO_PLACE,
-};
-
-pub const NO_INFO: Info = Info {
-    flags: 0,
-    long: false,
-    volume: NO_VOLUME,
-    local: NO_PLACE,
-    network: NO_NETWORK,
-    suffix: NO_PLACE,
-    local_unicode: NO_PLACE,
-    suffix_unicode: NO_PLACE,
-    further: NO_PLACE,
-};
-
 const NO_HEADER: Header = Header {
     flags: 0,
     attributes: 0,

@@ -4,6 +4,7 @@ use Rattle.octets.proofs.Outcomes.{OneAnswer}
 use Rattle.header.proofs.flags_ok as flags-ok
 use Rattle.header.proofs.attributes_ok as attributes-ok
 use Rattle.header.proofs.hotkey_ok as hotkey-ok
+use Rattle.header.proofs.header_fields as header-fields
 use Rattle.header.proofs.header as header
 use Rattle.header.proofs.window as window
 
@@ -15,6 +16,9 @@ attributes-ok-one-outcome κs a r q s t p o = p ∙ sym o
 
 pub hotkey-ok-one-outcome : OneAnswer hotkey-ok.ended hotkey-ok.Reads.Post
 hotkey-ok-one-outcome κs a r q s t p o = p ∙ sym o
+
+pub header-fields-one-outcome : OneAnswer header-fields.ended header-fields.Reads.Post
+header-fields-one-outcome κs a r q s t p o = p ∙ sym o
 
 pub header-one-outcome : OneAnswer header.ended header.Reads.Post
 header-one-outcome κs a r q s t p o = p .is ∙ sym (o .is)

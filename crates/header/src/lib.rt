@@ -115,7 +115,7 @@ fn head_wrong(l: &[u8], profile: Profile) -> usize
     )
 }
 
-fn header_fields(l: &[u8]) -> Header
+pub fn header_fields(l: &[u8]) -> Header
     requires { ⌜ 76 ≤ length (now l) ⌝ }
     ensures { λ r. ⌜ r ≡ headerFields (now (l .entry)) ⌝ }
 {

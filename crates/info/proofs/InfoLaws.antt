@@ -16,17 +16,17 @@ use Rattle.format.specs.declared.Fault.the-variants.{Cut as CUT, Info as INFO, 
 use Rattle.format.specs.declared.Place.{Place}
 use Rattle.format.specs.declared.Info.{Info}
 use Rattle.format.specs.declared.Spot.{Spot}
-use Rattle.format.specs.Tests.{Site, section, spotAt, Outcome, got, refused, Test, _else_at_, tests, all, place, noPlace}
+use Rattle.format.specs.Tests.{Site, section, spotAt, Outcome, got, refused, Test, _else_at_, tests, all}
 use Rattle.format.specs.Numbers.{outcomeNumber}
 use Rattle.format.specs.Steps.Answers.{outcomeEnd}
-use Rattle.format.specs.Steps.Wrong.{wrong, first}
-use Rattle.format.specs.Pieces.{Piece, textEnds, textPiece, absentZero, testsOf, apartTests}
-use Rattle.format.specs.Volume.{volumePiece, volumeRules, volumeFields}
-use Rattle.format.specs.Network.{networkPiece, networkRules, networkFields}
+use Rattle.format.specs.Steps.Wrong.{wrong}
+use Rattle.format.specs.Pieces.{textPiece, absentZero, testsOf, apartTests}
+use Rattle.format.specs.Volume.{volumePiece, volumeRules}
+use Rattle.format.specs.Network.{networkPiece, networkRules}
 use Rattle.format.specs.Info.{infoSize, infoHead, longHead, headOk, infoFlags, hasLocal, hasNetwork, infoPieces, leftoverOk, infoHeadTests, infoRules, infoFields, hasLocalUnicode, info}
 use Rattle.format.specs.Presence.{localThere, networkThere, localUnicodeThere}
 use Rattle.format.proofs.Bools.{or-true, and-true}
-use Rattle.format.proofs.Chains.{Pass, tests-append, all-pass, pass-all}
+use Rattle.format.proofs.Chains.{tests-append, all-pass, pass-all}
 use Rattle.format.proofs.WrongLaws.{Faults, one-fault, none-wrong}
 use Rattle.format.proofs.Holds.{infoPieceTests, info-head-holds, info-pieces-hold}
 use Rattle.info.specs.declared.InfoTaken.{InfoTaken}
@@ -34,15 +34,15 @@ use Rattle.info.specs.declared.InfoTaken.the-variants.{Got, Refused}
 use Rattle.pieces.specs.declared.Text.{Text}
 use Rattle.pieces.specs.declared.VolumeFound.{VolumeFound}
 use Rattle.pieces.specs.declared.NetworkFound.{NetworkFound}
-use Rattle.info.specs.declared.Pieces.{Pieces}
-use Rattle.pieces.specs.Steps.Found.{fieldIf, pieceOk, textFound, volumeFound, networkFound}
-use Rattle.info.specs.Steps.Found.{ignoresLeftovers, piecesFound}
-use Rattle.info.specs.Steps.Taken.{infoTaken, infoAt, infoNumber, infoValue, InfoAnswer}
-use Rattle.pieces.proofs.TestLaws.{first-unless, fields-told, fields-one, fields-most, text-fields, AllFields, pieces-fields, judge, pieces-judged}
-use Rattle.pieces.proofs.TextLaws.{any-field, text-judged, text-field, zero-field}
+use Rattle.pieces.specs.Steps.Found.{fieldIf, pieceOk, labelBytes, networkTexts, textFound, volumeFound, networkFound}
+use Rattle.info.specs.Steps.Found.{ignoresLeftovers, textLengths, noLengths, lengthsAfter, EarlierRight}
+use Rattle.info.specs.Steps.Taken.{infoTaken, infoAt, saidBy, infoHeld, infoNumber, infoValue, InfoAnswer}
+use Rattle.pieces.proofs.TestLaws.{fields-told, fields-one, fields-most, text-fields, AllFields, pieces-fields, judge, firstOf, spansOf, pieces-judged}
+use Rattle.pieces.proofs.TextLaws.{text-judged, text-length, text-field, zero-field}
 use Rattle.pieces.proofs.StructLaws.{first-number, struct-fields}
 use Rattle.pieces.proofs.VolumeLaws.{volume-fields}
 use Rattle.pieces.proofs.NetworkLaws.{network-fields}
+use Rattle.info.proofs.LengthLaws.{rowOf, lengthRow, lengths-anywhere, row-kept, row-filled}
 
 -- ---- the head, field after field
 
@@ -143,11 +143,11 @@ module _ (l : List ℕ) (e : headOk l ≡ true) where
       let k : ℕ = length l + 32 in
       let h : ℕ = infoHead l in
       let z : 0 < h = fits .0 in (
-        struct-fields k 12 16 0x11 volumeRules volumeFields (hasLocal l) l h (u32At l 12) (omega arith) (omega arith) (omega arith) z volume-fields,
+        struct-fields k 12 16 0x11 volumeRules (hasLocal l) l h (u32At l 12) (omega arith) (omega arith) (omega arith) z volume-fields,
         (
           text-fields k h (hasLocal l) false l 16 (u32At l 16) (omega arith) (omega arith),
           (
-            struct-fields k 20 24 0x14 networkRules networkFields (hasNetwork l) l h (u32At l 20) (omega arith) (omega arith) (omega arith) z network-fields,
+            struct-fields k 20 24 0x14 networkRules (hasNetwork l) l h (u32At l 20) (omega arith) (omega arith) (omega arith) z network-fields,
             (
               text-fields k h true false l 24 (u32At l 24) (omega arith) (omega arith),
               (
@@ -159,137 +159,142 @@ module _ (l : List ℕ) (e : headOk l ≡ true) where
         ),
       )
 
--- ---- the pieces
+-- ---- what the code finds, by the fields of l
 
--- the six pieces, as they were found
-pub record Six (p : ℕ) (l : List ℕ) (a : VolumeFound) (b : Text) (c : NetworkFound) (d e f : Text) : Type 0 where
-  pub volume : a ≡ volumeFound (hasLocal l) l p (infoHead l)
-  pub local : b ≡ textFound (hasLocal l) false l p (infoHead l) (u32At l 16)
-  pub network : c ≡ networkFound (hasNetwork l) l p (infoHead l)
-  pub suffix : d ≡ textFound true false l p (infoHead l) (u32At l 24)
-  pub localUnicode : e ≡ textFound (hasLocalUnicode l) true l p (infoHead l) (u32At l 28)
-  pub suffixUnicode : f ≡ textFound (longHead l) true l p (infoHead l) (u32At l 32)
+module _ (l : List ℕ) {head : ℕ} (eh : head ≡ infoHead l) where
+  pub volume-as : {flags : ℕ} {there : Bool} {a : VolumeFound} → flags ≡ u32At l 8 → there ≡ localThere flags → a ≡ volumeFound there l head → a ≡ volumeFound (hasLocal l) l (infoHead l)
+  volume-as ef et e = e ∙ rw (et, ef, eh)
 
-pub six : (p : ℕ) (l : List ℕ) {head flags o₁ o₂ o₃ o₄ : ℕ} {there both linked : Bool} {a : VolumeFound} {b : Text} {c : NetworkFound} {d e f : Text}
-    → head ≡ u32At l 4 → flags ≡ u32At l 8 → there ≡ localThere flags → both ≡ localUnicodeThere (leb 0x24 head) flags → linked ≡ networkThere flags
-    → a ≡ volumeFound there l p head
-    → o₁ ≡ u32At l 16 → b ≡ textFound there false l p head o₁
-    → c ≡ networkFound linked l p head
-    → o₂ ≡ u32At l 24 → d ≡ textFound true false l p head o₂
-    → o₃ ≡ fieldIf (leb 0x24 head) l 28 → e ≡ textFound both true l p head o₃
-    → o₄ ≡ fieldIf (leb 0x24 head) l 32 → f ≡ textFound (leb 0x24 head) true l p head o₄
-    → Six p l a b c d e f
-six p l eh ef el et en ea e₁ eb ec e₂ ed e₃ ee e₄ eg =
-    let h : ℕ = infoHead l in
-    let w : Bool = longHead l in
-    record {
-      volume = ea ∙ rw (el, ef, eh);
-      local = eb ∙ rw (e₁, el, ef, eh);
-      network = ec ∙ rw (en, ef, eh);
-      suffix = ed ∙ rw (e₂, eh);
-      localUnicode = ee ∙ rw (et, e₃, ef, eh) (text-field (hasLocalUnicode l) true l p h 28 w (λ z. rw z));
-      suffixUnicode = eg ∙ rw (e₄, eh) (text-field w true l p h 32 w (λ z. z));
-    }
+  pub local-as : {flags o : ℕ} {there : Bool} {b : Text} → flags ≡ u32At l 8 → there ≡ localThere flags → o ≡ u32At l 16 → b ≡ textFound there false l head o
+      → b ≡ textFound (hasLocal l) false l (infoHead l) (u32At l 16)
+  local-as ef et eo e = e ∙ rw (et, ef, eo, eh)
 
-abbrev made : ℕ → Info → Pieces
-made i j = record { wrong = i; info = j }
+  pub network-as : {flags : ℕ} {there : Bool} {c : NetworkFound} → flags ≡ u32At l 8 → there ≡ networkThere flags → c ≡ networkFound there l head → c ≡ networkFound (hasNetwork l) l (infoHead l)
+  network-as ef et e = e ∙ rw (et, ef, eh)
 
-module _ (p : ℕ) (l : List ℕ) {a : VolumeFound} {b : Text} {c : NetworkFound} {d e f : Text} {far m₁ m₂ m₃ m₄ m₅ m₆ : ℕ} (z : headOk l ≡ true)
-    (S : Six p l a b c d e f)
-    (ef : far ≡ wrong (apartTests [] ((12, a .span) ∷ (16, b .span) ∷ (20, c .span) ∷ (24, d .span) ∷ (28, e .span) ∷ (32, f .span) ∷ [])))
-    (e₁ : m₁ ≡ cond (f .ok) far 32) (e₂ : m₂ ≡ cond (e .ok) m₁ 28) (e₃ : m₃ ≡ cond (d .ok) m₂ 24)
-    (e₄ : m₄ ≡ first (c .wrong) m₃) (e₅ : m₅ ≡ cond (b .ok) m₄ 16) (e₆ : m₆ ≡ first (a .wrong) m₅) where
-  volume-judged : (a .wrong, (12, a .span)) ≡ judge (infoHead l) (volumePiece (hasLocal l) l 12 (u32At l 12))
-  unfolding volumeFound
-  volume-judged = rw (S .volume)
+  pub suffix-as : {o : ℕ} {d : Text} → o ≡ u32At l 24 → d ≡ textFound true false l head o → d ≡ textFound true false l (infoHead l) (u32At l 24)
+  suffix-as eo e = e ∙ rw (eo, eh)
 
-  network-judged : (c .wrong, (20, c .span)) ≡ judge (infoHead l) (networkPiece (hasNetwork l) l 20 (u32At l 20))
-  unfolding networkFound
-  network-judged = rw (S .network)
+  pub local-unicode-as : {flags o : ℕ} {both : Bool} {e : Text} → flags ≡ u32At l 8 → both ≡ localUnicodeThere (leb 0x24 head) flags → o ≡ fieldIf (leb 0x24 head) l 28
+      → e ≡ textFound both true l head o → e ≡ textFound (hasLocalUnicode l) true l (infoHead l) (u32At l 28)
+  local-unicode-as ef et eo e = e ∙ rw (et, eo, ef, eh) (text-field (hasLocalUnicode l) true l (infoHead l) 28 (longHead l) (λ z. rw z))
 
-  pieces-wrong : m₆ ≡ wrong (infoPieceTests l)
-  pieces-wrong =
-      let h : ℕ = infoHead l in
-      let fs : ((a .wrong, (12, a .span)) ∷ (cond (b .ok) 0 16, (16, b .span)) ∷ (c .wrong, (20, c .span)) ∷ (cond (d .ok) 0 24, (24, d .span))
-      ∷ (cond (e .ok) 0 28, (28, e .span)) ∷ (cond (f .ok) 0 32, (32, f .span)) ∷ [])
-      ≡ map (judge h) (infoPieces l)
-      = rw (
-        volume-judged,
-        text-judged (hasLocal l) false l p h (u32At l 16) (S .local) 16,
-        network-judged,
-        text-judged true false l p h (u32At l 24) (S .suffix) 24,
-        text-judged (hasLocalUnicode l) true l p h (u32At l 28) (S .localUnicode) 28,
-        text-judged (longHead l) true l p h (u32At l 32) (S .suffixUnicode) 32,
-      ) in
-      let m : m₆ ≡ first (a .wrong) (first (cond (b .ok) 0 16) (first (c .wrong) (first (cond (d .ok) 0 24) (first (cond (e .ok) 0 28) (first (cond (f .ok) 0 32) far)))))
-      = rw (
-        e₆,
-        e₅,
-        e₄,
-        e₃,
-        e₂,
-        e₁,
-        first-unless (f .ok) far 32 (omega arith),
-        first-unless (e .ok) (cond (f .ok) far 32) 28 (omega arith),
-        first-unless (d .ok) (cond (e .ok) (cond (f .ok) far 32) 28) 24 (omega arith),
-        first-unless (b .ok) (first (c .wrong) (cond (d .ok) (cond (e .ok) (cond (f .ok) far 32) 28) 24)) 16 (omega arith),
-      ) in
-      m ∙ sym (pieces-judged (length l + 32) h (infoPieces l) (pieces-within l z) fs ef)
+  pub suffix-unicode-as : {o : ℕ} {f : Text} → o ≡ fieldIf (leb 0x24 head) l 32 → f ≡ textFound (leb 0x24 head) true l head o → f ≡ textFound (longHead l) true l (infoHead l) (u32At l 32)
+  suffix-unicode-as eo e = e ∙ rw (eo, eh) (text-field (longHead l) true l (infoHead l) 32 (longHead l) (λ z. z))
 
-  pub pieces-are : {flags head : ℕ} {x : Place} → flags ≡ u32At l 8 → head ≡ u32At l 4 → x ≡ cond (leb 0x24 head) (place (p + 0x24) (head - 0x24)) noPlace
-      → _≡_ {A = Pieces} (record {
-        wrong = m₆;
-        info = record {
-          flags = flags;
-          long = leb 0x24 head;
-          volume = a .volume;
-          local = b .body;
-          network = c .network;
-          suffix = d .body;
-          «local_unicode» = e .body;
-          «suffix_unicode» = f .body;
-          further = x;
-        };
-      }) (piecesFound p l)
-  unfolding piecesFound
-  pieces-are eg eh ex =
-      ap₂ made pieces-wrong (rw (S .volume, S .local, S .network, S .suffix, S .localUnicode, S .suffixUnicode, ex, eg, eh))
+-- ---- the pieces: the first that is at fault
 
-module _ (p : ℕ) (l : List ℕ) (z : headOk l ≡ true) {r : Pieces} (e : r ≡ piecesFound p l) where
-  found-wrong : r .wrong ≡ wrong (infoPieceTests l)
-  unfolding piecesFound
-  found-wrong = ap (λ (x : Pieces). x .wrong) e
+module _ (l : List ℕ) (z : headOk l ≡ true) where
+  abbrev judgedFrom : ℕ → List (ℕ × (ℕ × Place))
+  judgedFrom k = map (judge (infoHead l)) (drop k (infoPieces l))
 
-  pieces-most : r .wrong ≤ length l + 32
-  pieces-most = rw found-wrong (fields-most (length l + 32) (infoPieceTests l) (pieces-fields (length l + 32) (infoHead l) (infoPieces l) (pieces-within l z)))
+  judged : {fs : List (ℕ × (ℕ × Place))} → fs ≡ judgedFrom 0 → wrong (infoPieceTests l) ≡ firstOf fs (wrong (apartTests [] (spansOf fs)))
+  judged p = pieces-judged (length l + 32) (infoHead l) (infoPieces l) (pieces-within l z) p refl
 
-  pieces-one : {A : Type 0} (w : Site) (o : Outcome A) → tests w (infoPieceTests l) o ≡ cond (eqb (r .wrong) 0) o (refused PIECE (spotAt w (r .wrong)))
-  pieces-one w o =
-      fields-one (length l + 32) w (infoPieceTests l) o (pieces-fields (length l + 32) (infoHead l) (infoPieces l) (pieces-within l z))
-      ∙ rw found-wrong
+  module _ {a : VolumeFound} (ea : a ≡ volumeFound (hasLocal l) l (infoHead l)) where
+    volume-judged : (a .wrong, (12, a .span)) ≡ judge (infoHead l) (volumePiece (hasLocal l) l 12 (u32At l 12))
+    unfolding volumeFound
+    volume-judged = rw ea
 
-  -- what the pieces say where all pass
-  pieces-say : r .wrong ≡ 0 → r .info ≡ infoFields p l
-  unfolding piecesFound volumeFound textFound networkFound
-  pieces-say k =
-      let F = pieces-fields (length l + 32) (infoHead l) (infoPieces l) (pieces-within l z) in
-      let o : all (infoPieceTests l) ≡ true = sym (fields-told (length l + 32) (infoPieceTests l) F) ∙ eq-eqb (wrong (infoPieceTests l)) 0 (sym found-wrong ∙ k) in
-      let c = info-pieces-hold l (all-pass (infoPieceTests l) o) in
-      ap (λ (x : Pieces). x .info) e
-      ∙ rw (
-        ok (volumePiece (hasLocal l) l 12 (u32At l 12)) (c .volume),
-        text-ok (hasLocal l) false 16 (c .local),
-        ok (networkPiece (hasNetwork l) l 20 (u32At l 20)) (c .network),
-        text-ok true false 24 (c .suffix),
-        text-ok (hasLocalUnicode l) true 28 (c .localUnicode),
-        text-ok (longHead l) true 32 (c .suffixUnicode),
-      )
-    where
-      ok : (x : Piece) → Pass (testsOf (infoHead l) x) → pieceOk (infoHead l) x ≡ true
-      ok x = pass-all (testsOf (infoHead l) x)
+    pub volume-fails : (a .wrong ≡ 0 → ⊥) → a .wrong ≡ wrong (infoPieceTests l)
+    volume-fails t =
+        let fs : ((a .wrong, (12, a .span)) ∷ judgedFrom 1) ≡ judgedFrom 0 = rw volume-judged in
+        sym (judged fs ∙ rw (ne-eqb (a .wrong) 0 t))
 
-      text-ok : (b u : Bool) (i : ℕ) → Pass (testsOf (infoHead l) (textPiece b u l i (u32At l i))) → pieceOk (infoHead l) (textPiece b u l 0 (u32At l i)) ≡ true
-      text-ok b u i q = sym (any-field b (leb (infoHead l) (u32At l i)) (textEnds u (drop (u32At l i) l)) i) ∙ ok (textPiece b u l i (u32At l i)) q
+    module _ {b : Text} (ra : a .wrong ≡ 0) (eb : b ≡ textFound (hasLocal l) false l (infoHead l) (u32At l 16)) where
+      local-judged : (cond (b .ok) 0 16, (16, b .span)) ≡ judge (infoHead l) (textPiece (hasLocal l) false l 16 (u32At l 16))
+      local-judged = text-judged (hasLocal l) false l (infoHead l) (u32At l 16) eb 16
+
+      pub local-fails : not (b .ok) ≡ true → 16 ≡ wrong (infoPieceTests l)
+      local-fails t =
+          let fs : ((a .wrong, (12, a .span)) ∷ (cond (b .ok) 0 16, (16, b .span)) ∷ judgedFrom 2) ≡ judgedFrom 0 = rw (volume-judged, local-judged) in
+          sym (judged fs ∙ rw (ra, not-true (b .ok) t))
+
+      module _ {c : NetworkFound} (rb : b .ok ≡ true) (ec : c ≡ networkFound (hasNetwork l) l (infoHead l)) where
+        network-judged : (c .wrong, (20, c .span)) ≡ judge (infoHead l) (networkPiece (hasNetwork l) l 20 (u32At l 20))
+        unfolding networkFound
+        network-judged = rw ec
+
+        pub network-fails : (c .wrong ≡ 0 → ⊥) → c .wrong ≡ wrong (infoPieceTests l)
+        network-fails t =
+            let fs : ((a .wrong, (12, a .span)) ∷ (cond (b .ok) 0 16, (16, b .span)) ∷ (c .wrong, (20, c .span)) ∷ judgedFrom 3) ≡ judgedFrom 0
+            = rw (volume-judged, local-judged, network-judged) in
+            sym (judged fs ∙ rw (ra, rb, ne-eqb (c .wrong) 0 t))
+
+  -- ---- those after the first three
+  module _ {a : VolumeFound} {b : Text} {c : NetworkFound} (E : EarlierRight l a b c) where
+    abbrev earlier : List (ℕ × (ℕ × Place)) → List (ℕ × (ℕ × Place))
+    earlier fs = (a .wrong, (12, a .span)) ∷ (cond (b .ok) 0 16, (16, b .span)) ∷ (c .wrong, (20, c .span)) ∷ fs
+
+    earlier-judged : earlier (judgedFrom 3) ≡ judgedFrom 0
+    earlier-judged =
+        rw (volume-judged (E .volume), local-judged (E .volume) (E .volumeRight) (E .local), network-judged (E .volume) (E .volumeRight) (E .local) (E .localRight) (E .network))
+
+    -- what is wrong is so of one of the later pieces
+    later-judged : {fs : List (ℕ × (ℕ × Place))} → fs ≡ judgedFrom 3 → wrong (infoPieceTests l) ≡ firstOf fs (wrong (apartTests [] (spansOf (earlier fs))))
+    later-judged p = judged (ap earlier p ∙ earlier-judged) ∙ rw (E .volumeRight, E .localRight, E .networkRight)
+
+    label-found : pieceOk (infoHead l) (volumePiece (hasLocal l) l 12 (u32At l 12)) ≡ true → a .label ≡ labelBytes (hasLocal l) l (u32At l 12)
+    unfolding volumeFound
+    label-found q = ap (λ (x : VolumeFound). x .label) (E .volume) ∙ rw q
+
+    texts-found : pieceOk (infoHead l) (networkPiece (hasNetwork l) l 20 (u32At l 20)) ≡ true → c .texts ≡ networkTexts (hasNetwork l) l (u32At l 20)
+    unfolding networkFound
+    texts-found q = ap (λ (x : NetworkFound). x .texts) (E .network) ∙ rw q
+
+    module _ {d : Text} (ed : d ≡ textFound true false l (infoHead l) (u32At l 24)) where
+      suffix-judged : (cond (d .ok) 0 24, (24, d .span)) ≡ judge (infoHead l) (textPiece true false l 24 (u32At l 24))
+      suffix-judged = text-judged true false l (infoHead l) (u32At l 24) ed 24
+
+      pub suffix-fails : not (d .ok) ≡ true → 24 ≡ wrong (infoPieceTests l)
+      suffix-fails t =
+          let fs : ((cond (d .ok) 0 24, (24, d .span)) ∷ judgedFrom 4) ≡ judgedFrom 3 = rw suffix-judged in
+          sym (later-judged fs ∙ rw (not-true (d .ok) t))
+
+      module _ {e : Text} (rd : d .ok ≡ true) (ee : e ≡ textFound (hasLocalUnicode l) true l (infoHead l) (u32At l 28)) where
+        local-unicode-judged : (cond (e .ok) 0 28, (28, e .span)) ≡ judge (infoHead l) (textPiece (hasLocalUnicode l) true l 28 (u32At l 28))
+        local-unicode-judged = text-judged (hasLocalUnicode l) true l (infoHead l) (u32At l 28) ee 28
+
+        pub local-unicode-fails : not (e .ok) ≡ true → 28 ≡ wrong (infoPieceTests l)
+        local-unicode-fails t =
+            let fs : ((cond (d .ok) 0 24, (24, d .span)) ∷ (cond (e .ok) 0 28, (28, e .span)) ∷ judgedFrom 5) ≡ judgedFrom 3 = rw (suffix-judged, local-unicode-judged) in
+            sym (later-judged fs ∙ rw (rd, not-true (e .ok) t))
+
+        module _ {f : Text} (re : e .ok ≡ true) (ef : f ≡ textFound (longHead l) true l (infoHead l) (u32At l 32)) where
+          later : ((cond (d .ok) 0 24, (24, d .span)) ∷ (cond (e .ok) 0 28, (28, e .span)) ∷ (cond (f .ok) 0 32, (32, f .span)) ∷ []) ≡ judgedFrom 3
+          later = rw (suffix-judged, local-unicode-judged, text-judged (longHead l) true l (infoHead l) (u32At l 32) ef 32)
+
+          pub suffix-unicode-fails : not (f .ok) ≡ true → 32 ≡ wrong (infoPieceTests l)
+          suffix-unicode-fails t = sym (later-judged later ∙ rw (rd, re, not-true (f .ok) t))
+
+          module _ {far : ℕ} (rf : f .ok ≡ true)
+              (ew : far ≡ wrong (apartTests [] ((12, a .span) ∷ (16, b .span) ∷ (20, c .span) ∷ (24, d .span) ∷ (28, e .span) ∷ (32, f .span) ∷ []))) where
+            pub all-judged : far ≡ wrong (infoPieceTests l)
+            all-judged = ew ∙ sym (later-judged later ∙ rw (rd, re, rf))
+
+            -- what was found of the lengths where all pass
+            pub lengths-found : far ≡ 0 → rowOf (a .label) (b .len) (c .texts) (d .len) (e .len) (f .len) ≡ lengthRow l
+            lengths-found k =
+                let F = pieces-fields (length l + 32) (infoHead l) (infoPieces l) (pieces-within l z) in
+                let o : all (infoPieceTests l) ≡ true = sym (fields-told (length l + 32) (infoPieceTests l) F) ∙ eq-eqb (wrong (infoPieceTests l)) 0 (sym all-judged ∙ k) in
+                let h = info-pieces-hold l (all-pass (infoPieceTests l) o) in
+                rw (
+                  label-found (pass-all (testsOf (infoHead l) (volumePiece (hasLocal l) l 12 (u32At l 12))) (h .volume)),
+                  text-length (hasLocal l) false l (infoHead l) (u32At l 16) (E .local) (E .localRight),
+                  texts-found (pass-all (testsOf (infoHead l) (networkPiece (hasNetwork l) l 20 (u32At l 20))) (h .network)),
+                  text-length true false l (infoHead l) (u32At l 24) ed rd,
+                  text-length (hasLocalUnicode l) true l (infoHead l) (u32At l 28) ee re,
+                  text-length (longHead l) true l (infoHead l) (u32At l 32) ef rf,
+                )
+
+  module _ {m : ℕ} (em : m ≡ wrong (infoPieceTests l)) where
+    pieces-most : m ≤ length l + 32
+    pieces-most = rw em (fields-most (length l + 32) (infoPieceTests l) (pieces-fields (length l + 32) (infoHead l) (infoPieces l) (pieces-within l z)))
+
+    pieces-one : {A : Type 0} (w : Site) (o : Outcome A) → tests w (infoPieceTests l) o ≡ cond (eqb m 0) o (refused PIECE (spotAt w m))
+    pieces-one w o =
+        fields-one (length l + 32) w (infoPieceTests l) o (pieces-fields (length l + 32) (infoHead l) (infoPieces l) (pieces-within l z))
+        ∙ rw em
 
 -- ---- the section
 
@@ -309,10 +314,17 @@ module _ (profile : Profile) (s : List ℕ) (p : ℕ) where
   abbrev here : Site
   here = section 2 p
 
-  -- the number and the value of the answer
-  info-read : {r : InfoTaken} → r ≡ infoAt profile s p → InfoAnswer profile s p r
-  unfolding infoAt infoNumber infoValue
-  info-read e = record { is = e; number = rw e (number (info profile p (drop p s))); value = rw e (value (info profile p (drop p s))) }
+  abbrev reading : Outcome Info
+  reading = info profile p (drop p s)
+
+  -- the answer, its number and its value, and the row
+  abbrev Ends : InfoTaken → List ℕ → Type 0
+  Ends r row = InfoAnswer profile s p r × (row ≡ textLengths (infoHeld profile s p))
+
+  info-read : (o : Outcome Info) {row : List ℕ} → reading ≡ o → row ≡ textLengths (saidBy o) → Ends (infoTaken p o) row
+  unfolding infoAt infoHeld infoNumber infoValue
+  info-read o e q =
+      (record { is = ap (infoTaken p) (sym e); number = number o ∙ ap outcomeNumber (sym e); value = value o ∙ ap (outcomeEnd p) (sym e) }, q ∙ ap (λ (x : Outcome Info). textLengths (saidBy x)) (sym e))
     where
       number : (o : Outcome Info) → infoNumber (infoTaken p o) ≡ outcomeNumber o
       number (got i n) = refl
@@ -322,9 +334,12 @@ module _ (profile : Profile) (s : List ℕ) (p : ℕ) where
       value (got i n) = refl
       value (refused f q) = refl
 
-  pub info-cut : {w : Spot} → length s < p + 4 → w ≡ spotAt here 0 → InfoAnswer profile s p (Refused CUT w)
-  unfolding infoAt
-  info-cut h e = info-read (rw (length-drop p s, lt-leb 4 (length s - p) (omega arith), e))
+  info-refused : (f : Fault) {q w : Spot} {row : List ℕ} → reading ≡ refused f q → w ≡ q → row ≡ noLengths → Ends (Refused f w) row
+  unfolding textLengths
+  info-refused f {q} e ew z = rw ew (info-read (refused f q) e z)
+
+  pub info-cut : {w : Spot} {row : List ℕ} → length s < p + 4 → w ≡ spotAt here 0 → row ≡ noLengths → Ends (Refused CUT w) row
+  info-cut h = info-refused CUT (rw (length-drop p s, lt-leb 4 (length s - p) (omega arith)))
 
   module _ {n : ℕ} (f : p + 4 ≤ length s) (e : n ≡ u32At s p) where
     size-is : infoSize (drop p s) ≡ n
@@ -333,23 +348,20 @@ module _ (profile : Profile) (s : List ℕ) (p : ℕ) where
     starts : leb 4 (length (drop p s)) ≡ true
     starts = le-leb 4 (length (drop p s)) (rw length-drop (omega arith))
 
-    pub info-small : {w : Spot} → n < 0x1C → w ≡ spotAt here 0 → InfoAnswer profile s p (Refused INFO w)
-    unfolding infoAt
-    info-small h ew = info-read (rw (starts, size-is, lt-leb 0x1C n h, ew))
+    pub info-small : {w : Spot} {row : List ℕ} → n < 0x1C → w ≡ spotAt here 0 → row ≡ noLengths → Ends (Refused INFO w) row
+    info-small h = info-refused INFO (rw (starts, size-is, lt-leb 0x1C n h))
 
     module _ (h : 0x1C ≤ n) where
-      pub info-past : {w : Spot} → length s < p + n → w ≡ spotAt here 0 → InfoAnswer profile s p (Refused CUT w)
-      unfolding infoAt
-      info-past g ew =
+      pub info-past : {w : Spot} {row : List ℕ} → length s < p + n → w ≡ spotAt here 0 → row ≡ noLengths → Ends (Refused CUT w) row
+      info-past g =
           let i : leb n (length (drop p s)) ≡ false = lt-leb n (length (drop p s)) (rw length-drop (omega arith)) in
-          info-read (rw (starts, size-is, le-leb 0x1C n h, i, ew))
+          info-refused CUT (rw (starts, size-is, le-leb 0x1C n h, i))
 
       module _ {d : Cursor} {k : ℕ} (g : p + n ≤ length s) (q : d .at ≡ p + n) (ek : k ≡ wrong (infoHeadTests profile (take (d .at - p) (drop p s)))) where
         abbrev part : List ℕ
         part = take (d .at - p) (drop p s)
 
-        info-is : infoAt profile s p ≡ infoTaken p (cond (eqb k 0) (tests here (infoPieceTests part) (got (infoFields p part) n)) (refused INFO (spotAt here k)))
-        unfolding infoAt
+        info-is : reading ≡ cond (eqb k 0) (tests here (infoPieceTests part) (got (infoFields p part) n)) (refused INFO (spotAt here k))
         info-is =
             let t : List ℕ = drop p s in
             let m : ℕ = infoSize t in
@@ -357,26 +369,26 @@ module _ (profile : Profile) (s : List ℕ) (p : ℕ) where
             let j : take m t ≡ part = ap (λ (i : ℕ). take i t) (size-is ∙ w) in
             let b : 0x1C ≤ m = rw size-is h in
             let c : m ≤ length t = rw (size-is, length-drop) (omega arith) in
-            ap (infoTaken p)
-            (three-pass here (leb 4 (length t)) (leb 0x1C m) (leb m (length t)) CUT INFO CUT (infoRules profile (take m t)) (got (infoFields p (take m t)) m) starts (le-leb 0x1C m b) (le-leb m (length t) c)
+            three-pass here (leb 4 (length t)) (leb 0x1C m) (leb m (length t)) CUT INFO CUT (infoRules profile (take m t)) (got (infoFields p (take m t)) m) starts (le-leb 0x1C m b) (le-leb m (length t) c)
             ∙ ap₂ (λ (l : List ℕ) (i : ℕ). tests here (infoRules profile l) (got (infoFields p l) i)) j size-is
-            ∙ rules-grouped profile here part (got (infoFields p part) n) ek)
+            ∙ rules-grouped profile here part (got (infoFields p part) n) ek
 
-        pub info-head : {w : Spot} → (k ≡ 0 → ⊥) → w ≡ spotAt here k → InfoAnswer profile s p (Refused INFO w)
-        info-head t ew = info-read (sym (info-is ∙ rw (ne-eqb k 0 t, ew)))
+        pub info-head : {w : Spot} {row : List ℕ} → (k ≡ 0 → ⊥) → w ≡ spotAt here k → row ≡ noLengths → Ends (Refused INFO w) row
+        info-head t = info-refused INFO (info-is ∙ rw (ne-eqb k 0 t))
 
-        module _ {r : Pieces} (t : k ≡ 0) (er : r ≡ piecesFound p part) where
+        module _ {m : ℕ} (t : k ≡ 0) (em : m ≡ wrong (infoPieceTests part)) where
           passed : headOk part ≡ true
           passed = head-passed profile part (sym ek ∙ t)
 
-          pieces-is : infoAt profile s p ≡ infoTaken p (cond (eqb (r .wrong) 0) (got (infoFields p part) n) (refused PIECE (spotAt here (r .wrong))))
-          pieces-is = info-is ∙ rw t (ap (infoTaken p) (pieces-one p part passed er here (got (infoFields p part) n)))
+          pieces-is : reading ≡ cond (eqb m 0) (got (infoFields p part) n) (refused PIECE (spotAt here m))
+          pieces-is = info-is ∙ rw t (pieces-one part passed em here (got (infoFields p part) n))
 
-          pub piece-most : r .wrong ≤ length s + 32
-          piece-most = let m = pieces-most p part passed er in omega (arith, length-take (d .at - p) (drop p s), length-drop p s)
+          pub piece-most : m ≤ length s + 32
+          piece-most = let i = pieces-most part passed em in omega (arith, length-take (d .at - p) (drop p s), length-drop p s)
 
-          pub info-piece : {w : Spot} → (r .wrong ≡ 0 → ⊥) → w ≡ spotAt here (r .wrong) → InfoAnswer profile s p (Refused PIECE w)
-          info-piece o ew = info-read (sym (pieces-is ∙ rw (ne-eqb (r .wrong) 0 o, ew)))
+          module _ (before : List ℕ) {row : List ℕ} (er : row ≡ lengthsAfter m part before) where
+            pub info-piece : {w : Spot} → (m ≡ 0 → ⊥) → w ≡ spotAt here m → before ≡ noLengths → Ends (Refused PIECE w) row
+            info-piece o ew eb = info-refused PIECE (pieces-is ∙ rw (ne-eqb m 0 o)) ew (er ∙ sym (row-kept part before o) ∙ eb)
 
-          pub info-got : r .wrong ≡ 0 → InfoAnswer profile s p (Got (r .info) d)
-          info-got o = info-read (rw (pieces-say p part passed er o) (sym (pieces-is ∙ rw (o, ← q))))
+            pub info-got : m ≡ 0 → Ends (Got d) row
+            info-got o = rw (← q) at (info-read (got (infoFields p part) n) (pieces-is ∙ rw o) (er ∙ row-filled part before o ∙ lengths-anywhere 0 p part))

@@ -1,2 +1,4 @@
 pub mod InfoLaws
+pub mod LengthLaws
 pub mod OneOutcome
+pub mod PutLaws

@@ -23,17 +23,17 @@ use Rattle.octets.proofs.WroteLaws.{kept, join, reword, wrote-number}
 use Rattle.format.specs.declared.Profile.{Profile}
 use Rattle.format.specs.declared.Place.{Place}
 use Rattle.format.specs.declared.Record.{Record}
-use Rattle.format.specs.declared.Reading.{Reading}
 use Rattle.format.specs.declared.Fault.{Fault}
 use Rattle.format.specs.declared.Fault.the-variants.{Room as ROOM}
 use Rattle.format.specs.declared.Verdict.{Verdict}
 use Rattle.format.specs.declared.Verdict.the-variants.{Accepted, Refused}
+use Rattle.format.specs.declared.Spot.{Spot}
 use Rattle.format.specs.Tests.{got, refused, oneOr0, place, noPlace}
 use Rattle.format.specs.Numbers.{Numbered}
 use Rattle.format.specs.Presence.{workdirBit, argumentsBit, stringThere, stringsUnicode}
 use Rattle.format.specs.Blocks.{blocks}
 use Rattle.format.specs.Steps.Firsts.{firstField, firsts}
-use Rattle.format.specs.Shortcut.{most, shortcut, reading}
+use Rattle.format.specs.Shortcut.{most, shortcut}
 use Rattle.format.specs.Bodies.{placeIn, stringSlot, blocksSlot}
 use Rattle.format.specs.Contents.{bytesAt}
 use Rattle.format.specs.Writing.{outputOf}
@@ -43,8 +43,7 @@ use Rattle.format.specs.Demands.{Accepts}
 use Rattle.format.proofs.AnswerLaws.{nowhere, numbered}
 use Rattle.format.proofs.BodyLaws.{body-part, part-length}
 use Rattle.format.proofs.Chains.{drop-take}
-use Rattle.format.proofs.AcceptedLaws.{accepted-read, accepted-held, accepted-bodies, accepted-limit, refused-read}
-use Rattle.format.proofs.Demands.{accepted-whole}
+use Rattle.format.proofs.AcceptedLaws.{accepted-read, accepted-bodies, accepted-limit}
 use Rattle.format.proofs.KeyDemands.{record-tells}
 use Rattle.format.proofs.KeyRoom.{made}
 use Rattle.format.proofs.KeyLaws.{flag-small}
@@ -53,10 +52,10 @@ use Rattle.blocks.proofs.FirstLaws.{first-block}
 use Rattle.reader.specs.Steps.Finish.{FirstsOf}
 use Rattle.target.specs.declared.Texts.{Texts}
 use Rattle.target.specs.Steps.Texts.{Stands, textsLength, textsBytes, textsOf}
-use Rattle.target.proofs.Laws.{TextsInside, texts-inside, texts-stand, texts-are, texts-long}
+use Rattle.target.proofs.Laws.{texts-stand, texts-are, texts-long}
 use Rattle.keying.specs.declared.KeyPart.{KeyPart}
 use Rattle.keying.specs.declared.KeyParts.{KeyParts}
-use Rattle.keying.specs.Steps.KeyParts.{only, keyPart, partShown, partLength, PartStands, Alone, TextOf, BlockAt, EnvironmentOf, keyShown, keyLength, KeyStands}
+use Rattle.keying.specs.Steps.KeyParts.{only, keyPart, targetPart, partShown, partLength, PartStands, Alone, TextOf, BlockAt, EnvironmentOf, keyShown, keyLength, KeyStands}
 
 -- ---- one part
 
@@ -67,6 +66,15 @@ part-there there t e = rw e
 pub part-absent : (there : Bool) (t : Texts) {u : Texts} → there ≡ false → u ≡ only noPlace → record { there = there; texts = u } ≡ keyPart there t
 unfolding keyPart
 part-absent there t e i = rw (e, i)
+
+-- the target's part, by whether there is one
+pub target-kept : (s : List ℕ) (r : Record) {t : Texts} {p : KeyPart} → hasTarget r ≡ true → t ≡ textsOf s r → p ≡ keyPart true t → p ≡ targetPart s r
+unfolding targetPart
+target-kept s r h e i = i ∙ rw (h, e)
+
+pub target-gone : (s : List ℕ) (r : Record) (t : Texts) {p : KeyPart} → hasTarget r ≡ false → p ≡ keyPart false t → p ≡ targetPart s r
+unfolding targetPart keyPart
+target-gone s r t h i = i ∙ rw h
 
 module _ (s : List ℕ) (there : Bool) (t : Texts) where
   pub part-shown : partShown s (keyPart there t) ≡ partIf there (textsBytes s t)
@@ -266,43 +274,45 @@ module _ (profile : Profile) (s : List ℕ) (r : Record) (e : Accepts profile s 
         is = ap (environment s) (F .block) ∙ ap (λ (y : Key). y .environment) (sym (m .is));
       })
 
-  pub accepted-texts : TextsInside s r
-  unfolding Accepts
-  accepted-texts = texts-inside profile s r (length s) e
-
-  module _ {k : KeyParts} (unicode : k .unicode ≡ stringsUnicode (r .header .flags)) {h : Bool} {t : Texts} (has : h ≡ hasTarget r) (texts : t ≡ textsOf s r) (target : k .target ≡ keyPart h t)
-      {u v : Bool} {a w : Texts} (hu : u ≡ stringThere argumentsBit (r .header .flags)) (ea : a ≡ only (placeIn r (stringSlot argumentsBit))) (arguments : k .arguments ≡ keyPart u a)
-      (hv : v ≡ stringThere workdirBit (r .header .flags)) (ew : w ≡ only (placeIn r (stringSlot workdirBit))) (workdir : k .workdir ≡ keyPart v w)
+  module _ {f : ℕ} (flags : f ≡ r .header .flags) {k : KeyParts} (unicode : k .unicode ≡ stringsUnicode f) (target : k .target ≡ targetPart s r)
+      {u v : Bool} {a w : Texts} {pa pw : Place} (hu : u ≡ stringThere argumentsBit f) (ia : pa ≡ placeIn r (stringSlot argumentsBit)) (ea : a ≡ only pa) (arguments : k .arguments ≡ keyPart u a)
+      (hv : v ≡ stringThere workdirBit f) (iw : pw ≡ placeIn r (stringSlot workdirBit)) (ew : w ≡ only pw) (workdir : k .workdir ≡ keyPart v w)
       {row : List ℕ} (noted : FirstsOf s r row) (environment : EnvironmentOf s (blockFrom s (getD row 0 0)) (k .environment)) where
+    arguments-are : k .arguments ≡ keyPart (stringThere argumentsBit (r .header .flags)) (only (placeIn r (stringSlot argumentsBit)))
+    arguments-are = arguments ∙ rw (hu, ea, ia, flags)
+
+    workdir-is : k .workdir ≡ keyPart (stringThere workdirBit (r .header .flags)) (only (placeIn r (stringSlot workdirBit)))
+    workdir-is = workdir ∙ rw (hv, ew, iw, flags)
+
     string-shown : (b : Bool) (p : Place) → partShown s (keyPart b (only p)) ≡ partIf b (bytesAt s p)
     string-shown b p = part-shown s b (only p) ∙ ap (partIf b) (only-bytes s p)
 
     parts-shown : keyShown s k ≡ keyIn profile s
-    unfolding keyShown
+    unfolding keyShown targetPart
     parts-shown =
         let x = record-tells profile s r e in
-        let f = r .header .flags in
-        let a₁ = unicode ∙ sym (x .unicode) in
+        let g = r .header .flags in
+        let a₁ = unicode ∙ ap stringsUnicode flags ∙ sym (x .unicode) in
         let a₂ : partShown s (k .target) ≡ keyIn profile s .target
-        = rw (target, has, texts) (part-shown s (hasTarget r) (textsOf s r) ∙ ap (partIf (hasTarget r)) (sym (texts-are s r)) ∙ sym (x .target)) in
-        let a₃ : partShown s (k .arguments) ≡ keyIn profile s .arguments = rw (arguments, hu, ea) (string-shown (stringThere argumentsBit f) (placeIn r (stringSlot argumentsBit)) ∙ sym (x .arguments)) in
-        let a₄ : partShown s (k .workdir) ≡ keyIn profile s .workdir = rw (workdir, hv, ew) (string-shown (stringThere workdirBit f) (placeIn r (stringSlot workdirBit)) ∙ sym (x .workdir)) in
+        = rw target (part-shown s (hasTarget r) (textsOf s r) ∙ ap (partIf (hasTarget r)) (sym (texts-are s r)) ∙ sym (x .target)) in
+        let a₃ : partShown s (k .arguments) ≡ keyIn profile s .arguments = rw arguments-are (string-shown (stringThere argumentsBit g) (placeIn r (stringSlot argumentsBit)) ∙ sym (x .arguments)) in
+        let a₄ : partShown s (k .workdir) ≡ keyIn profile s .workdir = rw workdir-is (string-shown (stringThere workdirBit g) (placeIn r (stringSlot workdirBit)) ∙ sym (x .workdir)) in
         let a₅ : partShown s (k .environment) ≡ keyIn profile s .environment = environment .is ∙ (row-block noted) .is in
         rw (a₁, a₂, a₃, a₄, a₅)
 
     parts-stand : KeyStands s k
-    unfolding Accepts
+    unfolding Accepts targetPart
     parts-stand =
         let small = accepted-small in
         let inside = accepted-bodies profile s r (length s) e in
-        let f = r .header .flags in
+        let g = r .header .flags in
         record {
-          target = rw (target, has, texts) (part-stands s (hasTarget r) (textsOf s r) small (texts-stand profile s r (length s) e));
-          arguments = rw (arguments, hu, ea) (part-stands s (stringThere argumentsBit f) (only (placeIn r (stringSlot argumentsBit))) small (inside (stringSlot argumentsBit), omega arith, omega arith));
-          workdir = rw (workdir, hv, ew) (part-stands s (stringThere workdirBit f) (only (placeIn r (stringSlot workdirBit))) small (inside (stringSlot workdirBit), omega arith, omega arith));
+          target = rw target (part-stands s (hasTarget r) (textsOf s r) small (texts-stand profile s r e));
+          arguments = rw arguments-are (part-stands s (stringThere argumentsBit g) (only (placeIn r (stringSlot argumentsBit))) small (inside (stringSlot argumentsBit), omega arith, omega arith));
+          workdir = rw workdir-is (part-stands s (stringThere workdirBit g) (only (placeIn r (stringSlot workdirBit))) small (inside (stringSlot workdirBit), omega arith, omega arith));
           environment = environment .stands;
-          arguments-alone = rw (arguments, hu, ea) (part-alone (stringThere argumentsBit f) (placeIn r (stringSlot argumentsBit)));
-          workdir-alone = rw (workdir, hv, ew) (part-alone (stringThere workdirBit f) (placeIn r (stringSlot workdirBit)));
+          arguments-alone = rw arguments-are (part-alone (stringThere argumentsBit g) (placeIn r (stringSlot argumentsBit)));
+          workdir-alone = rw workdir-is (part-alone (stringThere workdirBit g) (placeIn r (stringSlot workdirBit)));
           environment-alone = environment .alone;
         }
 
@@ -343,20 +353,17 @@ key-call : (profile : Profile) (s out : List ℕ) {v : Verdict} {x : List ℕ} �
 unfolding keyAnswer
 key-call profile s out a o = (a, (o, numbered (key profile s (length out)) a))
 
-module _ (profile : Profile) (s out : List ℕ) {g : Reading} (e : g ≡ reading profile s) where
+module _ (profile : Profile) (s out : List ℕ) where
   -- leaving with the refusal
-  pub key-left : {f : Fault} {p : ℕ} → g .verdict ≡ Refused f p → KeyCall profile s out (g .verdict) out
+  pub key-left : {f : Fault} {p : Spot} → shortcut profile s ≡ refused f p → KeyCall profile s out (Refused f (p .position)) out
   unfolding keyAnswer keyOutput key outputOf
-  key-left q = let i = refused-read profile s (ap (λ (x : Reading). x .verdict) (sym e) ∙ q) in key-call profile s out (q ∙ rw (i .is, i .told)) (rw (i .is))
+  key-left e = key-call profile s out (rw e) (rw e)
 
-  module _ {n : ℕ} (q : g .verdict ≡ Accepted n) where
-    pub accepts : Accepts profile s (g .held)
-    accepts = accepted-whole profile s (g .held) n (accepted-held profile s e q)
-
+  module _ (r : Record) (e : Accepts profile s r) where
     -- the key of what was read
     key-is : key profile s (length out) ≡ cond (leb (length (keyBytes (keyIn profile s))) (length out)) (got (keyBytes (keyIn profile s)) (length (keyBytes (keyIn profile s)))) (refused ROOM nowhere)
     unfolding key keyIn Accepts
-    key-is = let x = accepted-read profile s (g .held) (length s) accepts in rw (x .is)
+    key-is = let x = accepted-read profile s r (length s) e in rw (x .is)
 
     module _ {k : KeyParts} {m : ℕ} (shown : keyShown s k ≡ keyIn profile s) (stands : KeyStands s k) (is : m ≡ keyLength k) where
       long : length (keyBytes (keyIn profile s)) ≡ m

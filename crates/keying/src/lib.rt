@@ -2,9 +2,10 @@
 use format::Fault;
 use format::Place;
 use format::Profile;
-use format::Record;
 use format::Verdict;
 use octets::Zero;
+use reader::Next;
+use reader::SectionEnds;
 use target::Texts;
 ghost use mathlib.Core.Path.{_≡_};
 ghost use Prim.Native.Nat.{_+_, _≤_};
@@ -14,10 +15,10 @@ ghost use Rattle.octets.specs.Steps.Puts.{Wrote};
 ghost use Rattle.format.specs.Tests.{oneOr0};
 ghost use Rattle.format.specs.Numbers.{Numbered};
 ghost use Rattle.format.specs.Key.{partBytes, keyBytes, key, keyIn, keyAnswer, keyOutput};
-ghost use Rattle.format.specs.Demands.{Accepts};
+ghost use Rattle.format.specs.Shortcut.{reading};
 ghost use Rattle.blocks.specs.Steps.Walk.{blockFrom};
-ghost use Rattle.reader.specs.Steps.Finish.{FirstsOf};
-ghost use Rattle.keying.specs.Steps.KeyParts.{only, keyPart, partShown, partLength, PartStands, Alone, TextOf, BlockAt, EnvironmentOf, keyShown, keyLength, KeyStands};
+ghost use Rattle.reader.specs.Steps.Finish.{FirstsOf, Whole};
+ghost use Rattle.keying.specs.Steps.KeyParts.{only, keyPart, targetPart, partShown, partLength, PartStands, Alone, TextOf, BlockAt, EnvironmentOf, keyShown, keyLength, KeyStands};
 
 // One of the four parts: whether it is there, and where its texts stand.
 struct KeyPart {
@@ -83,18 +84,40 @@ fn environment(s: &[u8], field: u32) -> KeyPart
     part_if(true, only(block_text(s, b)))
 }
 
-fn parts_of(s: &[u8], r: Record, firsts: [u32; 11], profile: Profile) -> KeyParts
-    requires { ⌜ Accepts profile (now s) r × FirstsOf (now s) r firsts ⌝ }
+fn target_part(s: &[u8], e: SectionEnds, texts: &[u32; 9], profile: Profile) -> KeyPart
+    requires { ⌜ Whole profile (now s) e (now texts) ⌝ }
+    ensures { λ p. ⌜ p ≡ targetPart (now (s .entry)) (reading profile (now (s .entry)) .held) ⌝ }
+{
+    let flags = reader::flags_of(s, e, texts, profile);
+    if target::targeted(flags, reader::link_flags(s, e, texts, profile)) {
+        return part_if(true, target::texts_in(s, e, texts, profile));
+    }
+    part_if(false, only(format::NO_PLACE))
+}
+
+fn parts_of(
+    s: &[u8],
+    e: SectionEnds,
+    texts: &[u32; 9],
+    firsts: &[u32; 11],
+    profile: Profile,
+) -> KeyParts
+    requires { ⌜ Whole profile (now s) e (now texts) × FirstsOf (now s) (reading profile (now s) .held) (now firsts) ⌝ }
     ensures shown { λ k. ⌜ keyShown (now (s .entry)) k ≡ keyIn profile (now (s .entry)) ⌝ }
     ensures stands { λ k. ⌜ KeyStands (now (s .entry)) k ⌝ }
 {
-    let f = r.header.flags;
-    let row = r.places;
+    let f = reader::flags_of(s, e, texts, profile);
     KeyParts {
         unicode: format::strings_unicode(f),
-        target: part_if(target::has_target(r), target::texts_of(s, r)),
-        arguments: part_if(format::arguments_there(f), only(row[format::ARGUMENTS])),
-        workdir: part_if(format::workdir_there(f), only(row[format::WORKDIR])),
+        target: target_part(s, e, texts, profile),
+        arguments: part_if(
+            format::arguments_there(f),
+            only(reader::arguments(s, e, texts, profile)),
+        ),
+        workdir: part_if(
+            format::workdir_there(f),
+            only(reader::workdir(s, e, texts, profile)),
+        ),
         environment: environment(s, firsts[0]),
     }
 }
@@ -176,16 +199,14 @@ pub fn key(s: &[u8], out: &mut [u8], profile: Profile) -> Verdict
     ensures output { λ _. ⌜ now (out .exit) ≡ keyOutput profile (now (s .entry)) (now (out .entry)) ⌝ }
     ensures numbers { λ r. ⌜ Numbered r (key profile (now (s .entry)) (length (now (out .entry)))) ⌝ }
 {
-    let o = reader::outline_of(s, profile);
+    let mut texts = [0u32; 9];
+    let mut firsts = [0u32; 11];
+    let o = reader::outline_of(s, profile, &mut texts, &mut firsts);
     let next = o.next;
-    let held = o.held;
-    let firsts = o.firsts;
-    let g = reader::finish(s.len(), next, held);
-    let v = g.verdict;
-    let Verdict::Accepted(_) = v else {
-        return v;
-    };
-    let k = parts_of(s, g.held, firsts, profile);
+    if let Next::Off(f, p) = next {
+        return Verdict::Refused(f, p.position);
+    }
+    let k = parts_of(s, o.ends, &texts, &firsts, profile);
     if out.len() < key_length(k) {
         return Verdict::Refused(Fault::Room, 0);
     }

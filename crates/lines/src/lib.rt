@@ -10,6 +10,7 @@ use crate::showing::show_hex;
 use format::Fault;
 use format::Profile;
 use format::Verdict;
+use reader::Next;
 ghost use mathlib.Core.Path.{_≡_};
 ghost use Prim.Native.Nat.{_≤_};
 ghost use lib.ListN.{length};
@@ -58,17 +59,18 @@ pub fn put_listing(s: &[u8], from: usize, out: &mut [u8], profile: Profile) -> u
     ensures answer { λ n. ⌜ n ≡ length (piece (listingText profile (now (s .entry))) from (length (now (out .entry)))) ⌝ }
     ensures output { λ _. ⌜ now (out .exit) ≡ put (now (out .entry)) 0 (piece (listingText profile (now (s .entry))) from (length (now (out .entry)))) ⌝ }
 {
-    let o = reader::outline_of(s, profile);
+    let mut texts = [0u32; 9];
+    let mut firsts = [0u32; 11];
+    let o = reader::outline_of(s, profile, &mut texts, &mut firsts);
     let next = o.next;
-    let held = o.held;
-    let flags = o.held.header.flags;
-    let ends = o.ends;
-    let g = reader::finish(s.len(), next, held);
-    let v = g.verdict;
-    let w = show_verdict(out, Window { skip: from, at: 0 }, v);
-    let Verdict::Accepted(_) = v else {
+    let w = Window { skip: from, at: 0 };
+    if let Next::Off(f, p) = next {
+        let w = show_verdict(out, w, Verdict::Refused(f, p.position));
         return w.at;
-    };
+    }
+    let ends = o.ends;
+    let flags = reader::flags_of(s, ends, &texts, profile);
+    let w = show_verdict(out, w, Verdict::Accepted(s.len()));
     let w = show_sections(out, w, flags, ends);
     let w = show_blocks(out, w, s, ends.icon);
     w.at

@@ -18,7 +18,7 @@ use Rattle.format.specs.declared.Fault.the-variants.{Unwritable as UNWRITABLE, 
 use Rattle.format.specs.declared.Reading.{Reading}
 use Rattle.format.specs.declared.Verdict.{Verdict}
 use Rattle.format.specs.declared.Verdict.the-variants.{Accepted, Refused}
-use Rattle.format.specs.Tests.{Outcome, got, refused}
+use Rattle.format.specs.Tests.{Outcome, refused}
 use Rattle.format.specs.Presence.{itemsThere, infoThere, stringsUnicode}
 use Rattle.format.specs.Numbers.{Numbered}
 use Rattle.format.specs.Shortcut.{most, reading, verdictOf}
@@ -37,7 +37,7 @@ use Rattle.format.proofs.Holds.{header-writable}
 use Rattle.format.proofs.BodyLaws.{body-length}
 use Rattle.format.proofs.RowLaws.{bytes-at}
 use Rattle.format.proofs.WholeLaws.{Valid, shortest}
-use Rattle.format.proofs.AcceptedLaws.{accepted-read, accepted-held, accepted-present, accepted-decode, accepted-bodies, accepted-limit, RefusedWith, refused-read}
+use Rattle.format.proofs.AcceptedLaws.{accepted-held, accepted-present, accepted-decode, accepted-bodies, accepted-limit, RefusedWith, refused-read}
 use Rattle.format.proofs.MoveLaws.{OfStrings, bit-clear, bit-set, set-unicode, clear-unicode, maps-unicode, maps-bytes, unicode-valid, noFurther, bytes-valid, bytes-writable, valid-writable}
 use Rattle.format.proofs.Demands.{accepted-whole}
 use Rattle.format.proofs.MoveDemands.{to-unicode-is, to-bytes-is, moves-to-unicode, moves-to-bytes}
@@ -45,7 +45,7 @@ use Rattle.sizes.specs.Steps.Sizes.{sizesOf, clippedLength}
 use Rattle.sizes.proofs.WholeLaws.{exact-row, exact-length, over-length}
 use Rattle.canonical.specs.Steps.Puts.{Room}
 use Rattle.canonical.proofs.FitsLaws.{wrote-whole}
-use Rattle.moving.specs.Steps.Moves.{maps, headFits, moved, call, movedFlags, inRow, movedRecord, Few, Lengths, Inside, Known, Going, ReadFrom}
+use Rattle.moves.specs.Steps.Moves.{maps, headFits, moved, call, movedFlags, inRow, movedRecord, Few, Lengths, Inside, Known, Going, ReadFrom}
 use Rattle.moving.specs.Steps.Pieces.{stringsSize, infoSize, movedFlat}
 use Rattle.moving.proofs.FlatLaws.{moved-length, moved-put, info-size, total-size}
 

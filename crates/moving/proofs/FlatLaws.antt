@@ -2,21 +2,19 @@
 use mathlib.Core.Path.{_≡_, refl, sym, ap, _∙_}
 use mathlib.Core.List.{List, [], _∷_, _++_, map, append-nil, append-assoc}
 use mathlib.Core.Bool.{Bool, true, false, not, _&&_, _||_, cond}
-use Prim.Native.Nat.{ℕ, _+_, _*_, _/_, _≤_, _<_}
+use Prim.Native.Nat.{ℕ, _+_, _*_, _/_, _<_}
 use native.Mathlib.Omega.{arith}
-use lib.ListN.{length, getD, length-append}
+use lib.ListN.{length, getD}
 use Rattle.format.specs.declared.Place.{Place}
-use Rattle.format.specs.declared.Header.{Header}
-use Rattle.format.specs.declared.Link.{Link}
 use Rattle.format.specs.declared.Record.{Record}
 use Rattle.format.specs.declared.Shape.{Shape}
 use Rattle.format.specs.Tests.{noPlace}
-use Rattle.format.specs.Presence.{itemsThere, infoThere, localThere, stringsUnicode}
-use Rattle.format.specs.Bodies.{textKind, stringKind, localSlot, suffixSlot, localUnicodeSlot, suffixUnicodeSlot, placeIn}
+use Rattle.format.specs.Presence.{itemsThere, infoThere, stringsUnicode}
+use Rattle.format.specs.Bodies.{textKind, stringKind, localSlot, suffixSlot, localUnicodeSlot, suffixUnicodeSlot}
 use Rattle.format.specs.Contents.{Contents, bytesAt, bodyIn, bodiesOf}
 use Rattle.format.specs.Writing.{canonical}
-use Rattle.format.specs.Codepage.{toUnits, toBytes}
-use Rattle.format.specs.Moving.{bodiesFrom, strings, flagsOf, gains, movedTo, inUnicode, inBytes}
+use Rattle.format.specs.Codepage.{toUnits}
+use Rattle.format.specs.Moving.{bodiesFrom, strings, inUnicode, inBytes}
 use Rattle.format.specs.Steps.Lengths.{writtenBody, writtenRow, writtenLength}
 use Rattle.format.specs.Steps.Shape.{shapeOf, rowAs, rowsFrom}
 use Rattle.format.specs.Steps.Flat.{rowBytes, slotsBytes, bodiesBytes, infoTo, contentsFlat}
@@ -29,8 +27,8 @@ use Rattle.codepage.proofs.TextLaws.{units-count}
 use Rattle.sizes.proofs.MeasureLaws.{measured, measured-length}
 use Rattle.canonical.specs.Steps.Puts.{slotsSize}
 use Rattle.canonical.proofs.FitsLaws.{info-put, total-parts}
-use Rattle.moving.specs.Steps.Moves.{translate, moved, movedPlace, gained, unicodePlace, movedFlags, movedLong, inRow, movedPlaces, movedRecord, Inside}
-use Rattle.moving.specs.Steps.Pieces.{movedSlot, movedStrings, stringsSize, gainedText, gainedSize, unicodeTexts, unicodeSize, gain, movedInfo, infoSize, movedFlat}
+use Rattle.moves.specs.Steps.Moves.{translate, moved, movedPlace, gained, unicodePlace, movedFlags, inRow, movedPlaces, movedRecord, Inside}
+use Rattle.moving.specs.Steps.Pieces.{movedStrings, stringsSize, unicodeTexts, unicodeSize, gain, movedInfo, infoSize, movedFlat}
 
 -- ---- how long everything is
 

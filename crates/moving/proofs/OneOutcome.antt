@@ -1,11 +1,9 @@
 -- Any two outcomes that the contract of a public call allows are equal.
 use mathlib.Core.Path.{sym, _∙_}
 use denote.Ref.{now}
-use Rattle.octets.proofs.Outcomes.{OneAnswer, OneOutcome}
+use Rattle.octets.proofs.Outcomes.{OneOutcome}
 use Rattle.moving.proofs.to_unicode as to-unicode
 use Rattle.moving.proofs.to_bytes as to-bytes
-use Rattle.moving.proofs.records.gains as gains
-use Rattle.moving.proofs.records.moved as moved
 use Rattle.moving.proofs.pieces.put_strings as put-strings
 use Rattle.moving.proofs.pieces.put_info as put-info
 
@@ -14,12 +12,6 @@ to-unicode-one-outcome κs a r q s t p o = (p .0 ∙ sym (o .0), p .1 .0 ∙ sym
 
 pub to-bytes-one-outcome : OneOutcome to-bytes.ended (λ κs s. now (s .1 .0)) to-bytes.Reads.Post
 to-bytes-one-outcome κs a r q s t p o = (p .0 ∙ sym (o .0), p .1 .0 ∙ sym (o .1 .0))
-
-pub gains-one-outcome : OneAnswer gains.ended gains.Reads.Post
-gains-one-outcome κs a r q s t p o = p ∙ sym o
-
-pub moved-one-outcome : OneAnswer moved.ended moved.Reads.Post
-moved-one-outcome κs a r q s t p o = p ∙ sym o
 
 pub put-strings-one-outcome : OneOutcome put-strings.ended (λ κs s. now (s .0)) put-strings.Reads.Post
 put-strings-one-outcome κs a r q s t p o = (p .next ∙ sym (o .next), p .content ∙ sym (o .content))

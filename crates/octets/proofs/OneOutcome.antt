@@ -9,6 +9,7 @@ use Rattle.octets.proofs.Cursor.new as cursor-new
 use Rattle.octets.proofs.Cursor.take_u16 as cursor-take-u16
 use Rattle.octets.proofs.Cursor.take_u32 as cursor-take-u32
 use Rattle.octets.proofs.Cursor.skip as cursor-skip
+use Rattle.octets.proofs.zero_at as zero-at
 use Rattle.octets.proofs.zero_from as zero-from
 use Rattle.octets.proofs.has_zero as has-zero
 use Rattle.octets.proofs.part as part
@@ -38,6 +39,9 @@ cursor-take-u32-one-outcome κs a r q s t p o = p .is ∙ sym (o .is)
 
 pub cursor-skip-one-outcome : OneAnswer cursor-skip.ended cursor-skip.Reads.Post
 cursor-skip-one-outcome κs a r q s t p o = p .is ∙ sym (o .is)
+
+pub zero-at-one-outcome : OneAnswer zero-at.ended zero-at.Reads.Post
+zero-at-one-outcome κs a r q s t p o = p .is ∙ sym (o .is)
 
 pub zero-from-one-outcome : OneAnswer zero-from.ended zero-from.Reads.Post
 zero-from-one-outcome κs a r q s t p o = p .is ∙ sym (o .is)

@@ -1,4 +1,4 @@
--- The scan for a zero character, over the kind: its state in the loop, its steps, and what an answer says.
+-- The search for a zero character, over the kind: its state in the loop, its steps, and what an answer says.
 use mathlib.Core.Path.{_≡_, refl, sym, ap, _∙_}
 use mathlib.Core.List.{List, [], _∷_}
 use mathlib.Core.Bool.{Bool, true, false, not, cond, _&&_}
@@ -7,11 +7,11 @@ use native.Mathlib.Omega.{arith}
 use lib.ListN.{length, take, drop, getD, length-drop}
 use lib.Seq.{drop-drop}
 use lib.Dec.{eqb, leb, leb·suc-suc}
-use borrow.Author.Tests.{lt-ltb, leb-true, leb-false, eqb-false, ne-eqb, not-true, not-false}
+use borrow.Author.Tests.{lt-ltb, ltb-true, leb-true, leb-false, eqb-false, ne-eqb, not-true, not-false}
 use Rattle.octets.specs.Numbers.{number, numberAt}
 use Rattle.octets.specs.Characters.{bytesOf, units, characters, beforeZero, hasZero}
 use Rattle.octets.specs.Steps.Cursors.{okOrCut}
-use Rattle.octets.specs.Steps.Scans.{zeroFrom, zeroNumber, zeroValue, ScanAnswer, scanOn, scanAt, other, others, before, sixteens, Passed}
+use Rattle.octets.specs.Steps.Scans.{zeroFrom, zeroNumber, zeroValue, ScanAnswer, before, zeroPlace, FirstZero, PlaceAnswer, other, others, sixteens}
 use Rattle.octets.specs.declared.Zero.{Zero}
 use Rattle.octets.specs.declared.Zero.the-variants.{After, Nowhere}
 use Rattle.octets.proofs.ReadLaws.{number-byte}
@@ -45,43 +45,6 @@ character-at : (u : Bool) (s : List ℕ) (i : ℕ) → i + bytesOf u 1 ≤ lengt
 unfolding numberAt
 character-at u s i h = first-character u (drop i s) (simp length-drop (omega (arith, some-bytes u))) ∙ rw (drop-drop (bytesOf u 1) i s)
 
--- ---- a scan that has passed n characters
-
-on-zero : (n : ℕ) (l : List ℕ) → scanOn n (0 ∷ l) ≡ After n
-unfolding beforeZero
-on-zero n l = rw (lt-ltb 0 (suc (length l)) (omega arith)) (ap After (omega arith))
-
-on-other : (n a : ℕ) (l : List ℕ) → (a ≡ 0 → ⊥) → scanOn n (a ∷ l) ≡ scanOn (n + 1) l
-unfolding beforeZero
-on-other n zero l h = absurd (h refl)
-on-other n (suc a) l h =
-    let e : n + suc (beforeZero l) ≡ n + 1 + beforeZero l = omega arith in
-    rw (leb·suc-suc (suc (beforeZero l)) (length l), e)
-
-pub scan-start : (u : Bool) (s : List ℕ) (i : ℕ) → scanAt u s i 0 ≡ zeroFrom u s i
-unfolding scanAt zeroFrom
-scan-start u s i = ap (λ (k : ℕ). cond (hasZero (characters u (drop i s))) (After k) Nowhere) (omega arith)
-
--- every step keeps r, the answer of the whole scan
-module _ (u : Bool) (s : List ℕ) (i n : ℕ) {r : Zero} (inv : scanAt u s i n ≡ r) where
-  pub scan-end : length s < i + bytesOf u 1 → Nowhere ≡ r
-  unfolding scanAt beforeZero
-  scan-end h = sym (ap (scanOn n) (no-character u (drop i s) (simp length-drop (omega (arith, some-bytes u))))) ∙ inv
-
-  module _ {x : ℕ} (fits : i + bytesOf u 1 ≤ length s) (e : x ≡ numberAt (bytesOf u 1) s i) where
-    next : scanOn n (x ∷ characters u (drop (i + bytesOf u 1) s)) ≡ r
-    unfolding scanAt
-    next = sym (ap (scanOn n) (character-at u s i fits ∙ rw e)) ∙ inv
-
-    pub scan-zero : x ≡ 0 → After n ≡ r
-    scan-zero z = sym (on-zero n (characters u (drop (i + bytesOf u 1) s))) ∙ (rw z at next)
-
-    pub scan-other : (x ≡ 0 → ⊥) → scanAt u s (i + bytesOf u 1) (n + 1) ≡ r
-    unfolding scanAt
-    scan-other z = sym (on-other n x (characters u (drop (i + bytesOf u 1) s)) z) ∙ next
-
--- ---- many characters at once
-
 no-bytes : (u : Bool) (i : ℕ) → i + bytesOf u 0 ≡ i
 no-bytes true i = omega arith
 no-bytes false i = omega arith
@@ -90,11 +53,46 @@ next-place : (u : Bool) (i k : ℕ) → i + bytesOf u (suc k) ≡ i + bytesOf u 
 next-place true i k = omega arith
 next-place false i k = omega arith
 
+-- ---- a search that has come to the place i
+
+-- what it answers with the characters l still to come, in e bytes
+abbrev searchOn : Bool → ℕ → ℕ → List ℕ → ℕ
+searchOn u i e l = cond (hasZero l) (i + bytesOf u (beforeZero l)) e
+
+on-zero : (u : Bool) (i e : ℕ) (l : List ℕ) → searchOn u i e (0 ∷ l) ≡ i
+unfolding beforeZero
+on-zero u i e l = rw (lt-ltb 0 (suc (length l)) (omega arith)) (no-bytes u i)
+
+on-other : (u : Bool) (i e a : ℕ) (l : List ℕ) → (a ≡ 0 → ⊥) → searchOn u i e (a ∷ l) ≡ searchOn u (i + bytesOf u 1) e l
+unfolding beforeZero
+on-other u i e zero l h = absurd (h refl)
+on-other u i e (suc a) l h =
+    let p : i + bytesOf u (suc (beforeZero l)) ≡ i + bytesOf u 1 + bytesOf u (beforeZero l) = omega (arith, next-place u i (beforeZero l)) in
+    rw (leb·suc-suc (suc (beforeZero l)) (length l), p)
+
+-- every step keeps r, the answer of the whole search
+module _ (u : Bool) (s : List ℕ) (i : ℕ) {r : ℕ} (inv : zeroPlace u s i ≡ r) where
+  pub search-end : length s < i + bytesOf u 1 → length s ≡ r
+  unfolding zeroPlace beforeZero
+  search-end h = sym (ap (searchOn u i (length s)) (no-character u (drop i s) (simp length-drop (omega (arith, some-bytes u))))) ∙ inv
+
+  module _ {x : ℕ} (fits : i + bytesOf u 1 ≤ length s) (e : x ≡ numberAt (bytesOf u 1) s i) where
+    next : searchOn u i (length s) (x ∷ characters u (drop (i + bytesOf u 1) s)) ≡ r
+    unfolding zeroPlace
+    next = sym (ap (searchOn u i (length s)) (character-at u s i fits ∙ rw e)) ∙ inv
+
+    pub search-zero : x ≡ 0 → i ≡ r
+    search-zero z = sym (on-zero u i (length s) (characters u (drop (i + bytesOf u 1) s))) ∙ (rw z at next)
+
+    pub search-other : (x ≡ 0 → ⊥) → zeroPlace u s (i + bytesOf u 1) ≡ r
+    unfolding zeroPlace
+    search-other z = sym (on-other u i (length s) x (characters u (drop (i + bytesOf u 1) s)) z) ∙ next
+
+-- ---- many characters at once
+
 -- a byte that is not zero is passed
-pub byte-passed : (s : List ℕ) (f i m : ℕ) {z : Zero} → f ≤ i → i < length s → scanAt false s i (i - f) ≡ z → (getD s i 0 ≡ 0 → ⊥) → m ≡ i + 1 → scanAt false s m (m - f) ≡ z
-byte-passed s f i m h l e q next =
-    let n : m - f ≡ i - f + 1 = omega arith in
-    rw (n, next) (scan-other false s i (i - f) e (omega arith) (number-byte s i) q)
+pub byte-passed : (s : List ℕ) (i m : ℕ) {r : ℕ} → i < length s → zeroPlace false s i ≡ r → (getD s i 0 ≡ 0 → ⊥) → m ≡ i + 1 → zeroPlace false s m ≡ r
+byte-passed s i m l e q next = rw next (search-other false s i e (omega arith) (number-byte s i) q)
 
 pub four-others : (u : Bool) (s : List ℕ) (i : ℕ) {a b c d : ℕ} → a ≡ numberAt (bytesOf u 1) s i → b ≡ numberAt (bytesOf u 1) s (i + bytesOf u 1)
     → c ≡ numberAt (bytesOf u 1) s (i + bytesOf u 2) → d ≡ numberAt (bytesOf u 1) s (i + bytesOf u 3)
@@ -113,17 +111,15 @@ others-more u s i j k e g = rw (e, g) (go k)
         let e : i + bytesOf u j + bytesOf u k ≡ i + bytesOf u (j + k) = omega (arith, bytes-of-add u j k) in
         rw z (sym (and-assoc (others u s i j) (others u s (i + bytesOf u j) k) (other u s (i + bytesOf u j + bytesOf u k))) ∙ rw (go k, e))
 
-scan-others : (u : Bool) (s : List ℕ) (i n k : ℕ) {r : Zero} → others u s i k ≡ true → i + bytesOf u k ≤ length s → scanAt u s i n ≡ r → scanAt u s (i + bytesOf u k) (n + k) ≡ r
+search-others : (u : Bool) (s : List ℕ) (i k : ℕ) {r : ℕ} → others u s i k ≡ true → i + bytesOf u k ≤ length s → zeroPlace u s i ≡ r → zeroPlace u s (i + bytesOf u k) ≡ r
 unfolding others
-scan-others u s i n zero o h e = let z : n + 0 ≡ n = omega arith in rw (no-bytes u i, z) e
-scan-others u s i n (suc k) o h e =
+search-others u s i zero o h e = rw (no-bytes u i) e
+search-others u s i (suc k) o h e =
     let p = and-true (others u s i k) (other u s (i + bytesOf u k)) o in
     let x : i + bytesOf u (suc k) ≡ i + bytesOf u k + bytesOf u 1 = next-place u i k in
     let f : i + bytesOf u k + bytesOf u 1 ≤ length s = rw x at h in
-    let q = scan-others u s i n k (p .0) (omega arith) e in
-    let w = scan-other u s (i + bytesOf u k) (n + k) q f refl (eqb-false (numberAt (bytesOf u 1) s (i + bytesOf u k)) 0 (not-true (eqb (numberAt (bytesOf u 1) s (i + bytesOf u k)) 0) (p .1))) in
-    let y : n + suc k ≡ n + k + 1 = omega arith in
-    rw (x, y) w
+    let q = search-others u s i k (p .0) (omega arith) e in
+    rw x (search-other u s (i + bytesOf u k) q f refl (eqb-false (numberAt (bytesOf u 1) s (i + bytesOf u k)) 0 (not-true (eqb (numberAt (bytesOf u 1) s (i + bytesOf u k)) 0) (p .1))))
 
 -- ---- whole sixteens of bytes
 
@@ -175,18 +171,12 @@ before-others u s i (suc k) h =
     let q = others-before u s i k o (omega arith) in
     rw (o, some-other u s (i + bytesOf u k) f (omega arith))
 
--- a scan may go on after characters that are not zero
-passed-many : (u : Bool) (s : List ℕ) (i k : ℕ) → k ≤ before u s i → Passed u s i (i + bytesOf u k)
-passed-many u s i zero h = record { count = 0; place = refl; rest = rw (no-bytes u i) (scan-start u s i) }
-passed-many u s i (suc k) h =
-    let z : 0 + suc k ≡ suc k = omega arith in
-    record {
-      count = suc k;
-      place = refl;
-      rest = rw z at (scan-others u s i 0 (suc k) (before-others u s i (suc k) h) (before-fits u s i k h) (scan-start u s i));
-    }
+-- a search may go on after characters that are not zero
+passed-many : (u : Bool) (s : List ℕ) (i k : ℕ) → k ≤ before u s i → zeroPlace u s (i + bytesOf u k) ≡ zeroPlace u s i
+passed-many u s i zero h = rw (no-bytes u i)
+passed-many u s i (suc k) h = search-others u s i (suc k) (before-others u s i (suc k) h) (before-fits u s i k h) refl
 
-pub sixteens-passed : (u : Bool) (s : List ℕ) (i : ℕ) {r : ℕ} → r ≡ sixteens u s i → Passed u s i r
+pub sixteens-passed : (u : Bool) (s : List ℕ) (i : ℕ) {r : ℕ} → r ≡ sixteens u s i → zeroPlace u s r ≡ zeroPlace u s i
 unfolding sixteens
 sixteens-passed true s i e =
     let b = before true s i in
@@ -222,6 +212,25 @@ module _ (u : Bool) (s : List ℕ) (i : ℕ) where
             absurd (omega arith)
         go false f = omega (arith, some-bytes u, bytes-of-add u (before u s i) 1, bytes-of-le u {m = before u s i + 1} {n = k} (omega (arith, leb-false k (before u s i) f)))
 
+-- ---- from a place to the facts
+
+pub placed : (u : Bool) (s : List ℕ) (i : ℕ) {p : ℕ} → p ≡ zeroPlace u s i → PlaceAnswer u s i p
+unfolding zeroPlace
+placed u s i {p} e = go (hasZero l) refl
+  where
+    l : List ℕ
+    l = characters u (drop i s)
+
+    go : (b : Bool) → hasZero l ≡ b → PlaceAnswer u s i p
+    go true h =
+        let q : p ≡ i + bytesOf u (beforeZero l) = e ∙ rw h in
+        let k : bytesOf u (beforeZero l + 1) ≤ bytesOf u (length l) = bytes-of-le u (omega (arith, ltb-true (beforeZero l) (length l) h)) in
+        let f : p + bytesOf u 1 ≤ length s = omega (arith, q, k, some-bytes u, bytes-of-add u (beforeZero l) 1, characters-fit u (drop i s), length-drop i s) in
+        record { is = e; within = omega arith; found = λ x. record { ends = h; text = sym q; inside = f }; none = λ x. absurd (omega (arith, f, some-bytes u)) }
+    go false h =
+        let q : p ≡ length s = e ∙ rw h in
+        record { is = e; within = omega arith; found = λ x. absurd (omega arith); none = λ x. h }
+
 -- ---- from an answer to the facts
 
 pub scans : (u : Bool) (s : List ℕ) (i : ℕ) {z : Zero} → z ≡ zeroFrom u s i → ScanAnswer u s i z
@@ -252,3 +261,36 @@ module _ (u : Bool) (s : List ℕ) (i : ℕ) {z : Zero} (e : z ≡ zeroFrom u s 
   pub zero-nowhere : z ≡ Nowhere → hasZero (characters u (drop i s)) ≡ false
   unfolding zeroFrom
   zero-nowhere h = cond-second (hasZero (characters u (drop i s))) e (λ c. after-not-nowhere c h) .0
+
+-- ---- from a place to an answer
+
+unit-count : (u : Bool) {n k : ℕ} → u ≡ true → n ≡ bytesOf u k → n / 2 ≡ k
+unit-count u {n} {k} t e = let z : n ≡ 2 * k = rw t at e in omega arith
+
+byte-count : (u : Bool) {n k : ℕ} → u ≡ false → n ≡ bytesOf u k → n ≡ k
+byte-count u t e = rw t at e
+
+module _ (u : Bool) (s : List ℕ) (i : ℕ) {p : ℕ} (a : PlaceAnswer u s i p) where
+  pub scan-nowhere : p ≡ length s → ScanAnswer u s i Nowhere
+  unfolding zeroFrom
+  scan-nowhere e = scans u s i (rw (a .none e))
+
+  module _ (h : p ≡ length s → ⊥) where
+    first : FirstZero u s i p
+    first = a .found (omega (arith, a .within, h))
+
+    pub from-below : i ≤ p
+    from-below = omega (arith, first .text)
+
+    counted : p - i ≡ bytesOf u (before u s i)
+    counted = omega (arith, first .text)
+
+    scan-after : {n : ℕ} → n ≡ before u s i → ScanAnswer u s i (After n)
+    unfolding zeroFrom
+    scan-after e = scans u s i (rw (first .ends, e))
+
+    pub after-units : u ≡ true → ScanAnswer u s i (After ((p - i) / 2))
+    after-units t = scan-after (unit-count u t counted)
+
+    pub after-bytes : u ≡ false → ScanAnswer u s i (After (p - i))
+    after-bytes t = scan-after (byte-count u t counted)

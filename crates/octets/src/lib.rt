@@ -5,11 +5,11 @@ use crate::zeros::skip_bytes;
 use crate::zeros::skip_units;
 ghost use mathlib.Core.Path.{_≡_};
 ghost use mathlib.Core.Bool.{true, false};
-ghost use Prim.Native.Nat.{_+_, _-_, _≤_, _<_};
+ghost use Prim.Native.Nat.{_+_, _≤_, _<_};
 ghost use lib.ListN.{length};
 ghost use Rattle.octets.specs.Numbers.{u16At, u32At, u64At, little};
 ghost use Rattle.octets.specs.Characters.{characters, hasZero};
-ghost use Rattle.octets.specs.Steps.Scans.{zeroFrom, scanAt, ScanAnswer};
+ghost use Rattle.octets.specs.Steps.Scans.{zeroPlace, PlaceAnswer, ScanAnswer};
 ghost use Rattle.octets.specs.Steps.Cursors.{TakeAnswer, SkipAnswer};
 ghost use Rattle.octets.specs.Parts.{put};
 ghost use Rattle.octets.specs.Steps.Puts.{part};
@@ -117,80 +117,91 @@ impl Cursor {
     }
 }
 
-// A scan from `from` on that has come to `start`.
-fn zero_rest(s: &[u8], from: usize, start: usize) -> Zero
-    requires { ⌜ (from ≤ start) × (scanAt false (now s) start (start - from) ≡ zeroFrom false (now s) from) ⌝ }
-    ensures { λ r. ⌜ r ≡ zeroFrom false (now (s .entry)) from ⌝ }
+// Byte by byte, where a turn of four would pass the end.
+fn zero_rest(s: &[u8], start: usize) -> usize
+    ensures { λ r. ⌜ r ≡ zeroPlace false (now (s .entry)) start ⌝ }
 {
     let mut i = start;
     while i < s.len() {
         if s[i] == 0 {
-            return Zero::After(i - from);
+            return i;
         }
         i += 1;
     }
-    Zero::Nowhere
+    s.len()
 }
 
-// How many bytes stand before the first zero one. Near it they are looked at four in a turn: two instructions a byte, and
+// Where the first zero byte from `from` on stands. Near it bytes are looked at four in a turn: two instructions a byte, and
 // three for the turn.
-fn zero_byte(s: &[u8], from: usize) -> Zero
-    ensures { λ r. ⌜ r ≡ zeroFrom false (now (s .entry)) from ⌝ }
+fn zero_byte(s: &[u8], from: usize) -> usize
+    ensures { λ r. ⌜ r ≡ zeroPlace false (now (s .entry)) from ⌝ }
 {
     let mut i = skip_bytes(s, from);
     if s.len() < 4 {
-        return zero_rest(s, from, i);
+        return zero_rest(s, i);
     }
     // The last place where a turn can start: up to it i + 4 cannot wrap.
     let last = s.len() - 4;
     while i <= last {
         if s[i] == 0 {
-            return Zero::After(i - from);
+            return i;
         }
         if s[i + 1] == 0 {
-            return Zero::After(i + 1 - from);
+            return i + 1;
         }
         if s[i + 2] == 0 {
-            return Zero::After(i + 2 - from);
+            return i + 2;
         }
         if s[i + 3] == 0 {
-            return Zero::After(i + 3 - from);
+            return i + 3;
         }
         i += 4;
     }
-    zero_rest(s, from, i)
+    zero_rest(s, i)
 }
 
 // The same of 16-bit units, counted from the place itself, at any alignment.
-fn zero_unit(s: &[u8], from: usize) -> Zero
-    ensures { λ r. ⌜ r ≡ zeroFrom true (now (s .entry)) from ⌝ }
+fn zero_unit(s: &[u8], from: usize) -> usize
+    ensures { λ r. ⌜ r ≡ zeroPlace true (now (s .entry)) from ⌝ }
 {
     if s.len() < 2 {
-        return Zero::Nowhere;
+        return s.len();
     }
     // The last place where a unit can start: up to it i + 2 cannot wrap.
     let last = s.len() - 2;
     let mut i = skip_units(s, from);
-    let mut n = (i - from) / 2;
     while i <= last {
         if u16_at(s, i) == 0 {
-            return Zero::After(n);
+            return i;
         }
         i += 2;
-        n += 1;
     }
-    Zero::Nowhere
+    s.len()
 }
 
-// The same of either kind of character.
-pub fn zero_from(unicode: bool, s: &[u8], from: usize) -> Zero
-    ensures { λ r. ⌜ ScanAnswer unicode (now (s .entry)) from r ⌝ }
+// Where the first zero character from `from` on stands; the length where there is none.
+pub fn zero_at(unicode: bool, s: &[u8], from: usize) -> usize
+    ensures { λ r. ⌜ PlaceAnswer unicode (now (s .entry)) from r ⌝ }
 {
     if unicode {
         zero_unit(s, from)
     } else {
         zero_byte(s, from)
     }
+}
+
+// How many characters stand before it.
+pub fn zero_from(unicode: bool, s: &[u8], from: usize) -> Zero
+    ensures { λ r. ⌜ ScanAnswer unicode (now (s .entry)) from r ⌝ }
+{
+    let p = zero_at(unicode, s, from);
+    if p == s.len() {
+        return Zero::Nowhere;
+    }
+    if unicode {
+        return Zero::After((p - from) / 2);
+    }
+    Zero::After(p - from)
 }
 
 pub fn has_zero(unicode: bool, s: &[u8]) -> bool

@@ -2,27 +2,29 @@
 use mathlib.Core.Path.{_≡_, refl, sym, ap, _∙_}
 use mathlib.Core.List.{List, [], _∷_, map}
 use mathlib.Core.Bool.{Bool, true, false, not, _||_, cond}
-use Prim.Native.Nat.{ℕ, _≤_, _<_}
+use Prim.Native.Nat.{ℕ, _+_, _≤_, _<_}
 use native.Mathlib.Omega.{arith}
-use lib.ListN.{length}
+use lib.ListN.{length, take, drop, getD}
+use lib.Seq.{getD-take, getD-drop}
 use lib.Dec.{ltb, eqb}
 use borrow.Author.Tests.{le-leb, lt-leb, ne-eqb, eqb-true, not-true, not-false}
 use Rattle.octets.specs.Numbers.{u32At}
-use Rattle.format.specs.declared.Network.{Network}
-use Rattle.format.specs.Tests.{all}
+use Rattle.format.specs.declared.Place.{Place}
+use Rattle.format.specs.Tests.{all, place, noPlace}
 use Rattle.format.specs.Steps.Wrong.{wrong, first}
 use Rattle.format.specs.Presence.{deviceThere, providerThere, deviceUnicodeThere}
-use Rattle.format.specs.Pieces.{absentZero, uncut, apartTests}
-use Rattle.format.specs.Network.{hasDevice, networkUnicode, networkHead, networkPieces, networkHeadTests, networkRules, networkFields, networkPiece, networkAt, noNetwork, hasDeviceUnicode}
+use Rattle.format.specs.Pieces.{textPlace, absentZero, uncut, apartTests}
+use Rattle.format.specs.Network.{hasDevice, networkUnicode, networkHead, networkPieces, networkHeadTests, networkRules, networkFields, networkPiece, hasDeviceUnicode}
 use Rattle.format.proofs.Chains.{all-pass}
 use Rattle.format.proofs.Holds.{networkPieceTests, network-head-holds}
 use Rattle.pieces.specs.declared.Text.{Text}
+use Rattle.pieces.specs.declared.NetworkTexts.{NetworkTexts}
 use Rattle.pieces.specs.declared.NetworkFound.{NetworkFound}
 use Rattle.pieces.specs.declared.NetworkRead.{NetworkRead}
 use Rattle.pieces.specs.declared.NetworkRead.the-variants.{Good, Bad}
-use Rattle.pieces.specs.Steps.Found.{fieldIf, pieceFound, textFound, networkIf, networkIn, networkNumber, networkValue, PieceAnswers, NetworkAnswer, makeNetwork, networkFound}
+use Rattle.pieces.specs.Steps.Found.{fieldIf, pieceFound, bodyLength, textFound, networkIf, networkIn, networkNumber, networkValue, PieceAnswers, NetworkAnswer, makeNetwork, networkLengths, noTexts, networkTextsIn, networkTexts, networkFound}
 use Rattle.pieces.proofs.TestLaws.{uncut-room, Fields, here, fields-join, fields-told, fields-then, first-unless, unless-none, text-fields, AllFields, pieces-fields, judge, pieces-judged}
-use Rattle.pieces.proofs.TextLaws.{text-judged, text-body, text-field, zero-field}
+use Rattle.pieces.proofs.TextLaws.{text-judged, text-length, place-length, body-place, place-field, text-field, zero-field}
 use Rattle.pieces.proofs.StructLaws.{answered, Kind}
 
 -- ---- the head, field after field
@@ -96,63 +98,55 @@ network-room v {k} e z en u =
 
 -- ---- the answer, once the first field at fault is known
 
-pub network-if : (i : ℕ) (n : Network) {r : NetworkRead} → r ≡ networkIf i n → PieceAnswers networkNumber networkValue (eqb i 0) 0 i (networkIf i n) r
+pub network-if : (i : ℕ) (n : NetworkTexts) {r : NetworkRead} → r ≡ networkIf i n → PieceAnswers networkNumber networkValue (eqb i 0) 0 i (networkIf i n) r
 unfolding networkNumber networkValue
 network-if i n = answered networkNumber networkValue (eqb i 0) refl refl refl refl
 
 -- ---- the network link's own bytes
 
--- the fields as the code puts them together
-abbrev pub fourFields : ℕ → ℕ → Bool → Text → Text → Text → Text → Network
-fourFields flags provider unicode a b c d = record {
-  flags = flags;
-  provider = provider;
-  unicode = unicode;
-  net = a .body;
-  device = b .body;
-  «net_unicode» = c .body;
-  «device_unicode» = d .body;
-}
+-- the lengths as the code puts them together
+abbrev pub fourTexts : Text → Text → Text → Text → NetworkTexts
+fourTexts a b c d = record { net = a .len; device = b .len; «net_unicode» = c .len; «device_unicode» = d .len }
 
 -- the four strings, as they were found
-pub record Four (p : ℕ) (v : List ℕ) (a b c d : Text) : Type 0 where
-  pub net : a ≡ textFound true false v p (networkHead (networkUnicode v)) (u32At v 8)
-  pub device : b ≡ textFound (hasDevice v) false v p (networkHead (networkUnicode v)) (u32At v 12)
-  pub netUnicode : c ≡ textFound (networkUnicode v) true v p (networkHead (networkUnicode v)) (u32At v 20)
-  pub deviceUnicode : d ≡ textFound (hasDeviceUnicode v) true v p (networkHead (networkUnicode v)) (u32At v 24)
+pub record Four (v : List ℕ) (a b c d : Text) : Type 0 where
+  pub net : a ≡ textFound true false v (networkHead (networkUnicode v)) (u32At v 8)
+  pub device : b ≡ textFound (hasDevice v) false v (networkHead (networkUnicode v)) (u32At v 12)
+  pub netUnicode : c ≡ textFound (networkUnicode v) true v (networkHead (networkUnicode v)) (u32At v 20)
+  pub deviceUnicode : d ≡ textFound (hasDeviceUnicode v) true v (networkHead (networkUnicode v)) (u32At v 24)
 
-pub four : (p : ℕ) (v : List ℕ) {flags name head o₁ o₂ o₃ : ℕ} {device both : Bool} {a b c d : Text} → flags ≡ u32At v 4 → name ≡ u32At v 8 → device ≡ deviceThere flags
-    → both ≡ deviceUnicodeThere (ltb 0x14 name) flags → head ≡ networkHead (ltb 0x14 name) → a ≡ textFound true false v p head name → o₁ ≡ u32At v 12 → b ≡ textFound device false v p head o₁
-    → o₂ ≡ fieldIf (ltb 0x14 name) v 20 → c ≡ textFound (ltb 0x14 name) true v p head o₂
-    → o₃ ≡ fieldIf (ltb 0x14 name) v 24 → d ≡ textFound both true v p head o₃ → Four p v a b c d
-four p v ef en ed et eh ea e₁ eb e₂ ec e₃ ee =
+pub four : (v : List ℕ) {flags name head o₁ o₂ o₃ : ℕ} {device both : Bool} {a b c d : Text} → flags ≡ u32At v 4 → name ≡ u32At v 8 → device ≡ deviceThere flags
+    → both ≡ deviceUnicodeThere (ltb 0x14 name) flags → head ≡ networkHead (ltb 0x14 name) → a ≡ textFound true false v head name → o₁ ≡ u32At v 12 → b ≡ textFound device false v head o₁
+    → o₂ ≡ fieldIf (ltb 0x14 name) v 20 → c ≡ textFound (ltb 0x14 name) true v head o₂
+    → o₃ ≡ fieldIf (ltb 0x14 name) v 24 → d ≡ textFound both true v head o₃ → Four v a b c d
+four v ef en ed et eh ea e₁ eb e₂ ec e₃ ee =
     let h : ℕ = networkHead (networkUnicode v) in
     let u : Bool = networkUnicode v in
     record {
       net = ea ∙ rw (eh, en);
       device = eb ∙ rw (eh, ed, ef, en, e₁);
-      netUnicode = ec ∙ rw (e₂, eh, en) (text-field u true v p h 20 u (λ z. z));
-      deviceUnicode = ee ∙ rw (et, e₃, eh, ef, en) (text-field (hasDeviceUnicode v) true v p h 24 u (λ z. rw z));
+      netUnicode = ec ∙ rw (e₂, eh, en) (text-field u true v h 20 u (λ z. z));
+      deviceUnicode = ee ∙ rw (et, e₃, eh, ef, en) (text-field (hasDeviceUnicode v) true v h 24 u (λ z. rw z));
     }
 
-module _ (p : ℕ) (v : List ℕ) {k : ℕ} (ek : k ≡ wrong (networkHeadTests v)) where
+module _ (v : List ℕ) {k : ℕ} (ek : k ≡ wrong (networkHeadTests v)) where
   rules-wrong : wrong (networkRules v) ≡ first k (wrong (networkPieceTests v))
   rules-wrong = fields-then 24 (networkHeadTests v) (networkPieceTests v) (head-fields v) ∙ rw ek
 
   rules-pass : {n : ℕ} → wrong (networkRules v) ≡ n → all (networkRules v) ≡ eqb n 0
   rules-pass e = sym (fields-told 24 (networkRules v) (network-fields v)) ∙ ap (λ (n : ℕ). eqb n 0) e
 
-  network-answered : {r : NetworkRead} → r ≡ networkIn p v → NetworkAnswer p v r
+  network-answered : {r : NetworkRead} → r ≡ networkIn v → NetworkAnswer v r
   unfolding networkIn networkNumber networkValue
   network-answered = answered networkNumber networkValue (all (networkRules v)) refl refl refl refl
 
-  pub network-fails : (k ≡ 0 → ⊥) → NetworkAnswer p v (Bad k)
+  pub network-fails : (k ≡ 0 → ⊥) → NetworkAnswer v (Bad k)
   unfolding networkIn
   network-fails z =
       let q : wrong (networkRules v) ≡ k = rules-wrong ∙ rw (ne-eqb k 0 z) in
       network-answered (rw (rules-pass q, q, ne-eqb k 0 z))
 
-  module _ {a b c d : Text} {far m₁ m₂ m₃ m₄ : ℕ} (z : k ≡ 0) (f : Four p v a b c d) (ef : far ≡ wrong (apartTests [] ((0, a .span) ∷ (12, b .span) ∷ (20, c .span) ∷ (24, d .span) ∷ [])))
+  module _ {a b c d : Text} {far m₁ m₂ m₃ m₄ : ℕ} (z : k ≡ 0) (f : Four v a b c d) (ef : far ≡ wrong (apartTests [] ((0, a .span) ∷ (12, b .span) ∷ (20, c .span) ∷ (24, d .span) ∷ [])))
       (e₁ : m₁ ≡ cond (d .ok) far 24) (e₂ : m₂ ≡ cond (c .ok) m₁ 20) (e₃ : m₃ ≡ cond (b .ok) m₂ 12) (e₄ : m₄ ≡ cond (a .ok) m₃ 8) where
     judged : wrong (networkRules v) ≡ m₄
     judged =
@@ -160,10 +154,10 @@ module _ (p : ℕ) (v : List ℕ) {k : ℕ} (ek : k ≡ wrong (networkHeadTests 
         let fs : ((cond (a .ok) 0 8, (8, a .span)) ∷ (cond (b .ok) 0 12, (12, b .span)) ∷ (cond (c .ok) 0 20, (20, c .span)) ∷ (cond (d .ok) 0 24, (24, d .span)) ∷ [])
         ≡ map (judge h) (networkPieces v)
         = rw (
-          text-judged true false v p h (u32At v 8) (f .net) 8,
-          text-judged (hasDevice v) false v p h (u32At v 12) (f .device) 12,
-          text-judged (networkUnicode v) true v p h (u32At v 20) (f .netUnicode) 20,
-          text-judged (hasDeviceUnicode v) true v p h (u32At v 24) (f .deviceUnicode) 24,
+          text-judged true false v h (u32At v 8) (f .net) 8,
+          text-judged (hasDevice v) false v h (u32At v 12) (f .device) 12,
+          text-judged (networkUnicode v) true v h (u32At v 20) (f .netUnicode) 20,
+          text-judged (hasDeviceUnicode v) true v h (u32At v 24) (f .deviceUnicode) 24,
         ) in
         let m : first (cond (a .ok) 0 8) (first (cond (b .ok) 0 12) (first (cond (c .ok) 0 20) (first (cond (d .ok) 0 24) far))) ≡ m₄
         = rw (
@@ -178,12 +172,11 @@ module _ (p : ℕ) (v : List ℕ) {k : ℕ} (ek : k ≡ wrong (networkHeadTests 
         ) in
         rules-wrong ∙ rw z (pieces-judged 24 h (networkPieces v) (pieces-within v) fs ef ∙ m)
 
-    pub network-read : {flags name kept provider : ℕ} {t : Bool} {r : NetworkRead} → flags ≡ u32At v 4 → name ≡ u32At v 8 → t ≡ providerThere flags → kept ≡ u32At v 16 → provider ≡ cond t kept 0
-        → r ≡ networkIf m₄ (fourFields flags provider (ltb 0x14 name) a b c d) → NetworkAnswer p v r
+    pub network-read : {r : NetworkRead} → r ≡ networkIf m₄ (fourTexts a b c d) → NetworkAnswer v r
     unfolding networkIn
-    network-read {flags} {name} {provider = provider} eg en et ek ep er = network-answered (er ∙ go (eqb m₄ 0) refl ∙ rw (rules-pass judged, judged))
+    network-read er = network-answered (er ∙ go (eqb m₄ 0) refl ∙ rw (rules-pass judged, judged))
       where
-        go : (x : Bool) → eqb m₄ 0 ≡ x → cond x (Good (fourFields flags provider (ltb 0x14 name) a b c d)) (Bad m₄) ≡ cond x (Good (networkFields p v)) (Bad m₄)
+        go : (x : Bool) → eqb m₄ 0 ≡ x → cond x (Good (fourTexts a b c d)) (Bad m₄) ≡ cond x (Good (networkTextsIn v)) (Bad m₄)
         go true e =
             let h : ℕ = networkHead (networkUnicode v) in
             let (net, r₃) = unless-none (a .ok) m₃ 8 (omega arith) (sym e₄ ∙ eqb-true m₄ 0 e) in
@@ -191,48 +184,47 @@ module _ (p : ℕ) (v : List ℕ) {k : ℕ} (ek : k ≡ wrong (networkHeadTests 
             let (netUnicode, r₁) = unless-none (c .ok) m₁ 20 (omega arith) (sym e₂ ∙ r₂) in
             let (deviceUnicode, apart) = unless-none (d .ok) far 24 (omega arith) (sym e₁ ∙ r₁) in
             ap Good (rw (
-              ep,
-              et,
-              ek,
-              eg,
-              en,
-              text-body true false v p h (u32At v 8) (f .net) net,
-              text-body (hasDevice v) false v p h (u32At v 12) (f .device) device,
-              text-body (networkUnicode v) true v p h (u32At v 20) (f .netUnicode) netUnicode,
-              text-body (hasDeviceUnicode v) true v p h (u32At v 24) (f .deviceUnicode) deviceUnicode,
+              place-length true false 0 v (u32At v 8),
+              place-length (hasDevice v) false 0 v (u32At v 12),
+              place-length (networkUnicode v) true 0 v (u32At v 20),
+              place-length (hasDeviceUnicode v) true 0 v (u32At v 24),
+              text-length true false v h (u32At v 8) (f .net) net,
+              text-length (hasDevice v) false v h (u32At v 12) (f .device) device,
+              text-length (networkUnicode v) true v h (u32At v 20) (f .netUnicode) netUnicode,
+              text-length (hasDeviceUnicode v) true v h (u32At v 24) (f .deviceUnicode) deviceUnicode,
             ))
         go false e = refl
 
 -- ---- the piece
 
-pub good-not-bad : (a : Network) (i : ℕ) → Good a ≡ Bad i → ⊥
+pub good-not-bad : (a : NetworkTexts) (i : ℕ) → Good a ≡ Bad i → ⊥
 good-not-bad a i e = let z : _≡_ {A = ℕ} 0 1 = cc in omega arith
 
-pub good-same : (a c : Network) → Good a ≡ Good c → a ≡ c
+pub good-same : (a c : NetworkTexts) → Good a ≡ Good c → a ≡ c
 good-same a c e = cc
 
 pub bad-same : (i j : ℕ) → Bad i ≡ Bad j → i ≡ j
 bad-same i j e = cc
 
-pub read-is : (p : ℕ) (v : List ℕ) → networkIn p v ≡ cond (all (networkRules v)) (Good (networkFields p v)) (Bad (wrong (networkRules v)))
+pub read-is : (v : List ℕ) → networkIn v ≡ cond (all (networkRules v)) (Good (networkTextsIn v)) (Bad (wrong (networkRules v)))
 unfolding networkIn
-read-is p v = refl
+read-is v = refl
 
-pub found-as : (b : Bool) (l : List ℕ) (start head : ℕ)
-    → networkFound b l start head ≡ pieceFound makeNetwork head (networkPiece b l 20 (u32At l 20)) (networkAt b start l (u32At l 20)) noNetwork
+pub found-as : (b : Bool) (l : List ℕ) (head : ℕ)
+    → networkFound b l head ≡ pieceFound makeNetwork head (networkPiece b l 20 (u32At l 20)) (networkTexts b l (u32At l 20)) noTexts
 unfolding networkFound
-found-as b l start head = refl
+found-as b l head = refl
 
-abbrev pub networkKind : Kind Network NetworkFound NetworkRead
+abbrev pub networkKind : Kind NetworkTexts NetworkFound NetworkRead
 networkKind = record {
   make = makeNetwork;
   spanOf = λ r. r .span;
   spans = λ i x a. refl;
-  none = noNetwork;
+  none = noTexts;
   offsetField = 20;
   least = 0x14;
   rules = networkRules;
-  fields = networkFields;
+  fields = networkTextsIn;
   last = 24;
   within = network-fields;
   good = Good;
@@ -245,3 +237,39 @@ networkKind = record {
   foundAs = networkFound;
   found-as = found-as;
 }
+
+-- ---- what it says, once it was accepted
+
+network-lengths : (p : ℕ) (v : List ℕ)
+    → networkLengths (networkFields p v)
+    ≡ bodyLength true false v (u32At v 8) ∷ bodyLength (hasDevice v) false v (u32At v 12) ∷ bodyLength (networkUnicode v) true v (u32At v 20) ∷ bodyLength (hasDeviceUnicode v) true v (u32At v 24) ∷ []
+network-lengths p v = rw (
+  place-length true false p v (u32At v 8),
+  place-length (hasDevice v) false p v (u32At v 12),
+  place-length (networkUnicode v) true p v (u32At v 20),
+  place-length (hasDeviceUnicode v) true p v (u32At v 24),
+)
+
+-- the lengths are the same wherever it starts in the file
+pub lengths-anywhere : (p q : ℕ) (v : List ℕ) → networkLengths (networkFields p v) ≡ networkLengths (networkFields q v)
+lengths-anywhere p q v = network-lengths p v ∙ sym (network-lengths q v)
+
+-- an element of the row's part that has these lengths
+row-length : (row : List ℕ) {lengths : List ℕ} (i : ℕ) → i < 4 → take 4 (drop 2 row) ≡ lengths → getD row (2 + i) 0 ≡ getD lengths i 0
+row-length row i h e = sym (getD-take 4 (drop 2 row) i 0 h ∙ getD-drop 2 row i 0) ∙ ap (λ (l : List ℕ). getD l i 0) e
+
+pub network-says : (p : ℕ) (v row : List ℕ) {flags name kept provider o₁ o₂ o₃ : ℕ} {t device both : Bool} {a b c d : Place} → take 4 (drop 2 row) ≡ networkLengths (networkFields p v)
+    → flags ≡ u32At v 4 → name ≡ u32At v 8 → device ≡ deviceThere flags → both ≡ deviceUnicodeThere (ltb 0x14 name) flags → t ≡ providerThere flags → kept ≡ u32At v 16
+    → provider ≡ cond t kept 0 → a ≡ place (p + name) (getD row 2 0) → o₁ ≡ u32At v 12 → b ≡ cond device (place (p + o₁) (getD row 3 0)) noPlace
+    → o₂ ≡ fieldIf (ltb 0x14 name) v 20 → c ≡ cond (ltb 0x14 name) (place (p + o₂) (getD row 4 0)) noPlace
+    → o₃ ≡ fieldIf (ltb 0x14 name) v 24 → d ≡ cond both (place (p + o₃) (getD row 5 0)) noPlace
+    → record { flags = flags; provider = provider; unicode = ltb 0x14 name; net = a; device = b; «net_unicode» = c; «device_unicode» = d } ≡ networkFields p v
+network-says p v row {a = a} {b} {c} {d} e ef en ed et ep ek er ea e₁ eb e₂ ec e₃ ee =
+    let u : Bool = networkUnicode v in
+    let net : a ≡ textPlace true false p v (u32At v 8) = ea ∙ rw en (body-place true false p v (u32At v 8) (row-length row 0 (omega arith) e)) in
+    let device : b ≡ textPlace (hasDevice v) false p v (u32At v 12) = eb ∙ rw (ed, ef, e₁) (body-place (hasDevice v) false p v (u32At v 12) (row-length row 1 (omega arith) e)) in
+    let netUnicode : c ≡ textPlace u true p v (u32At v 20)
+    = ec ∙ rw (e₂, en) (place-field u p v 20 (getD row 4 0) u (λ z. z) ∙ body-place u true p v (u32At v 20) (row-length row 2 (omega arith) e)) in
+    let deviceUnicode : d ≡ textPlace (hasDeviceUnicode v) true p v (u32At v 24)
+    = ee ∙ rw (et, e₃, ef, en) (place-field (hasDeviceUnicode v) p v 24 (getD row 5 0) u (λ z. rw z) ∙ body-place (hasDeviceUnicode v) true p v (u32At v 24) (row-length row 3 (omega arith) e)) in
+    rw (er, ep, ek, ef, en, net, device, netUnicode, deviceUnicode)

@@ -19,7 +19,6 @@ use Rattle.format.specs.Steps.Wrong.{wrong}
 use Rattle.format.specs.Pieces.{Piece, structTests, span}
 use Rattle.format.proofs.Chains.{all-pass, all-inside, no-true}
 use Rattle.format.proofs.Holds.{struct-holds}
-use Rattle.format.proofs.PieceLaws.{pieceAt}
 use Rattle.pieces.specs.declared.StructEnd.{StructEnd}
 use Rattle.pieces.specs.declared.StructEnd.the-variants.{At, Outside}
 use Rattle.pieces.specs.Steps.Found.{EndSmall, pieceOk, pieceWrong, pieceFound, frameTests, endAt, endNumber, endValue, PieceAnswers, EndAnswer}
@@ -28,11 +27,11 @@ use Rattle.pieces.proofs.TestLaws.{Fields, here, fields-inside, fields-
 -- ---- a structure of LinkInfo as a piece, and what it says
 
 -- to which the field at i leads by the offset o
-abbrev pub structAt : {A : Type 0} → ℕ → ℕ → (List ℕ → List Test) → (ℕ → List ℕ → A) → Bool → List ℕ → ℕ → Piece
-structAt i least rules fields b l o = pieceAt i (λ o. structTests i o least rules) (λ s. u32At s 0) (fields 0) b l o
+abbrev pub structAt : ℕ → ℕ → (List ℕ → List Test) → Bool → List ℕ → ℕ → Piece
+structAt i least rules b l o = record { present = b; field = i; offset = o; own = structTests i o least rules (drop o l); size = u32At (drop o l) 0 }
 
-abbrev pub structSays : {A : Type 0} → (ℕ → List ℕ → A) → A → Bool → List ℕ → ℕ → ℕ → A
-structSays fields none b l start o = cond b (fields (start + o) (take (u32At (drop o l) 0) (drop o l))) none
+abbrev pub structSays : {A : Type 0} → (List ℕ → A) → A → Bool → List ℕ → ℕ → A
+structSays fields none b l o = cond b (fields (take (u32At (drop o l) 0) (drop o l))) none
 
 -- ---- the number and the value of an answer
 
@@ -110,9 +109,9 @@ module _ (l : List ℕ) (head least i o : ℕ) {x : StructEnd} (ex : x ≡ endAt
 
   -- ---- the tests of the structure, as a piece
 
-  module _ {A : Type 0} (rules : List ℕ → List Test) (fields : ℕ → List ℕ → A) where
+  module _ (rules : List ℕ → List Test) where
     abbrev this : Piece
-    this = structAt i least rules fields true l o
+    this = structAt i least rules true l o
 
     struct-outside : {w : ℕ} → x ≡ Outside w → (pieceOk head this ≡ false) × (pieceWrong head this ≡ w)
     struct-outside {w} q =
@@ -142,9 +141,9 @@ module _ (l : List ℕ) (head least i o : ℕ) {x : StructEnd} (ex : x ≡ endAt
         (rw (j .sized, a, b, c, f, all-inside o (ruled e)), rw (j .sized, a, b, c, f))
 
 -- a structure starts after the head, so none of its fields is 0; and before the end
-pub struct-fields : {A : Type 0} (k i m least : ℕ) (rules : List ℕ → List Test) (fields : ℕ → List ℕ → A) (b : Bool) (l : List ℕ) (h o : ℕ)
-    → 0 < i → i ≤ k → length l + m ≤ k → 0 < h → ((v : List ℕ) → Fields m (rules v)) → PieceFields k h (structAt i least rules fields b l o)
-struct-fields k i m least rules fields b l h o p q r z F =
+pub struct-fields : (k i m least : ℕ) (rules : List ℕ → List Test) (b : Bool) (l : List ℕ) (h o : ℕ)
+    → 0 < i → i ≤ k → length l + m ≤ k → 0 < h → ((v : List ℕ) → Fields m (rules v)) → PieceFields k h (structAt i least rules b l o)
+struct-fields k i m least rules b l h o p q r z F =
     let s : List ℕ = drop o l in
     let v : List ℕ = take (u32At s 0) s in
     record {
@@ -172,7 +171,7 @@ pub record Kind (A R Q : Type 0) : Type 0 where
   pub offsetField : ℕ
   pub least : ℕ
   pub rules : List ℕ → List Test
-  pub fields : ℕ → List ℕ → A
+  pub fields : List ℕ → A
   -- the last field of its rules
   pub last : ℕ
   pub within : (v : List ℕ) → Fields last (rules v)
@@ -183,17 +182,17 @@ pub record Kind (A R Q : Type 0) : Type 0 where
   pub same : (a c : A) → good a ≡ good c → a ≡ c
   pub same-bad : (i j : ℕ) → bad i ≡ bad j → i ≡ j
   -- the definitions that the contracts cite
-  pub readAs : ℕ → List ℕ → Q
-  pub read-is : (p : ℕ) (v : List ℕ) → readAs p v ≡ cond (all (rules v)) (good (fields p v)) (bad (wrong (rules v)))
-  pub foundAs : Bool → List ℕ → ℕ → ℕ → R
-  pub found-as : (b : Bool) (l : List ℕ) (start head : ℕ)
-      → foundAs b l start head ≡ pieceFound make head (structAt offsetField least rules fields b l (u32At l offsetField)) (structSays fields none b l start (u32At l offsetField)) none
+  pub readAs : List ℕ → Q
+  pub read-is : (v : List ℕ) → readAs v ≡ cond (all (rules v)) (good (fields v)) (bad (wrong (rules v)))
+  pub foundAs : Bool → List ℕ → ℕ → R
+  pub found-as : (b : Bool) (l : List ℕ) (head : ℕ)
+      → foundAs b l head ≡ pieceFound make head (structAt offsetField least rules b l (u32At l offsetField)) (structSays fields none b l (u32At l offsetField)) none
 
 -- what is bad fails at that field
-module _ {A R Q : Type 0} (K : Kind A R Q) (p : ℕ) (v : List ℕ) {y : Q} (ey : y ≡ K .readAs p v) {w : ℕ} (j : y ≡ K .bad w) where
+module _ {A R Q : Type 0} (K : Kind A R Q) (v : List ℕ) {y : Q} (ey : y ≡ K .readAs v) {w : ℕ} (j : y ≡ K .bad w) where
   read-bad : (all (K .rules v) ≡ false) × (wrong (K .rules v) ≡ w)
   read-bad =
-      let (f, g) = cond-second _ (ey ∙ K .read-is p v) (λ g. K .differ _ w (sym g ∙ j)) in
+      let (f, g) = cond-second _ (ey ∙ K .read-is v) (λ g. K .differ _ w (sym g ∙ j)) in
       (f, K .same-bad _ _ (sym g ∙ j))
 
   pub bad-small : w ≤ K .last
@@ -201,53 +200,53 @@ module _ {A R Q : Type 0} (K : Kind A R Q) (p : ℕ) (v : List ℕ) {y : Q} (ey 
 
 -- ---- the ways out
 
-module _ {A R Q : Type 0} (K : Kind A R Q) (b : Bool) (l : List ℕ) (start head : ℕ) where
+module _ {A R Q : Type 0} (K : Kind A R Q) (b : Bool) (l : List ℕ) (head : ℕ) where
   abbrev piece : ℕ → Piece
-  piece o = structAt (K .offsetField) (K .least) (K .rules) (K .fields) b l o
+  piece o = structAt (K .offsetField) (K .least) (K .rules) b l o
 
   abbrev says : ℕ → A
-  says o = structSays (K .fields) (K .none) b l start o
+  says o = structSays (K .fields) (K .none) b l o
 
   nowhere : (i : ℕ) {r : R} → r ≡ K .make i noPlace (K .none) → EndSmall (K .spanOf r)
   nowhere i e = rw (ap (K .spanOf) e ∙ K .spans i noPlace (K .none)) (omega arith)
 
-  pub struct-absent : {r : R} → not b ≡ true → r ≡ K .make 0 noPlace (K .none) → (r ≡ K .foundAs b l start head) × EndSmall (K .spanOf r)
+  pub struct-absent : {r : R} → not b ≡ true → r ≡ K .make 0 noPlace (K .none) → (r ≡ K .foundAs b l head) × EndSmall (K .spanOf r)
   struct-absent t e =
       let f : b ≡ false = not-true b t in
       let o : ℕ = u32At l (K .offsetField) in
-      (e ∙ found-absent (K .make) head (piece o) (says o) (K .none) f (rw f) ∙ sym (K .found-as b l start head), nowhere 0 e)
+      (e ∙ found-absent (K .make) head (piece o) (says o) (K .none) f (rw f) ∙ sym (K .found-as b l head), nowhere 0 e)
 
   -- o is what the field holds
   module _ {o : ℕ} {x : StructEnd} (t : not b ≡ false) (eo : o ≡ u32At l (K .offsetField)) (ex : x ≡ endAt l head (K .least) (K .offsetField) o) where
-    found-at : K .foundAs b l start head ≡ pieceFound (K .make) head (piece o) (says o) (K .none)
-    found-at = K .found-as b l start head ∙ ap (λ (o : ℕ). pieceFound (K .make) head (piece o) (says o) (K .none)) (sym eo)
+    found-at : K .foundAs b l head ≡ pieceFound (K .make) head (piece o) (says o) (K .none)
+    found-at = K .found-as b l head ∙ ap (λ (o : ℕ). pieceFound (K .make) head (piece o) (says o) (K .none)) (sym eo)
 
     not-found : {i : ℕ} {r : R} → pieceOk head (piece o) ≡ false → pieceWrong head (piece o) ≡ i → r ≡ K .make i noPlace (K .none)
-        → (r ≡ K .foundAs b l start head) × EndSmall (K .spanOf r)
+        → (r ≡ K .foundAs b l head) × EndSmall (K .spanOf r)
     not-found {i} f g e = (e ∙ found-not (K .make) head (piece o) (says o) (K .none) f g ∙ sym found-at, nowhere i e)
 
-    pub struct-lost : {w : ℕ} {r : R} → x ≡ Outside w → r ≡ K .make w noPlace (K .none) → (r ≡ K .foundAs b l start head) × EndSmall (K .spanOf r)
+    pub struct-lost : {w : ℕ} {r : R} → x ≡ Outside w → r ≡ K .make w noPlace (K .none) → (r ≡ K .foundAs b l head) × EndSmall (K .spanOf r)
     struct-lost q =
-        let j = struct-outside l head (K .least) (K .offsetField) o ex (K .rules) (K .fields) q in
+        let j = struct-outside l head (K .least) (K .offsetField) o ex (K .rules) q in
         not-found (rw (not-false b t) (j .0)) (rw (not-false b t) (j .1))
 
-    module _ {e : ℕ} {y : Q} (q : x ≡ At e) (ey : y ≡ K .readAs (start + o) (take (e - o) (drop o l))) where
+    module _ {e : ℕ} {y : Q} (q : x ≡ At e) (ey : y ≡ K .readAs (take (e - o) (drop o l))) where
       abbrev own : List Test
       own = K .rules (take (e - o) (drop o l))
 
       judged : (pieceOk head (piece o) ≡ all own) × (pieceWrong head (piece o) ≡ wrong (inside o own))
-      judged = rw (not-false b t) (struct-judged l head (K .least) (K .offsetField) o ex (K .rules) (K .fields) q)
+      judged = rw (not-false b t) (struct-judged l head (K .least) (K .offsetField) o ex (K .rules) q)
 
-      pub struct-bad : {w m : ℕ} {r : R} → y ≡ K .bad w → m ≡ o + w → r ≡ K .make m noPlace (K .none) → (r ≡ K .foundAs b l start head) × EndSmall (K .spanOf r)
+      pub struct-bad : {w m : ℕ} {r : R} → y ≡ K .bad w → m ≡ o + w → r ≡ K .make m noPlace (K .none) → (r ≡ K .foundAs b l head) × EndSmall (K .spanOf r)
       struct-bad j em =
-          let (f, g) = read-bad K (start + o) (take (e - o) (drop o l)) ey j in
+          let (f, g) = read-bad K (take (e - o) (drop o l)) ey j in
           not-found (judged .0 ∙ f) (judged .1 ∙ wrong-inside o own f ∙ rw (em, g))
 
-      pub struct-good : {a : A} → start + length l ≤ 65536 → y ≡ K .good a
-          → (K .make 0 (place o (e - o)) a ≡ K .foundAs b l start head) × EndSmall (K .spanOf (K .make 0 (place o (e - o)) a))
+      pub struct-good : {a : A} → length l ≤ 65536 → y ≡ K .good a
+          → (K .make 0 (place o (e - o)) a ≡ K .foundAs b l head) × EndSmall (K .spanOf (K .make 0 (place o (e - o)) a))
       struct-good {a} s j =
           let w = ended l head (K .least) (K .offsetField) o ex q in
-          let i = cond-first _ (ey ∙ K .read-is _ _) (λ g. K .differ _ _ (sym j ∙ g)) in
+          let i = cond-first _ (ey ∙ K .read-is _) (λ g. K .differ _ _ (sym j ∙ g)) in
           let k : says o ≡ a = rw (not-false b t, w .sized) (K .same _ _ (sym (i .1) ∙ j)) in
           let m : span (piece o) ≡ place o (e - o) = rw (not-false b t, w .sized) in (
             rw (← k) (found-is (K .make) head (piece o) (says o) (K .none) (judged .0 ∙ i .0) m) ∙ sym found-at,

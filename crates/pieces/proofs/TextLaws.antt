@@ -2,81 +2,68 @@
 use mathlib.Core.Path.{_≡_, refl, sym, ap, _∙_}
 use mathlib.Core.List.{List, [], _∷_}
 use mathlib.Core.Bool.{Bool, true, false, not, _||_, cond}
-use Prim.Native.Nat.{ℕ, _+_, _≤_, _<_}
+use Prim.Native.Nat.{ℕ, _+_, _-_, _≤_, _<_}
 use native.Mathlib.Omega.{arith}
-use lib.ListN.{length, drop, length-drop}
+use lib.ListN.{length, drop}
 use lib.Dec.{leb}
-use borrow.Author.Tests.{ltb-true, le-leb, lt-leb, not-true, not-false}
-use Rattle.octets.specs.Numbers.{u32At}
-use Rattle.octets.specs.Characters.{bytesOf, characters, beforeZero}
-use Rattle.octets.specs.Steps.Scans.{zeroFrom}
-use Rattle.octets.specs.declared.Zero.{Zero}
-use Rattle.octets.specs.declared.Zero.the-variants.{After, Nowhere}
-use Rattle.octets.proofs.CharacterLaws.{characters-fit, bytes-of-le, bytes-of-add}
-use Rattle.octets.proofs.ZeroLaws.{zero-after, zero-nowhere}
+use borrow.Author.Tests.{le-leb, lt-leb, not-true, not-false}
+use Rattle.octets.specs.Numbers.{Bytes, u32At}
+use Rattle.octets.specs.Characters.{bytesOf}
+use Rattle.octets.specs.Steps.Scans.{FirstZero, PlaceAnswer}
+use Rattle.octets.proofs.NumberLaws.{number-below}
 use Rattle.format.specs.declared.Fault.the-variants.{Piece as PIECE}
 use Rattle.format.specs.Tests.{_else_at_, all, place, noPlace}
 use Rattle.format.specs.Steps.Wrong.{wrong}
-use Rattle.format.specs.declared.Place.{Place}
 use Rattle.format.specs.Pieces.{Piece, span, textEnds, textLength, textPiece, textPlace, absentZero}
 use Rattle.pieces.specs.declared.Text.{Text}
-use Rattle.pieces.specs.Steps.Found.{EndSmall, fieldIf, pieceOk, pieceWrong, makeText, textFound}
+use Rattle.pieces.specs.Steps.Found.{EndSmall, fieldIf, pieceOk, pieceWrong, makeText, bodyLength, textFound}
 use Rattle.pieces.proofs.TestLaws.{judge}
 
--- ---- a string inside its part
+zero-there : {u : Bool} {l : List ℕ} {o p : ℕ} → PlaceAnswer u l o p → (p ≡ length l → ⊥) → FirstZero u l o p
+zero-there A q = A .found (omega (arith, A .within))
 
-some-bytes : (u : Bool) (n : ℕ) → (n ≤ bytesOf u n) × (0 < bytesOf u 1)
-some-bytes true n = (omega arith, omega arith)
-some-bytes false n = (omega arith, omega arith)
-
-pub text-inside : (u : Bool) (l : List ℕ) (o : ℕ) {z : Zero} {n : ℕ} → z ≡ zeroFrom u l o → z ≡ After n → (n ≤ length l) × (o + (bytesOf u n + bytesOf u 1) ≤ length l)
-text-inside u l o {n = n} e h =
-    let c : List ℕ = characters u (drop o l) in
-    let (b, q) = zero-after u l o e h in
-    let k : beforeZero c < length c = ltb-true _ _ b in
-    let f : bytesOf u (length c) ≤ length (drop o l) = characters-fit u (drop o l) in
-    let g : bytesOf u (n + 1) ≤ bytesOf u (length c) = bytes-of-le u (omega arith) in
-    let a : bytesOf u (n + 1) ≡ bytesOf u n + bytesOf u 1 = bytes-of-add u n 1 in
-    let (m, i) = some-bytes u n in
-    (omega (arith, length-drop o l), omega (arith, length-drop o l))
+-- where the search ends at a zero, that stands after the offset, and all of it inside the part
+pub text-inside : (u : Bool) (l : List ℕ) (o : ℕ) {p : ℕ} → PlaceAnswer u l o p → (p ≡ length l → ⊥) → (o ≤ p) × (p + bytesOf u 1 ≤ length l)
+text-inside u l o A q = (omega (arith, zero-there A q .text), zero-there A q .inside)
 
 -- ---- the ways out
 
-module _ (b u : Bool) (l : List ℕ) (start head o : ℕ) where
+module _ (b u : Bool) (l : List ℕ) (head o : ℕ) where
   abbrev piece : Piece
   piece = textPiece b u l 0 o
 
-  abbrev says : Place
-  says = textPlace b u start l o
+  abbrev says : ℕ
+  says = bodyLength b u l o
 
-  pub text-absent : {r : Text} → not b ≡ true → r ≡ makeText true noPlace noPlace → (r ≡ textFound b u l start head o) × EndSmall (r .span)
+  pub text-absent : {r : Text} → not b ≡ true → r ≡ makeText true noPlace 0 → (r ≡ textFound b u l head o) × EndSmall (r .span)
   unfolding textFound
   text-absent t e = (e ∙ rw (not-true b t), rw e (omega arith))
 
-  not-found : {r : Text} → pieceOk head piece ≡ false → r ≡ makeText false noPlace noPlace → (r ≡ textFound b u l start head o) × EndSmall (r .span)
+  not-found : {r : Text} → pieceOk head piece ≡ false → r ≡ makeText false noPlace 0 → (r ≡ textFound b u l head o) × EndSmall (r .span)
   unfolding textFound
   not-found f e = (e ∙ rw f, rw e (omega arith))
 
   module _ (t : not b ≡ false) where
-    pub text-low : {r : Text} → o < head → r ≡ makeText false noPlace noPlace → (r ≡ textFound b u l start head o) × EndSmall (r .span)
+    pub text-low : {r : Text} → o < head → r ≡ makeText false noPlace 0 → (r ≡ textFound b u l head o) × EndSmall (r .span)
     text-low h = not-found (rw (not-false b t, lt-leb head o h))
 
-    module _ {z : Zero} (h : head ≤ o) (ez : z ≡ zeroFrom u l o) where
-      pub text-open : {r : Text} → z ≡ Nowhere → r ≡ makeText false noPlace noPlace → (r ≡ textFound b u l start head o) × EndSmall (r .span)
+    -- p is where the search for its end came to
+    module _ {p : ℕ} (h : head ≤ o) (A : PlaceAnswer u l o p) where
+      pub text-open : {r : Text} → p ≡ length l → r ≡ makeText false noPlace 0 → (r ≡ textFound b u l head o) × EndSmall (r .span)
       text-open q =
-          let w : textEnds u (drop o l) ≡ false = zero-nowhere u l o ez q in
+          let w : textEnds u (drop o l) ≡ false = A .none q in
           not-found (rw (not-false b t, le-leb head o h, w))
 
-      pub text-ends : start + length l ≤ 65536 → {n k m : ℕ} → z ≡ After n → k ≡ bytesOf u n → m ≡ bytesOf u 1
-          → (makeText true (place o (k + m)) (place (start + o) k) ≡ textFound b u l start head o) × EndSmall (place o (k + m))
+      pub text-ends : length l ≤ 65536 → {k m : ℕ} → (p ≡ length l → ⊥) → k ≡ p - o → m ≡ bytesOf u 1
+          → (makeText true (place o (k + m)) k ≡ textFound b u l head o) × EndSmall (place o (k + m))
       unfolding textFound
-      text-ends s {n} {k} {m} q ek em =
-          let (w, i) = zero-after u l o ez q in
-          let x : k ≡ textLength u (drop o l) = ek ∙ ap (bytesOf u) i in
-          let f : pieceOk head piece ≡ true = rw (not-false b t, le-leb head o h, w) in
+      text-ends s {k} {m} q ek em =
+          let F = zero-there A q in
+          let x : k ≡ textLength u (drop o l) = omega (arith, F .text) in
+          let f : pieceOk head piece ≡ true = rw (not-false b t, le-leb head o h, F .ends) in
           let g : span piece ≡ place o (k + m) = rw (not-false b t, x, em) in
-          let y : says ≡ place (start + o) k = rw (not-false b t, x) in
-          (rw (f, g, y), omega (arith, text-inside u l o ez q))
+          let y : says ≡ k = rw (not-false b t, x) in
+          (rw (f, g, y), omega (arith, text-inside u l o A q))
 
 -- ---- what was found
 
@@ -91,7 +78,7 @@ pub any-field : (b x y : Bool) (i : ℕ) → all (cond b (x else PIECE at i ∷ 
 any-field true x y i = refl
 any-field false x y i = refl
 
-module _ (b u : Bool) (l : List ℕ) (start head o : ℕ) {t : Text} (e : t ≡ textFound b u l start head o) where
+module _ (b u : Bool) (l : List ℕ) (head o : ℕ) {t : Text} (e : t ≡ textFound b u l head o) where
   pub text-wrong : (i : ℕ) → pieceWrong head (textPiece b u l i o) ≡ cond (t .ok) 0 i
   unfolding textFound
   text-wrong i = two-tests b (leb head o) (textEnds u (drop o l)) i ∙ rw e
@@ -100,18 +87,41 @@ module _ (b u : Bool) (l : List ℕ) (start head o : ℕ) {t : Text} (e : t ≡ 
   unfolding textFound
   text-judged i = rw (text-wrong i, any-field b (leb head o) (textEnds u (drop o l)) i, e)
 
-  pub text-body : t .ok ≡ true → t .body ≡ textPlace b u start l o
+  pub text-length : t .ok ≡ true → t .len ≡ bodyLength b u l o
   unfolding textFound
-  text-body k = let f : pieceOk head (textPiece b u l 0 o) ≡ true = sym (ap (λ (x : Text). x .ok) e) ∙ k in ap (λ (x : Text). x .body) e ∙ rw f
+  text-length k = let f : pieceOk head (textPiece b u l 0 o) ≡ true = sym (ap (λ (x : Text). x .ok) e) ∙ k in ap (λ (x : Text). x .len) e ∙ rw f
+
+-- ---- the body's place, by its length
+
+-- the length is the same wherever the part starts
+pub place-length : (b u : Bool) (p : ℕ) (l : List ℕ) (o : ℕ) → textPlace b u p l o .len ≡ bodyLength b u l o
+place-length true u p l o = refl
+place-length false u p l o = refl
+
+pub body-place : (b u : Bool) (p : ℕ) (l : List ℕ) (o : ℕ) {n : ℕ} → n ≡ textPlace b u p l o .len → cond b (place (p + o) n) noPlace ≡ textPlace b u p l o
+body-place true u p l o e = rw e
+body-place false u p l o e = refl
 
 -- ---- a field that is there or not
 
+pub field-below : (w : Bool) (l : List ℕ) (i : ℕ) {n : ℕ} → n ≡ fieldIf w l i → Bytes l → n < 4294967296
+unfolding fieldIf
+field-below true l i e b = omega (arith, number-below 4 l i b)
+field-below false l i e b = omega arith
+
 -- an absent string is the same wherever its offset leads
-pub text-field : (b u : Bool) (l : List ℕ) (start head i : ℕ) (w : Bool) → (w ≡ false → b ≡ false)
-    → textFound b u l start head (fieldIf w l i) ≡ textFound b u l start head (u32At l i)
+pub text-field : (b u : Bool) (l : List ℕ) (head i : ℕ) (w : Bool) → (w ≡ false → b ≡ false)
+    → textFound b u l head (fieldIf w l i) ≡ textFound b u l head (u32At l i)
 unfolding fieldIf textFound
-text-field b u l start head i true h = refl
-text-field b u l start head i false h = rw (h refl)
+text-field b u l head i true h = refl
+text-field b u l head i false h = rw (h refl)
+
+-- so is the place of its body
+pub place-field : (b : Bool) (p : ℕ) (l : List ℕ) (i n : ℕ) (w : Bool) → (w ≡ false → b ≡ false)
+    → cond b (place (p + fieldIf w l i) n) noPlace ≡ cond b (place (p + u32At l i) n) noPlace
+unfolding fieldIf
+place-field b p l i n true h = refl
+place-field b p l i n false h = rw (h refl)
 
 -- an absent field is 0
 pub zero-field : (b w : Bool) (l : List ℕ) (i : ℕ) → absentZero b (fieldIf w l i) ≡ (not w || absentZero b (u32At l i))

@@ -7,41 +7,48 @@ use format::unless;
 use octets::Cursor;
 use octets::Skipped;
 use octets::Took;
-use octets::Zero;
 ghost use mathlib.Core.Path.{_≡_};
 ghost use mathlib.Core.Bool.{true, cond};
 ghost use lib.Dec.{eqb};
 ghost use mathlib.Core.List.{[], _∷_};
 ghost use Prim.Native.Nat.{_+_, _≤_};
-ghost use lib.ListN.{length};
+ghost use lib.ListN.{length, take, drop};
 ghost use Rattle.octets.specs.Characters.{bytesOf};
-ghost use Rattle.format.specs.Tests.{noPlace};
+ghost use Rattle.format.specs.Tests.{place, noPlace};
 ghost use Rattle.format.specs.Pieces.{absentZero, uncut, apart, apartTests};
-ghost use Rattle.format.specs.Volume.{labelLeast, noVolume};
-ghost use Rattle.format.specs.Network.{networkHead, networkHeadTests, noNetwork};
+ghost use Rattle.format.specs.Volume.{labelUnicode, labelLeast, volumeFields};
+ghost use Rattle.format.specs.Network.{networkUnicode, networkHead, networkHeadTests, networkFields};
 ghost use Rattle.format.specs.Steps.Wrong.{wrong};
-ghost use Rattle.pieces.specs.Steps.Found.{EndSmall, fieldIf, makeText, textFound, EndAnswer, VolumeAnswer, makeVolume, volumeFound};
-ghost use Rattle.pieces.specs.Steps.Found.{networkIf, networkNumber, networkValue, PieceAnswers, NetworkAnswer, makeNetwork, networkFound};
+ghost use Rattle.pieces.specs.Steps.Found.{EndSmall, fieldIf, makeText, textFound, EndAnswer, labelLength, VolumeAnswer, makeVolume, volumeFound};
+ghost use Rattle.pieces.specs.Steps.Found.{networkIf, networkNumber, networkValue, PieceAnswers, NetworkAnswer, networkLengths, noTexts, makeNetwork, networkFound};
 
-// A string that an offset leads to: whether it passes its tests, the bytes that it takes, and its body in the file. Zeros where it is absent or fails.
+// A string that an offset leads to: whether it passes its tests, the bytes that it takes, and how many of them are its body. Zeros where it is absent or fails.
 // Who calls knows which field leads there: given the field to answer with, each string cost six instructions more.
 pub struct Text {
     pub ok: bool,
     pub span: Place,
-    pub body: Place,
+    pub len: usize,
 }
 
-// Of these, wrong is the first field at fault, counted from LinkInfo's start; 0 is none.
+// How many bytes the bodies of a network link's strings have.
+pub struct NetworkTexts {
+    pub net: usize,
+    pub device: usize,
+    pub net_unicode: usize,
+    pub device_unicode: usize,
+}
+
+// Of these, wrong is the first field at fault, counted from LinkInfo's start; 0 is none. Then the bytes taken, and the lengths of bodies.
 pub struct VolumeFound {
     pub wrong: usize,
     pub span: Place,
-    pub volume: Volume,
+    pub label: usize,
 }
 
 pub struct NetworkFound {
     pub wrong: usize,
     pub span: Place,
-    pub network: Network,
+    pub texts: NetworkTexts,
 }
 
 // Where a structure ends, in the part that holds it; or the field, offset or size, that is wrong about that.
@@ -50,16 +57,23 @@ pub enum StructEnd {
     Outside(usize),
 }
 
-// What a VolumeID says, or its first field that breaks a rule, counted from its own start.
+// How many bytes the label of a VolumeID has, or the first field that breaks a rule, counted from VolumeID's own start.
 pub enum VolumeRead {
-    Good(Volume),
+    Good(usize),
     Bad(usize),
 }
 
 pub enum NetworkRead {
-    Good(Network),
+    Good(NetworkTexts),
     Bad(usize),
 }
+
+const NO_TEXTS: NetworkTexts = NetworkTexts {
+    net: 0,
+    device: 0,
+    net_unicode: 0,
+    device_unicode: 0,
+};
 
 // ---- numbers and flags
 
@@ -99,19 +113,19 @@ fn bytes_of(unicode: bool, n: usize) -> usize
 
 // Zeros for a string that is absent or fails.
 fn no_text(ok: bool) -> Text
-    ensures { λ r. ⌜ r ≡ makeText ok noPlace noPlace ⌝ }
+    ensures { λ r. ⌜ r ≡ makeText ok noPlace 0 ⌝ }
 {
     Text {
         ok,
         span: format::NO_PLACE,
-        body: format::NO_PLACE,
+        len: 0,
     }
 }
 
-// The string at the offset o of the part l, which starts at start in the file.
-pub fn text_at(present: bool, unicode: bool, l: &[u8], start: usize, head: usize, o: usize) -> Text
-    requires { ⌜ start + length (now l) ≤ 65536 ⌝ }
-    ensures { λ r. ⌜ (r ≡ textFound present unicode (now (l .entry)) start head o) × EndSmall (r .span) ⌝ }
+// The string at the offset o of the part l.
+pub fn text_at(present: bool, unicode: bool, l: &[u8], head: usize, o: usize) -> Text
+    requires { ⌜ length (now l) ≤ 65536 ⌝ }
+    ensures { λ r. ⌜ (r ≡ textFound present unicode (now (l .entry)) head o) × EndSmall (r .span) ⌝ }
 {
     if !present {
         return no_text(true);
@@ -119,10 +133,11 @@ pub fn text_at(present: bool, unicode: bool, l: &[u8], start: usize, head: usize
     if o < head {
         return no_text(false);
     }
-    let Zero::After(n) = octets::zero_from(unicode, l, o) else {
+    let p = octets::zero_at(unicode, l, o);
+    if p == l.len() {
         return no_text(false);
-    };
-    let len = bytes_of(unicode, n);
+    }
+    let len = p - o;
     let end = bytes_of(unicode, 1);
     Text {
         ok: true,
@@ -130,7 +145,21 @@ pub fn text_at(present: bool, unicode: bool, l: &[u8], start: usize, head: usize
             at: o,
             len: len + end,
         },
-        body: Place { at: start + o, len },
+        len,
+    }
+}
+
+// The place of a body of so many bytes at the offset o of a part that starts at `start` in the file; the empty place where it is absent.
+pub fn body_at(present: bool, start: usize, o: usize, len: u32) -> Place
+    requires { ⌜ start + o ≤ 4295098367 ⌝ }
+    ensures { λ r. ⌜ r ≡ cond present (place (start + o) len) noPlace ⌝ }
+{
+    if !present {
+        return format::NO_PLACE;
+    }
+    Place {
+        at: start + o,
+        len: len as usize,
     }
 }
 
@@ -213,13 +242,12 @@ fn label_field(unicode: bool) -> usize
     if unicode { 16 } else { 12 }
 }
 
-// VolumeID from its own part of the file, which starts at the place at.
-fn volume_in(v: &[u8], at: usize) -> VolumeRead
-    requires { ⌜ (0x11 ≤ length (now v)) × (at + length (now v) ≤ 65536) ⌝ }
-    ensures { λ r. ⌜ VolumeAnswer at (now (v .entry)) r ⌝ }
+// The label of VolumeID, which is given as its own part of the file.
+fn volume_in(v: &[u8]) -> VolumeRead
+    requires { ⌜ (0x11 ≤ length (now v)) × (length (now v) ≤ 65536) ⌝ }
+    ensures { λ r. ⌜ VolumeAnswer (now (v .entry)) r ⌝ }
 {
-    let drive = octets::u32_at(v, 4);
-    if 6 < drive {
+    if 6 < octets::u32_at(v, 4) {
         return VolumeRead::Bad(4);
     }
     let unicode = octets::u32_at(v, 12) == 0x14;
@@ -231,36 +259,30 @@ fn volume_in(v: &[u8], at: usize) -> VolumeRead
         true,
         unicode,
         v,
-        at,
         label_least(unicode),
         octets::u32_at(v, i) as usize,
     );
     if !t.ok {
         return VolumeRead::Bad(i);
     }
-    let b = t.body;
-    VolumeRead::Good(Volume {
-        drive,
-        serial: octets::u32_at(v, 8),
-        label: format::label_of(unicode, b),
-    })
+    VolumeRead::Good(t.len)
 }
 
 // Zeros for a VolumeID that is absent or fails.
 fn no_volume(wrong: usize) -> VolumeFound
-    ensures { λ r. ⌜ r ≡ makeVolume wrong noPlace noVolume ⌝ }
+    ensures { λ r. ⌜ r ≡ makeVolume wrong noPlace 0 ⌝ }
 {
     VolumeFound {
         wrong,
         span: format::NO_PLACE,
-        volume: format::NO_VOLUME,
+        label: 0,
     }
 }
 
-// VolumeID, to which the field at 12 of LinkInfo l leads; l starts at start in the file.
-pub fn volume(present: bool, l: &[u8], start: usize, head: usize) -> VolumeFound
-    requires { ⌜ (0x1C ≤ length (now l)) × (start + length (now l) ≤ 65536) ⌝ }
-    ensures { λ r. ⌜ (r ≡ volumeFound present (now (l .entry)) start head) × EndSmall (r .span) ⌝ }
+// VolumeID, to which the field at 12 of LinkInfo l leads.
+pub fn volume(present: bool, l: &[u8], head: usize) -> VolumeFound
+    requires { ⌜ (0x1C ≤ length (now l)) × (length (now l) ≤ 65536) ⌝ }
+    ensures { λ r. ⌜ (r ≡ volumeFound present (now (l .entry)) head) × EndSmall (r .span) ⌝ }
 {
     if !present {
         return no_volume(0);
@@ -270,15 +292,30 @@ pub fn volume(present: bool, l: &[u8], start: usize, head: usize) -> VolumeFound
         StructEnd::Outside(wrong) => no_volume(wrong),
         StructEnd::At(e) => {
             let v = &l[o..e];
-            match volume_in(v, start + o) {
+            match volume_in(v) {
                 VolumeRead::Bad(wrong) => no_volume(o + wrong),
-                VolumeRead::Good(volume) => VolumeFound {
+                VolumeRead::Good(label) => VolumeFound {
                     wrong: 0,
                     span: Place { at: o, len: e - o },
-                    volume,
+                    label,
                 },
             }
         }
+    }
+}
+
+// What a VolumeID that keeps the rules says; it starts at the place at, and its label has so many bytes.
+pub fn volume_of(v: &[u8], at: usize, len: u32) -> Volume
+    requires stands { ⌜ (0x11 ≤ length (now v)) × ((labelUnicode (now v) ≡ true → 0x14 ≤ length (now v)) × (at ≤ 65536)) ⌝ }
+    requires label { ⌜ len ≡ labelLength (now v) ⌝ }
+    ensures { λ r. ⌜ r ≡ volumeFields at (now (v .entry)) ⌝ }
+{
+    let unicode = octets::u32_at(v, 12) == 0x14;
+    let o = octets::u32_at(v, label_field(unicode)) as usize;
+    Volume {
+        drive: octets::u32_at(v, 4),
+        serial: octets::u32_at(v, 8),
+        label: format::label_of(unicode, body_at(true, at, o, len)),
     }
 }
 
@@ -316,7 +353,7 @@ fn network_head_wrong(v: &[u8]) -> usize
     unless(device, 12, unless(device_unicode, 24, 0))
 }
 
-fn network_if(wrong: usize, n: Network) -> NetworkRead
+fn network_if(wrong: usize, n: NetworkTexts) -> NetworkRead
     ensures { λ r. ⌜ PieceAnswers networkNumber networkValue (eqb wrong 0) 0 wrong (networkIf wrong n) r ⌝ }
 {
     if wrong == 0 {
@@ -326,10 +363,10 @@ fn network_if(wrong: usize, n: Network) -> NetworkRead
     }
 }
 
-// The network link from its own part of the file, which starts at the place at.
-fn network_in(v: &[u8], at: usize) -> NetworkRead
-    requires { ⌜ (0x14 ≤ length (now v)) × (at + length (now v) ≤ 65536) ⌝ }
-    ensures { λ r. ⌜ NetworkAnswer at (now (v .entry)) r ⌝ }
+// The strings of the network link, which is given as its own part of the file.
+fn network_in(v: &[u8]) -> NetworkRead
+    requires { ⌜ (0x14 ≤ length (now v)) × (length (now v) ≤ 65536) ⌝ }
+    ensures { λ r. ⌜ NetworkAnswer (now (v .entry)) r ⌝ }
 {
     let wrong = network_head_wrong(v);
     if wrong != 0 {
@@ -341,50 +378,42 @@ fn network_in(v: &[u8], at: usize) -> NetworkRead
     let unicode = 0x14 < name;
     let both = format::device_unicode_there(unicode, flags);
     let head = network_head(unicode);
-    let a = text_at(true, false, v, at, head, name);
-    let b = text_at(device, false, v, at, head, octets::u32_at(v, 12) as usize);
-    let c = text_at(unicode, true, v, at, head, field(unicode, v, 20));
-    let d = text_at(both, true, v, at, head, field(unicode, v, 24));
+    let a = text_at(true, false, v, head, name);
+    let b = text_at(device, false, v, head, octets::u32_at(v, 12) as usize);
+    let c = text_at(unicode, true, v, head, field(unicode, v, 20));
+    let d = text_at(both, true, v, head, field(unicode, v, 24));
     let far = apart_four(12, a.span, b.span, c.span, d.span);
     let wrong = unless(
         a.ok,
         8,
         unless(b.ok, 12, unless(c.ok, 20, unless(d.ok, 24, far))),
     );
-    let provider = format::number_if(format::provider_there(flags), octets::u32_at(v, 16));
-    let net = a.body;
-    let device = b.body;
-    let net_unicode = c.body;
-    let device_unicode = d.body;
     network_if(
         wrong,
-        Network {
-            flags,
-            provider,
-            unicode,
-            net,
-            device,
-            net_unicode,
-            device_unicode,
+        NetworkTexts {
+            net: a.len,
+            device: b.len,
+            net_unicode: c.len,
+            device_unicode: d.len,
         },
     )
 }
 
 // Zeros for a network link that is absent or fails.
 fn no_network(wrong: usize) -> NetworkFound
-    ensures { λ r. ⌜ r ≡ makeNetwork wrong noPlace noNetwork ⌝ }
+    ensures { λ r. ⌜ r ≡ makeNetwork wrong noPlace noTexts ⌝ }
 {
     NetworkFound {
         wrong,
         span: format::NO_PLACE,
-        network: format::NO_NETWORK,
+        texts: NO_TEXTS,
     }
 }
 
-// The network link, to which the field at 20 of LinkInfo l leads; l starts at start in the file.
-pub fn network(present: bool, l: &[u8], start: usize, head: usize) -> NetworkFound
-    requires { ⌜ (0x1C ≤ length (now l)) × (start + length (now l) ≤ 65536) ⌝ }
-    ensures { λ r. ⌜ (r ≡ networkFound present (now (l .entry)) start head) × EndSmall (r .span) ⌝ }
+// The network link, to which the field at 20 of LinkInfo l leads.
+pub fn network(present: bool, l: &[u8], head: usize) -> NetworkFound
+    requires { ⌜ (0x1C ≤ length (now l)) × (length (now l) ≤ 65536) ⌝ }
+    ensures { λ r. ⌜ (r ≡ networkFound present (now (l .entry)) head) × EndSmall (r .span) ⌝ }
 {
     if !present {
         return no_network(0);
@@ -394,14 +423,36 @@ pub fn network(present: bool, l: &[u8], start: usize, head: usize) -> NetworkFou
         StructEnd::Outside(wrong) => no_network(wrong),
         StructEnd::At(e) => {
             let v = &l[o..e];
-            match network_in(v, start + o) {
+            match network_in(v) {
                 NetworkRead::Bad(wrong) => no_network(o + wrong),
-                NetworkRead::Good(network) => NetworkFound {
+                NetworkRead::Good(texts) => NetworkFound {
                     wrong: 0,
                     span: Place { at: o, len: e - o },
-                    network,
+                    texts,
                 },
             }
         }
+    }
+}
+
+// What a network link that keeps the rules says; it starts at the place at. The row has the lengths of LinkInfo's texts, those of the network link from the third on.
+pub fn network_of(v: &[u8], at: usize, texts: &[u32; 9]) -> Network
+    requires stands { ⌜ (0x14 ≤ length (now v)) × ((networkUnicode (now v) ≡ true → 0x1C ≤ length (now v)) × (at ≤ 65536)) ⌝ }
+    requires lengths { ⌜ take 4 (drop 2 (now texts)) ≡ networkLengths (networkFields at (now v)) ⌝ }
+    ensures { λ r. ⌜ r ≡ networkFields at (now (v .entry)) ⌝ }
+{
+    let flags = octets::u32_at(v, 4);
+    let name = octets::u32_at(v, 8) as usize;
+    let device = format::device_there(flags);
+    let unicode = 0x14 < name;
+    let both = format::device_unicode_there(unicode, flags);
+    Network {
+        flags,
+        provider: format::number_if(format::provider_there(flags), octets::u32_at(v, 16)),
+        unicode,
+        net: body_at(true, at, name, texts[2]),
+        device: body_at(device, at, octets::u32_at(v, 12) as usize, texts[3]),
+        net_unicode: body_at(unicode, at, field(unicode, v, 20), texts[4]),
+        device_unicode: body_at(both, at, field(unicode, v, 24), texts[5]),
     }
 }

@@ -1,4 +1,4 @@
--- The outline is the shortcut's reading.
+-- The walk over the sections is the shortcut's reading, and the outline tells how it went.
 use mathlib.Core.Path.{_≡_, refl, sym, ap, _∙_}
 use mathlib.Core.List.{List, [], _∷_}
 use mathlib.Core.Bool.{Bool, true, false, cond}
@@ -6,7 +6,7 @@ use Prim.Native.Nat.{ℕ, _+_, _≤_, _<_, _-_}
 use native.Mathlib.Omega.{arith}
 use lib.ListN.{length, drop}
 use lib.Dec.{leb, eqb}
-use borrow.Author.Tests.{le-leb, lt-leb, leb-true, leb-false, eq-eqb, ne-eqb}
+use borrow.Author.Tests.{le-leb, lt-leb, leb-true, leb-false, eq-eqb, eqb-true}
 use Rattle.octets.specs.declared.Cursor.{Cursor}
 use Rattle.format.specs.declared.Profile.{Profile}
 use Rattle.format.specs.declared.Fault.{Fault}
@@ -14,37 +14,36 @@ use Rattle.format.specs.declared.Spot.{Spot}
 use Rattle.format.specs.declared.Fault.the-variants.{Long as LONG, Trail as TRAIL}
 use Rattle.format.specs.declared.Header.{Header}
 use Rattle.format.specs.declared.Record.{Record}
-use Rattle.format.specs.declared.Faulted.{Faulted}
 use Rattle.format.specs.declared.Reading.{Reading}
 use Rattle.format.specs.declared.Place.{Place}
 use Rattle.format.specs.declared.Info.{Info}
 use Rattle.format.specs.declared.Verdict.{Verdict}
 use Rattle.format.specs.declared.Verdict.the-variants.{Accepted, Refused as Stopped}
 use Rattle.format.specs.Bodies.{placeIn, itemsSlot, stringSlot, blocksSlot}
-use Rattle.format.specs.Tests.{section, noSection, spotAt, Outcome, got, refused, Test, _else_at_, tests, andThen, place}
+use Rattle.format.specs.Tests.{section, noSection, spotAt, Outcome, got, refused, _else_at_, tests, place}
 use Rattle.format.specs.Presence.{itemsThere, infoThere, nameBit, relativeBit, workdirBit, argumentsBit, iconBit, stringThere, stringsUnicode}
 use Rattle.format.specs.Header.{header}
-use Rattle.format.specs.Numbers.{answerNumber, answerValue, outcomeNumber, Numbered}
+use Rattle.format.specs.Numbers.{answerNumber, answerValue, outcomeValue, Numbered}
 use Rattle.format.specs.Steps.Firsts.{firsts}
 use Rattle.format.specs.Steps.Answers.{outcomeEnd}
-use Rattle.format.specs.Shortcut.{Section, found, faultedBy, faulted, Tail, Sections, most, tail, sections, shortcut, recordOf, reading, sum}
+use Rattle.format.specs.Demands.{Accepts}
+use Rattle.format.specs.Shortcut.{Section, verdictOf, faultedBy, faulted, Tail, Sections, most, tail, sections, shortcut, recordOf, reading, sum}
 use Rattle.format.proofs.HeaderLaws.{header-size}
-use Rattle.format.proofs.Chains.{got-elim, chain-elim}
-use Rattle.format.proofs.PlaceLaws.{found-elim}
+use Rattle.format.proofs.Chains.{got-elim}
 use Rattle.format.proofs.AnswerLaws.{numbered}
 use Rattle.header.specs.Steps.Taken.{headerTaken, headerAt}
 use Rattle.header.specs.declared.HeaderTaken.{HeaderTaken}
 use Rattle.header.specs.declared.HeaderTaken.the-variants.{Got, Refused}
+use Rattle.blocks.specs.Steps.Walk.{noFirsts}
+use Rattle.info.specs.Steps.Found.{noLengths, textLengths}
 use Rattle.reader.specs.declared.Next.{Next}
 use Rattle.reader.specs.declared.Next.the-variants.{On, Off}
 use Rattle.reader.specs.declared.Outline.{Outline}
 use Rattle.reader.specs.declared.SectionEnds.{SectionEnds}
-use Rattle.reader.specs.declared.Step.{Step}
-use Rattle.reader.specs.declared.InfoStep.{InfoStep}
-use Rattle.reader.specs.declared.BlocksStep.{BlocksStep}
-use Rattle.reader.specs.Steps.EachSection.{itemsStep, stringStep, infoStep, blocksStep, atOf, endsOf, recordFrom, outlineFrom}
-use Rattle.reader.specs.Steps.Finish.{refusedAt, finished, outlineOff, outlineAfter, outlineOf, FirstsOf, nextNumber, nextValue, toTerminal, OutlineAnswer, trailing, faultedTrail, faultAfter, FinishAnswer}
+use Rattle.reader.specs.Steps.EachSection.{Walk, itemsStep, stringStep, infoStep, atOf, endsOf, recordFrom, walkFrom}
+use Rattle.reader.specs.Steps.Finish.{walkOff, walkAfter, walkOf, outlineOff, trailing, endedWith, outlineIs, lengthsIn, FirstsOf, Whole, Told, nextVerdict, nextNumber, nextValue, OutlineAnswer}
 use Rattle.reader.proofs.Runs.{Reached, Runs, sectionOf, then-from, on-not-off}
+use Rattle.reader.proofs.WalkLaws.{Outlines}
 use Rattle.reader.proofs.StepLaws.{items-from, string-from, info-from, BlocksFact, blocks-from}
 
 -- ---- the header
@@ -103,14 +102,14 @@ iconIn v = v .1 .1 .1 .1 .1 .1 .0
 abbrev pub blocksIn : Tail → Section (List ℕ)
 blocksIn v = v .1 .1 .1 .1 .1 .1 .1
 
-abbrev stringHeld : Outline → ℕ → Place
+abbrev stringHeld : Walk → ℕ → Place
 stringHeld o k = placeIn (o .held) (stringSlot k)
 
-abbrev stringsHeld : Outline → List Place
+abbrev stringsHeld : Walk → List Place
 stringsHeld o = stringHeld o nameBit ∷ stringHeld o relativeBit ∷ stringHeld o workdirBit ∷ stringHeld o argumentsBit ∷ stringHeld o iconBit ∷ []
 
 -- each section stands where the outline says, and holds what it holds; of LinkInfo, what its reader answered
-pub record Outlined (s : List ℕ) (h : Header) (o : Outline) (v : Tail) : Type 0 where
+pub record Outlined (s : List ℕ) (h : Header) (o : Walk) (v : Tail) : Type 0 where
   pub read : Info
   pub items : itemsIn v ≡ sectionOf (itemsThere (h .flags)) 76 (o .ends .items) (placeIn (o .held) itemsSlot)
   pub info : infoIn v ≡ sectionOf (infoThere (h .flags)) (o .ends .items) (o .ends .info) read
@@ -122,8 +121,8 @@ pub record Outlined (s : List ℕ) (h : Header) (o : Outline) (v : Tail) : Type 
   pub blocks : BlocksFact s (o .ends .icon) (o .next) (placeIn (o .held) blocksSlot) (o .firsts) (blocksIn v)
   pub held : o .held ≡ recordFrom h (placeIn (o .held) itemsSlot) read (stringsHeld o) (placeIn (o .held) blocksSlot)
 
-pub outline-runs : (profile : Profile) (s : List ℕ) (h : Header) → Runs s (tail profile (h .flags)) 76 (outlineFrom profile s h (record { at = 76 }) .next) (Outlined s h (outlineFrom profile s h (record { at = 76 })))
-unfolding outlineFrom recordFrom atOf endsOf
+pub outline-runs : (profile : Profile) (s : List ℕ) (h : Header) → Runs s (tail profile (h .flags)) 76 (walkFrom profile s h (record { at = 76 }) .next) (Outlined s h (walkFrom profile s h (record { at = 76 })))
+unfolding walkFrom recordFrom atOf endsOf
 outline-runs profile s h =
     let f = h .flags in
     let u = stringsUnicode f in
@@ -180,18 +179,18 @@ section-read false p e a = refl
 holds : {A : Type 0} (b : Bool) (p e : ℕ) (a : A) {c : Section A} → c ≡ sectionOf b p e a → c .read ≡ a
 holds b p e a k = ap (λ (x : Section _). x .read) k ∙ section-read b p e a
 
-abbrev pub outline : Profile → List ℕ → Header → Outline
-outline profile s h = outlineFrom profile s h (record { at = 76 })
+abbrev pub outline : Profile → List ℕ → Header → Walk
+outline profile s h = walkFrom profile s h (record { at = 76 })
 
 pub header-held : (profile : Profile) (s : List ℕ) (h : Header) → outline profile s h .held .header ≡ h
-unfolding outlineFrom recordFrom
+unfolding walkFrom recordFrom
 header-held profile s h = refl
 
 record-held : (profile : Profile) (s : List ℕ) (h : Header) (v : Tail) → Outlined s h (outline profile s h) v → recordOf (headerSection h, v) ≡ outline profile s h .held
 unfolding recordFrom
 record-held profile s h v F =
     let f : ℕ = h .flags in
-    let o : Outline = outline profile s h in
+    let o : Walk = outline profile s h in
     let j : place (blocksIn v .start) (sum (blocksIn v .read)) ≡ placeIn (o .held) blocksSlot
     = ap (λ (p : ℕ). place p (sum (blocksIn v .read))) (F .blocks .start) ∙ sym (F .blocks .body) in
     same
@@ -226,281 +225,263 @@ module _ (profile : Profile) (s : List ℕ) (small : length s ≤ most) where
   unfolding shortcut
   shortcut-ends e = rw (le-leb (length s) most small, e)
 
-  -- a refusal as an answer
-  pub refused-reading : {f : Fault} {q : Spot} → shortcut profile s ≡ refused f q → refusedAt f (q .position) ≡ reading profile s
-  unfolding reading refusedAt
-  refused-reading e = rw e
-
-  accepted-reading : {c : Sections} {n : ℕ} {r : Record} → shortcut profile s ≡ got c n → recordOf c ≡ r → record { verdict = Accepted n; held = r } ≡ reading profile s
-  unfolding reading
-  accepted-reading e k = rw (e, k)
-
   pub header-refused-shortcut : {f : Fault} {q : Spot} → header profile 0 s ≡ refused f q → shortcut profile s ≡ refused f q
   unfolding sections
   header-refused-shortcut e = shortcut-refused (rw e)
-
-  pub header-refused-reading : {f : Fault} {q : Spot} → header profile 0 s ≡ refused f q → refusedAt f (q .position) ≡ reading profile s
-  header-refused-reading e = refused-reading (header-refused-shortcut e)
-
-  pub outline-reading : (h : Header) → header profile 0 s ≡ got h 76
-      → finished (length s) (outlineFrom profile s h (record { at = 76 }) .next) (outlineFrom profile s h (record { at = 76 }) .held) ≡ reading profile s
-  unfolding finished refusedAt
-  outline-reading h e = go (outline profile s h .next) refl
-    where
-      R : Runs s (tail profile (h .flags)) 76 (outline profile s h .next) (Outlined s h (outline profile s h))
-      R = outline-runs profile s h
-
-      ended : (c : Cursor) (x : Reached s (tail profile (h .flags)) 76 (c .at) (Outlined s h (outline profile s h)))
-          → (b : Bool) → eqb (c .at) (length s) ≡ b → finished (length s) (On c) (outline profile s h .held) ≡ reading profile s
-      ended c x true k =
-          let n : 76 + x .count ≡ c .at = x .ends in
-          let q : shortcut profile s ≡ got (headerSection h, x .value) (c .at) = shortcut-ends (sections-got profile s h e (x .is)) ∙ rw (n, k) in
-          rw k (accepted-reading q (record-held profile s h (x .value) (x .fact)))
-      ended c x false k =
-          let n : 76 + x .count ≡ c .at = x .ends in
-          let q : shortcut profile s ≡ refused TRAIL (spotAt (section 9 (c .at - 4)) 4) = shortcut-ends (sections-got profile s h e (x .is)) ∙ rw (n, k) in
-          let m : c .at - 4 + 4 ≡ c .at = omega arith in
-          rw k (rw m at (refused-reading q))
-
-      go : (t : Next) → outline profile s h .next ≡ t → finished (length s) t (outline profile s h .held) ≡ reading profile s
-      go (On c) k = ended c (R .on c k) (eqb (c .at) (length s)) refl
-      go (Off f q) k = refused-reading (shortcut-refused (sections-refused profile s h e (R .off f q k)))
 
 pub long-shortcut : (profile : Profile) (s : List ℕ) → most < length s → shortcut profile s ≡ refused LONG (spotAt noSection most)
 unfolding shortcut
 long-shortcut profile s h = rw (lt-leb (length s) most h)
 
-pub long-reading : (profile : Profile) (s : List ℕ) → most < length s → refusedAt LONG most ≡ reading profile s
-unfolding reading refusedAt
-long-reading profile s h = rw (long-shortcut profile s h)
+-- ---- how the walk went
 
--- ---- numbers and values
+-- all of s was read: its header, and the sections after it up to the last byte
+pub record Walked (profile : Profile) (s : List ℕ) : Type 0 where
+  pub small : length s ≤ most
+  pub head : Header
+  pub is : header profile 0 s ≡ got head 76
+  pub walk : walkOf profile s ≡ outline profile s head
+  pub next : outline profile s head .next ≡ On (record { at = length s })
 
-abbrev nextOf : Outcome Sections → Next
-nextOf (got c n) = On (record { at = n })
-nextOf (refused f p) = Off f p
+pub data Went (profile : Profile) (s : List ℕ) : Type 0 where
+  whole : Walked profile s → Went profile s
+  stopped : (f : Fault) (p : Spot) → outlineIs s (walkOf profile s) ≡ outlineOff f p → shortcut profile s ≡ refused f p → Went profile s
 
-next-number : (o : Outcome Sections) → nextNumber (nextOf o) ≡ outcomeNumber o
-unfolding nextNumber
-next-number (got c n) = refl
-next-number (refused f p) = refl
+module _ (profile : Profile) (s : List ℕ) where
+  pub went : Went profile s
+  unfolding walkOf walkOff endedWith
+  went = go (leb (length s) most) refl refl
+    where
+      ended : length s ≤ most → (h : Header) → header profile 0 s ≡ got h 76 → walkOf profile s ≡ outline profile s h → (c : Cursor) → outline profile s h .next ≡ On c
+          → (b : Bool) → eqb (c .at) (length s) ≡ b → Went profile s
+      ended k h e y c n true q =
+          let m : c .at ≡ length s = eqb-true _ _ q in
+          whole (record { small = k; head = h; is = e; walk = y; next = n ∙ rw m })
+      ended k h e y c n false q =
+          let x = outline-runs profile s h .on c n in
+          let j : 76 + x .count ≡ c .at = x .ends in
+          let m : c .at - 4 + 4 ≡ c .at = omega arith in
+          stopped TRAIL (trailing c) (rw (y, n, q)) (shortcut-ends profile s k (sections-got profile s h e (x .is)) ∙ rw (j, q, m))
 
-next-value : (o : Outcome Sections) → nextValue (nextOf o) ≡ outcomeEnd 0 o
-unfolding nextValue
-next-value (got c n) = omega arith
-next-value (refused f p) = refl
+      from : length s ≤ most → (h : Header) → header profile 0 s ≡ got h 76 → walkOf profile s ≡ outline profile s h → (t : Next) → outline profile s h .next ≡ t → Went profile s
+      from k h e y (On c) n = ended k h e y c n (eqb (c .at) (length s)) refl
+      from k h e y (Off f q) n = stopped f q (rw (y, n)) (shortcut-refused profile s k (sections-refused profile s h e (outline-runs profile s h .off f q n)))
 
-finishes : (n : ℕ) (t : Next) (r : Record) {g : Reading} → g ≡ finished n t r → FinishAnswer n t r g
-unfolding finished refusedAt answerNumber answerValue
-finishes n (On c) r e = record { is = e; number = rw e (number (eqb (c .at) n)); value = rw e (value (eqb (c .at) n)) }
+      after : length s ≤ most → (t : HeaderTaken) → t ≡ headerAt profile s → walkOf profile s ≡ walkAfter profile s t → Went profile s
+      after k (Got h c) i x =
+          let g = header-got profile s i refl in
+          from k h (g .is) (x ∙ ap (walkFrom profile s h) (g .cursor)) (outline profile s h .next) refl
+      after k (Refused f p) i x = stopped f p (rw x) (header-refused-shortcut profile s k (header-refused profile s i refl))
+
+      go : (b : Bool) → leb (length s) most ≡ b → walkOf profile s ≡ cond b (walkAfter profile s (headerAt profile s)) (walkOff LONG (spotAt noSection most)) → Went profile s
+      go true k x = after (leb-true (length s) most k) (headerAt profile s) refl x
+      go false k x = stopped LONG (spotAt noSection most) (rw x) (long-shortcut profile s (leb-false (length s) most k))
+
+-- ---- what the outline tells
+
+module _ {profile : Profile} {s : List ℕ} (W : Walked profile s) where
+  -- the reader of the sections after the header
+  pub walked-tail : Reached s (tail profile (W .head .flags)) 76 (length s) (Outlined s (W .head) (outline profile s (W .head)))
+  walked-tail = outline-runs profile s (W .head) .on (record { at = length s }) (W .next)
+
+  walked-shortcut : shortcut profile s ≡ got (headerSection (W .head), walked-tail .value) (length s)
+  walked-shortcut =
+      let x = walked-tail in
+      let j : 76 + x .count ≡ length s = x .ends in
+      shortcut-ends profile s (W .small) (sections-got profile s (W .head) (W .is) (x .is)) ∙ rw (j, eq-eqb (length s) (length s) refl)
+
+  pub walked-held : reading profile s .held ≡ walkOf profile s .held
+  unfolding reading
+  walked-held = rw (walked-shortcut, W .walk) (record-held profile s (W .head) (walked-tail .value) (walked-tail .fact))
+
+  pub walked-accepts : Accepts profile s (reading profile s .held)
+  unfolding Accepts reading
+  walked-accepts = rw walked-shortcut
+
+  -- the row of an accepted shortcut is that of its blocks
+  walked-firsts : FirstsOf s (reading profile s .held) (walkOf profile s .firsts)
+  walked-firsts lengths n e =
+      let o : Walk = outline profile s (W .head) in
+      let F = walked-tail .fact .blocks in
+      let held : reading profile s .held ≡ o .held = walked-held ∙ ap (λ (w : Walk). w .held) (W .walk) in
+      let start : placeIn (reading profile s .held) blocksSlot .at ≡ o .ends .icon = ap (λ (r : Record). placeIn r blocksSlot .at) held ∙ ap (λ (b : Place). b .at) (F .body) in
+      rw (start, W .walk) (got-elim (λ ls n. o .firsts ≡ firsts s (o .ends .icon) ls) (sym (F .is) ∙ (rw start at e)) (F .first))
+
+refused-not : {f : Fault} {p n : ℕ} → _≡_ {A = Verdict} (Stopped f p) (Accepted n) → ⊥
+refused-not e = let z : _≡_ {A = ℕ} 0 1 = cc in omega arith
+
+-- an accepted shortcut was walked over
+pub whole-walked : {profile : Profile} {s : List ℕ} {e : SectionEnds} {texts : List ℕ} → Whole profile s e texts → Walked profile s
+unfolding Accepts reading
+whole-walked {profile} {s} A = go (went profile s)
   where
-    by : Bool → Reading
-    by b = cond b (record { verdict = Accepted (c .at); held = r }) (refusedAt TRAIL (c .at))
+    go : Went profile s → Walked profile s
+    go (whole W) = W
+    go (stopped f p i e) =
+        absurd (refused-not (ap (λ (o : Outcome Sections). verdictOf o) (sym e) ∙ ap (λ (x : Reading). x .verdict) (A .accepted)))
 
-    number : (b : Bool) → answerNumber (by b .verdict) ≡ outcomeNumber (cond b (got (On c) (c .at)) (refused TRAIL (trailing c)))
-    number true = refl
-    number false = refl
+module _ (profile : Profile) (s : List ℕ) {o : Outline} {texts row : List ℕ} where
+  told-off : {f : Fault} {p : Spot} → o .next ≡ Off f p → shortcut profile s ≡ refused f p → Told profile s o texts row
+  unfolding reading
+  told-off {f} {p} e i = record {
+    on = λ c k. absurd (on-not-off k e);
+    end = λ c k. absurd (on-not-off k e);
+    noted = λ c k. absurd (on-not-off k e);
+    off = λ g q k. same g q k;
+    stopped = λ g q k. rw (same g q k);
+  }
+    where
+      same : (g : Fault) (q : Spot) → o .next ≡ Off g q → shortcut profile s ≡ refused g q
+      same g q k =
+          let z : Off f p ≡ Off g q = sym e ∙ k in
+          let a : f ≡ g = cc in
+          let b : p ≡ q = cc in
+          i ∙ rw (a, b)
 
-    value : (b : Bool) → answerValue (by b .verdict) ≡ outcomeEnd 0 (cond b (got (On c) (c .at)) (refused TRAIL (trailing c)))
-    value true = omega arith
-    value false = refl
-finishes n (Off f p) r e = record { is = e; number = rw e; value = rw e }
+  pub told : o ≡ outlineIs s (walkOf profile s) → texts ≡ lengthsIn (walkOf profile s .held) → row ≡ walkOf profile s .firsts → Told profile s o texts row
+  unfolding endedWith outlineOff
+  told O T F = go (went profile s)
+    where
+      go : Went profile s → Told profile s o texts row
+      go (whole W) =
+          let i : o ≡ record { next = On (record { at = length s }); ends = walkOf profile s .ends } = O ∙ rw (W .walk, W .next, eq-eqb (length s) (length s) refl) in
+          record {
+            on = λ c k. record {
+              accepted = walked-accepts W;
+              held = walked-held W;
+              ends = ap (λ (x : Outline). x .ends) i;
+              lengths = T ∙ ap lengthsIn (sym (walked-held W));
+            };
+            end = λ c k.
+                let z : On (record { at = length s }) ≡ On c = sym (ap (λ (x : Outline). x .next) i) ∙ k in
+                let y : _≡_ {A = Cursor} (record { at = length s }) c = cc in
+                ap (λ (x : Cursor). x .at) (sym y);
+            noted = λ c k. rw F (walked-firsts W);
+            off = λ f p k. absurd (on-not-off (ap (λ (x : Outline). x .next) i) k);
+            stopped = λ f p k. absurd (on-not-off (ap (λ (x : Outline). x .next) i) k);
+          }
+      go (stopped f p i e) = told-off (ap (λ (x : Outline). x .next) (O ∙ i)) e
+
+-- ---- the verdict and the fault
+
+module _ {profile : Profile} {s : List ℕ} {o : Outline} {texts row : List ℕ} (T : Told profile s o texts row) where
+  pub told-accepted : {c : Cursor} → o .next ≡ On c → Accepted (c .at) ≡ reading profile s .verdict
+  unfolding Accepts
+  told-accepted {c} k = ap Accepted (T .end c k) ∙ sym (ap (λ (x : Reading). x .verdict) (T .on c k .accepted))
+
+  pub told-refused : {f : Fault} {p : Spot} → o .next ≡ Off f p → Stopped f (p .position) ≡ reading profile s .verdict
+  told-refused {f} {p} k = sym (ap (λ (x : Reading). x .verdict) (T .stopped f p k))
+
+  pub told-verdict : {v : Verdict} → v ≡ nextVerdict (o .next) → v ≡ reading profile s .verdict
+  unfolding nextVerdict
+  told-verdict {v} e = go (o .next) refl e
+    where
+      go : (t : Next) → o .next ≡ t → v ≡ nextVerdict t → v ≡ reading profile s .verdict
+      go (On c) k q = q ∙ told-accepted k
+      go (Off f p) k q = q ∙ told-refused k
+
+  -- an accepting verdict is that of an outline that goes on
+  pub told-on : {v : Verdict} {n : ℕ} → v ≡ nextVerdict (o .next) → v ≡ Accepted n → Whole profile s (o .ends) texts
+  unfolding nextVerdict
+  told-on {v} {n} e q = go (o .next) refl e
+    where
+      go : (t : Next) → o .next ≡ t → v ≡ nextVerdict t → Whole profile s (o .ends) texts
+      go (On c) k x = T .on c k
+      go (Off f p) k x = absurd (refused-not (sym x ∙ q))
+
+  -- a refusing one that of an outline that stops
+  pub told-left : {v : Verdict} {f : Fault} {n : ℕ} → v ≡ nextVerdict (o .next) → v ≡ Stopped f n → (p : Spot) × ((v ≡ Stopped f (p .position)) × (shortcut profile s ≡ refused f p))
+  unfolding nextVerdict
+  told-left {v} {f} {n} e q = go (o .next) refl e
+    where
+      go : (t : Next) → o .next ≡ t → v ≡ nextVerdict t → (p : Spot) × ((v ≡ Stopped f (p .position)) × (shortcut profile s ≡ refused f p))
+      go (On c) k x = absurd (refused-not (sym q ∙ x))
+      go (Off g p) k x =
+          let z : Stopped g (p .position) ≡ Stopped f n = sym x ∙ q in
+          let w : g ≡ f = cc in
+          (p, (x ∙ rw w, T .off g p k ∙ rw w))
+
+  -- an accepted shortcut with its record
+  pub told-read : {c : Cursor} {r : Record} → o .next ≡ On c → r ≡ reading profile s .held → record { verdict = Accepted (c .at); held = r } ≡ reading profile s
+  unfolding Accepts
+  told-read {c} k e = rw (T .end c k, e) (sym (T .on c k .accepted))
+
+  pub fault-whole : {c : Cursor} → o .next ≡ On c → record { verdict = Accepted (c .at); section = 0; start = 0 } ≡ faulted profile s
+  unfolding faulted reading
+  fault-whole {c} k = go (shortcut profile s) (told-accepted k)
+    where
+      go : (q : Outcome Sections) → Accepted (c .at) ≡ verdictOf q → record { verdict = Accepted (c .at); section = 0; start = 0 } ≡ faultedBy q
+      go (got v n) e = rw e
+      go (refused f p) e = absurd (refused-not (sym e))
+
+  pub fault-off : {f : Fault} {p : Spot} → o .next ≡ Off f p → record { verdict = Stopped f (p .position); section = p .section; start = p .start } ≡ faulted profile s
+  unfolding faulted
+  fault-off {f} {p} k = rw (T .off f p k)
 
 -- the answer has the number and the value of the reading
 pub read-numbered : (profile : Profile) (s : List ℕ) {v : Verdict} → v ≡ reading profile s .verdict → Numbered v (shortcut profile s)
 unfolding reading
 read-numbered profile s e = numbered (shortcut profile s) e
 
+abbrev verdictAt : Next → Verdict
+verdictAt (On c) = Accepted (c .at)
+verdictAt (Off f p) = Stopped f (p .position)
+
+next-number : (t : Next) → nextNumber t ≡ answerNumber (verdictAt t)
+unfolding nextNumber answerNumber
+next-number (On c) = refl
+next-number (Off f p) = refl
+
+next-value : (t : Next) → nextValue t ≡ answerValue (verdictAt t)
+unfolding nextValue answerValue
+next-value (On c) = refl
+next-value (Off f p) = refl
+
+outcome-end : (q : Outcome Sections) → outcomeValue q ≡ outcomeEnd 0 q
+outcome-end (got v n) = omega arith
+outcome-end (refused f p) = refl
+
+outlined : {profile : Profile} {s : List ℕ} {o : Outline} {texts row : List ℕ} → Told profile s o texts row → o ≡ outlineIs s (walkOf profile s) → OutlineAnswer profile s o
+outlined {profile} {s} {o} T e =
+    let n = read-numbered profile s (verdict (o .next) refl) in
+    record { is = e; number = next-number (o .next) ∙ n .0; value = next-value (o .next) ∙ n .1 ∙ outcome-end (shortcut profile s) }
+  where
+    verdict : (t : Next) → o .next ≡ t → verdictAt t ≡ reading profile s .verdict
+    verdict (On c) k = told-accepted T k
+    verdict (Off f p) k = told-refused T k
+
 -- ---- for the code
 
--- the ways out of finishing: the cursor stands at the shortcut's end, or before it, or there was a refusal
-module _ (n : ℕ) (t : Next) (r : Record) where
-  pub finished-whole : {c : Cursor} → t ≡ On c → c .at ≡ n → FinishAnswer n t r (record { verdict = Accepted (c .at); held = r })
-  unfolding finished
-  finished-whole e k = finishes n t r (rw (e, eq-eqb _ _ k))
+-- what the first phase answers, with its two rows
+abbrev pub Phase : Profile → List ℕ → Outline → List ℕ → List ℕ → Type 0
+Phase profile s o texts row =
+    OutlineAnswer profile s o × ((texts ≡ lengthsIn (walkOf profile s .held)) × ((row ≡ walkOf profile s .firsts) × Told profile s o texts row))
 
-  pub finished-trail : {c : Cursor} {g : Reading} → t ≡ On c → (c .at ≡ n → ⊥) → g ≡ refusedAt TRAIL (c .at) → FinishAnswer n t r g
-  unfolding finished
-  finished-trail e k i = finishes n t r (rw (e, ne-eqb _ _ k) i)
+-- the slots of LinkInfo's texts have the lengths of what LinkInfo says
+held-lengths : (profile : Profile) (s : List ℕ) (h : Header) (c : Cursor) → textLengths (walkFrom profile s h c .info) ≡ lengthsIn (walkFrom profile s h c .held)
+unfolding walkFrom recordFrom lengthsIn textLengths
+held-lengths profile s h c = refl
 
-  pub finished-off : {f : Fault} {p : Spot} {g : Reading} → t ≡ Off f p → g ≡ refusedAt f (p .position) → FinishAnswer n t r g
-  unfolding finished
-  finished-off e i = finishes n t r (rw e i)
+module _ (profile : Profile) (s : List ℕ) {o : Outline} {texts row : List ℕ} where
+  phase : o ≡ outlineIs s (walkOf profile s) → texts ≡ lengthsIn (walkOf profile s .held) → row ≡ walkOf profile s .firsts → Phase profile s o texts row
+  phase e t r =
+      let T = told profile s e t r in
+      (outlined T e, (t, (r, T)))
 
--- the outline from its steps
-pub outline-is : (profile : Profile) (s : List ℕ) (h : Header) (c : Cursor) {items name relative workdir arguments icon : Step} {info : InfoStep} {blocks : BlocksStep} {r : Record} {e : SectionEnds} {u t₁ t₂ t₃ t₄ t₅ t₆ t₇ : Bool}
-    → u ≡ stringsUnicode (h .flags)
-    → t₁ ≡ itemsThere (h .flags)
-    → items ≡ itemsStep s t₁ (On c)
-    → t₂ ≡ infoThere (h .flags)
-    → info ≡ infoStep profile s t₂ (items .next)
-    → t₃ ≡ stringThere nameBit (h .flags)
-    → name ≡ stringStep s t₃ 3 u (info .next)
-    → t₄ ≡ stringThere relativeBit (h .flags)
-    → relative ≡ stringStep s t₄ 4 u (name .next)
-    → t₅ ≡ stringThere workdirBit (h .flags)
-    → workdir ≡ stringStep s t₅ 5 u (relative .next)
-    → t₆ ≡ stringThere argumentsBit (h .flags)
-    → arguments ≡ stringStep s t₆ 6 u (workdir .next)
-    → t₇ ≡ stringThere iconBit (h .flags)
-    → icon ≡ stringStep s t₇ 7 u (arguments .next)
-    → blocks ≡ blocksStep s (icon .next)
-    → r ≡ recordFrom h (items .held) (info .held) (name .held ∷ relative .held ∷ workdir .held ∷ arguments .held ∷ icon .held ∷ []) (blocks .held)
-    → e ≡ endsOf (items .next) (info .next) (name .next) (relative .next) (workdir .next) (arguments .next) (icon .next)
-    → record {
-      next = blocks .next;
-      held = r;
-      ends = e;
-      firsts = blocks .firsts;
-    }
-    ≡ outlineFrom profile s h c
-unfolding outlineFrom
-outline-is profile s h c k k₁ p₁ k₂ p₂ k₃ p₃ k₄ p₄ k₅ p₅ k₆ p₆ k₇ p₇ p₈ w q = rw (q, w, p₈, p₇, p₆, p₅, p₄, p₃, p₂, p₁, k₁, k₂, k₃, k₄, k₅, k₆, k₇, k)
+  phase-off : (f : Fault) (p : Spot) → walkOf profile s ≡ walkOff f p → o ≡ outlineOff f p → texts ≡ noLengths → row ≡ noFirsts → Phase profile s o texts row
+  unfolding walkOff endedWith lengthsIn
+  phase-off f p w e t r = phase (e ∙ ap (outlineIs s) (sym w)) (t ∙ ap (λ (x : Walk). lengthsIn (x .held)) (sym w)) (r ∙ ap (λ (x : Walk). x .firsts) (sym w))
 
-refused-not : {f : Fault} {p n : ℕ} → _≡_ {A = Verdict} (Stopped f p) (Accepted n) → ⊥
-refused-not e = let z : _≡_ {A = ℕ} 0 1 = cc in omega arith
+  pub outline-long : most < length s → o ≡ outlineOff LONG (spotAt noSection most) → texts ≡ noLengths → row ≡ noFirsts → Phase profile s o texts row
+  unfolding walkOf
+  outline-long h = phase-off LONG (spotAt noSection most) (rw (lt-leb (length s) most h))
 
-outline-first : (profile : Profile) (s : List ℕ) (h : Header) (c : Cursor) → outline profile s h .next ≡ On c → FirstsOf s (outline profile s h .held) (outline profile s h .firsts)
-outline-first profile s h c k lengths n e =
-    let o : Outline = outline profile s h in
-    let F = ((outline-runs profile s h) .on c k) .fact .blocks in
-    let start : placeIn (o .held) blocksSlot .at ≡ o .ends .icon = ap (λ (b : Place). b .at) (F .body) in
-    rw start (got-elim (λ ls n. o .firsts ≡ firsts s (o .ends .icon) ls) (sym (F .is) ∙ (rw start at e)) (F .first))
+  pub outline-refused : {t : HeaderTaken} {f : Fault} {q : Spot} → length s ≤ most → t ≡ headerAt profile s → t ≡ Refused f q → o ≡ outlineOff f q → texts ≡ noLengths → row ≡ noFirsts → Phase profile s o texts row
+  unfolding walkOf
+  outline-refused {f = f} {q = q} k e i = phase-off f q (rw (le-leb (length s) most k, ← e, i))
 
-module _ (profile : Profile) (s : List ℕ) where
-  -- the number and the value of the answer: the outline goes on where the sections end
-  outline-next : nextOf (toTerminal profile s) ≡ outlineOf profile s .next
-  unfolding outlineOf outlineOff sections
-  outline-next = go (leb (length s) most) refl
-    where
-      next : (h : Header) → header profile 0 s ≡ got h 76 → (t : Next) → outline profile s h .next ≡ t → nextOf (sections profile 0 s) ≡ t
-      next h e (On c) k =
-          let x = outline-runs profile s h .on c k in
-          rw (sections-got profile s h e (x .is), x .ends)
-      next h e (Off f q) k = rw (sections-refused profile s h e (outline-runs profile s h .off f q k))
-
-      after : (t : HeaderTaken) → t ≡ headerAt profile s → nextOf (sections profile 0 s) ≡ outlineAfter profile s t .next
-      after (Got h c) i = let g = header-got profile s i refl in rw (g .cursor) (next h (g .is) (outline profile s h .next) refl)
-      after (Refused f p) i = rw (header-refused profile s i refl)
-
-      go : (b : Bool) → leb (length s) most ≡ b → nextOf (tests noSection (b else LONG at most ∷ []) (sections profile 0 s)) ≡ cond b (outlineAfter profile s (headerAt profile s)) (outlineOff LONG (spotAt noSection most)) .next
-      go true k = after (headerAt profile s) refl
-      go false k = refl
-
-  outlined : {o : Outline} → o ≡ outlineOf profile s → OutlineAnswer profile s o
-  outlined e = record { is = e; number = rw (e, ← outline-next) (next-number (toTerminal profile s)); value = rw (e, ← outline-next) (next-value (toTerminal profile s)) }
-
-  pub outline-long : {o : Outline} → most < length s → o ≡ outlineOff LONG (spotAt noSection most) → OutlineAnswer profile s o
-  unfolding outlineOf
-  outline-long h e = outlined (rw (lt-leb (length s) most h) e)
-
-  pub outline-got : {o : Outline} {t : HeaderTaken} {h : Header} {c : Cursor} → length s ≤ most → t ≡ headerAt profile s → t ≡ Got h c → o ≡ outlineFrom profile s h c → OutlineAnswer profile s o
-  unfolding outlineOf
-  outline-got k e q r = outlined (rw (le-leb (length s) most k, ← e, q) r)
-
-  pub outline-refused : {o : Outline} {t : HeaderTaken} {f : Fault} {q : Spot} → length s ≤ most → t ≡ headerAt profile s → t ≡ Refused f q → o ≡ outlineOff f q → OutlineAnswer profile s o
-  unfolding outlineOf
-  outline-refused k e i r = outlined (rw (le-leb (length s) most k, ← e, i) r)
-
-  -- the outline, finished, is the reading
-  pub outline-read : {o : Outline} {r : Reading} → OutlineAnswer profile s o → FinishAnswer (length s) (o .next) (o .held) r → r ≡ reading profile s
-  unfolding outlineOf outlineOff finished
-  outline-read {o} {r} O F = go (leb (length s) most) refl (O .is)
-    where
-      q : r ≡ finished (length s) (o .next) (o .held)
-      q = F .is
-
-      after : length s ≤ most → (t : HeaderTaken) → t ≡ headerAt profile s → o ≡ outlineAfter profile s t → r ≡ reading profile s
-      after k (Got h c) i x =
-          let g = header-got profile s i refl in
-          let y : o ≡ outlineFrom profile s h (record { at = 76 }) = x ∙ ap (outlineFrom profile s h) (g .cursor) in
-          q ∙ rw y (outline-reading profile s k h (g .is))
-      after k (Refused f p) i x = q ∙ rw x (header-refused-reading profile s k (header-refused profile s i refl))
-
-      go : (b : Bool) → leb (length s) most ≡ b → o ≡ cond b (outlineAfter profile s (headerAt profile s)) (outlineOff LONG (spotAt noSection most)) → r ≡ reading profile s
-      go true k x = after (leb-true (length s) most k) (headerAt profile s) refl x
-      go false k x = q ∙ rw x (long-reading profile s (leb-false (length s) most k))
-
-  -- the row of an accepted shortcut is that of its blocks
-  pub first-accepted : {o : Outline} {r : Reading} {n : ℕ} → OutlineAnswer profile s o → FinishAnswer (length s) (o .next) (o .held) r → r .verdict ≡ Accepted n → FirstsOf s (r .held) (o .firsts)
-  unfolding outlineOf outlineOff finished refusedAt
-  first-accepted {o} {r} {n} O F v = ended (o .next) refl (F .is)
-    where
-      noted : (c : Cursor) → o .next ≡ On c → FirstsOf s (o .held) (o .firsts)
-      noted c k = go (leb (length s) most) (O .is)
-        where
-          after : (t : HeaderTaken) → t ≡ headerAt profile s → o ≡ outlineAfter profile s t → FirstsOf s (o .held) (o .firsts)
-          after (Got h d) i x =
-              let g = header-got profile s i refl in
-              let y : o ≡ outline profile s h = x ∙ ap (outlineFrom profile s h) (g .cursor) in
-              rw y (outline-first profile s h c (ap (λ (z : Outline). z .next) (sym y) ∙ k))
-          after (Refused f p) i x = absurd (on-not-off k (ap (λ (z : Outline). z .next) x))
-
-          go : (b : Bool) → o ≡ cond b (outlineAfter profile s (headerAt profile s)) (outlineOff LONG (spotAt noSection most)) → FirstsOf s (o .held) (o .firsts)
-          go true x = after (headerAt profile s) refl x
-          go false x = absurd (on-not-off k (ap (λ (z : Outline). z .next) x))
-
-      ended : (t : Next) → o .next ≡ t → r ≡ finished (length s) t (o .held) → FirstsOf s (r .held) (o .firsts)
-      ended (On c) k x = whole (eqb (c .at) (length s)) x
-        where
-          whole : (b : Bool) → r ≡ cond b (record { verdict = Accepted (c .at); held = o .held }) (refusedAt TRAIL (c .at)) → FirstsOf s (r .held) (o .firsts)
-          whole true y = rw y (noted c k)
-          whole false y = absurd (refused-not (ap (λ (z : Reading). z .verdict) (sym y) ∙ v))
-      ended (Off f p) k x = absurd (refused-not (ap (λ (z : Reading). z .verdict) (sym x) ∙ v))
-
--- ---- where the fault stands
-
--- the header is at least there
-long-enough : (profile : Profile) (s : List ℕ) (c : Sections) (n : ℕ) → sections profile 0 s ≡ got c n → 76 ≤ n
-unfolding sections
-long-enough profile s c n e =
-    chain-elim (found (header profile)) (λ (h : Section Header). tail profile (h .read .flags)) 0 s (λ c n. 76 ≤ n)
-    (λ a k b m i j. let z : 76 ≤ k = found-elim (header profile) 0 s (λ a k. 76 ≤ k) (λ h k x. omega (arith, header-size profile 0 s h k x)) a k i in omega arith)
-    c n e
-
-module _ (profile : Profile) (s : List ℕ) {o : Outline} (O : OutlineAnswer profile s o) where
-  next-is : o .next ≡ nextOf (toTerminal profile s)
-  next-is = ap (λ (x : Outline). x .next) (O .is) ∙ sym (outline-next profile s)
-
-  fault-is : faulted profile s ≡ faultAfter (length s) (nextOf (toTerminal profile s))
-  unfolding faulted faultAfter shortcut
-  fault-is = go (leb (length s) most)
-    where
-      ends : (n : ℕ) (c : Sections) → 76 ≤ n → (b : Bool)
-          → faultedBy (cond b (got c n) (refused TRAIL (spotAt (section 9 (n - 4)) 4))) ≡ cond b (record { verdict = Accepted n; section = 0; start = 0 }) (faultedTrail (record { at = n }))
-      ends n c h true = refl
-      ends n c h false = let m : n - 4 + 4 ≡ n = omega arith in rw m
-
-      after : (r : Outcome Sections) → sections profile 0 s ≡ r
-          → faultedBy (andThen r (λ c n. tests (section 9 (n - 4)) (eqb n (length s) else TRAIL at 4 ∷ []) (got c n))) ≡ faultAfter (length s) (nextOf r)
-      after (got c n) i = ends n c (long-enough profile s c n i) (eqb n (length s))
-      after (refused f w) i = refl
-
-      go : (b : Bool) → faultedBy (cond b (andThen (sections profile 0 s) (λ c n. tests (section 9 (n - 4)) (eqb n (length s) else TRAIL at 4 ∷ []) (got c n))) (refused LONG (spotAt noSection most)))
-          ≡ faultAfter (length s) (nextOf (cond b (sections profile 0 s) (refused LONG (spotAt noSection most))))
-      go true = after (sections profile 0 s) refl
-      go false = refl
-
-  pub fault-whole : {c : Cursor} → o .next ≡ On c → c .at ≡ length s → record { verdict = Accepted (c .at); section = 0; start = 0 } ≡ faulted profile s
-  unfolding faultAfter
-  fault-whole e k = sym (fault-is ∙ ap (faultAfter (length s)) (sym next-is ∙ e) ∙ rw (eq-eqb _ _ k))
-
-  pub fault-trail : {c : Cursor} {g : Faulted} → o .next ≡ On c → (c .at ≡ length s → ⊥) → g ≡ faultedTrail c → g ≡ faulted profile s
-  unfolding faultAfter
-  fault-trail e k i = i ∙ sym (fault-is ∙ ap (faultAfter (length s)) (sym next-is ∙ e) ∙ rw (ne-eqb _ _ k))
-
-  pub fault-off : {f : Fault} {p : Spot} → o .next ≡ Off f p → record { verdict = Stopped f (p .position); section = p .section; start = p .start } ≡ faulted profile s
-  unfolding faultAfter
-  fault-off e = sym (fault-is ∙ ap (faultAfter (length s)) (sym next-is ∙ e))
-
-  -- the terminal block stands before the cursor
-  pub on-four : {c : Cursor} → o .next ≡ On c → 4 ≤ c .at
-  on-four {c} e = go (leb (length s) most) (sections profile 0 s) refl (sym next-is ∙ e)
-    where
-      go : (b : Bool) (r : Outcome Sections) → sections profile 0 s ≡ r → nextOf (cond b r (refused LONG (spotAt noSection most))) ≡ On c → 4 ≤ c .at
-      go true (got x n) i k =
-          let d : _≡_ {A = Cursor} (record { at = n }) c = cc in
-          let m : n ≡ c .at = ap (λ (y : Cursor). y .at) d in
-          omega (arith, long-enough profile s x n i)
-      go true (refused f w) i k = absurd (on-not-off k refl)
-      go false r i k = absurd (on-not-off k refl)
+  pub outline-got : {t : HeaderTaken} {h : Header} {c : Cursor} → length s ≤ most → t ≡ headerAt profile s → t ≡ Got h c → Outlines profile s h c o texts row → Phase profile s o texts row
+  unfolding walkOf
+  outline-got {h = h} {c = c} k e i (x, (t, r)) =
+      let w : walkOf profile s ≡ walkFrom profile s h c = rw (le-leb (length s) most k, ← e, i) in
+      phase (x ∙ ap (outlineIs s) (sym w)) (t ∙ held-lengths profile s h c ∙ ap (λ (y : Walk). lengthsIn (y .held)) (sym w)) (r ∙ ap (λ (y : Walk). y .firsts) (sym w))

@@ -18,12 +18,11 @@ use Rattle.format.specs.Blocks.{blocks}
 use Rattle.format.specs.Steps.Firsts.{firsts}
 use Rattle.format.specs.Shortcut.{Section, found, sectionIf, sum}
 use Rattle.single.specs.Steps.Taken.{placeTaken, stringAt, itemsAt}
-use Rattle.info.specs.Steps.Taken.{infoTaken, infoAt}
-use Rattle.blocks.specs.Steps.Walk.{blocksTaken, firstsBy, blocksRead}
+use Rattle.info.specs.Steps.Taken.{infoTaken, infoAt, saidBy, infoHeld}
+use Rattle.blocks.specs.Steps.Walk.{blocksTaken, firstsBy, blocksAt, blocksFirsts}
 use Rattle.reader.specs.declared.Next.{Next}
 use Rattle.reader.specs.declared.Next.the-variants.{On, Off}
-use Rattle.reader.specs.declared.BlocksStep.{BlocksStep}
-use Rattle.reader.specs.Steps.EachSection.{step, stepInfo, settled, itemsOn, itemsStep, stringOn, stringStep, settledInfo, infoOn, infoStep, settledBlocks, blocksOn, blocksStep, atOf}
+use Rattle.reader.specs.Steps.EachSection.{BlocksStep, step, stepInfo, settled, itemsOn, itemsStep, stringOn, stringStep, nextInfo, infoOn, infoStep, settledBlocks, blocksOn, blocksStep, atOf}
 use Rattle.reader.proofs.Runs.{Runs, on-not-off, sectionOf, Stepped, section-runs, From}
 
 -- ---- what a section leads to
@@ -100,16 +99,15 @@ string-from s b k u t =
 -- ---- LinkInfo
 
 info-on : (b : Bool) (c : Cursor) (o : Outcome Info)
-    → (cond b (settledInfo (infoTaken (c .at) o)) (stepInfo (On c) noInfo) .next ≡ cond b (nextOf (c .at) o) (On c))
-    × (cond b (settledInfo (infoTaken (c .at) o)) (stepInfo (On c) noInfo) .held ≡ cond b (heldOf noInfo o) noInfo)
-unfolding settledInfo
+    → (cond b (stepInfo (nextInfo (infoTaken (c .at) o)) (saidBy o)) (stepInfo (On c) noInfo) .next ≡ cond b (nextOf (c .at) o) (On c))
+    × (cond b (stepInfo (nextInfo (infoTaken (c .at) o)) (saidBy o)) (stepInfo (On c) noInfo) .held ≡ cond b (heldOf noInfo o) noInfo)
 info-on true c (got i n) = (refl, refl)
 info-on true c (refused f q) = (refl, refl)
 info-on false c o = (refl, refl)
 
 pub info-from : (profile : Profile) (s : List ℕ) (b : Bool) (t : Next)
     → From s (sectionIf b noInfo (info profile)) t (infoStep profile s b t .next) (λ c. c ≡ sectionOf b (atOf t) (atOf (infoStep profile s b t .next)) (infoStep profile s b t .held))
-unfolding infoStep infoOn infoAt
+unfolding infoStep infoOn infoAt infoHeld
 info-from profile s b t =
     section-from s (info profile) b noInfo (infoStep profile s b t .held) t (infoStep profile s b t .next)
     (λ c e. rw e (info-on b c (info profile (c .at) (drop (c .at) s)))) (λ f q e. rw e)
@@ -159,7 +157,7 @@ blocks-runs s p r e = go (blocks p (drop p s)) refl e
     }
 
 pub blocks-from : (s : List ℕ) (t : Next) → From s (found blocks) t (blocksStep s t .next) (BlocksFact s (atOf t) (blocksStep s t .next) (blocksStep s t .held) (blocksStep s t .firsts))
-unfolding blocksStep blocksOn blocksRead atOf
+unfolding blocksStep blocksOn blocksAt blocksFirsts atOf
 blocks-from s t = record {
   runs = λ c e.
       let at : atOf t ≡ c .at = ap atOf e in

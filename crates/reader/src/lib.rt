@@ -1,9 +1,8 @@
-// Reading a shortcut: its sections one after another, by a cursor that goes on or has been refused.
+// Reading a shortcut in two phases: its sections one after another, up to the first that is refused; and of an accepted one its record, by where its sections end and how long its texts are.
+use fields::put_place;
 use format::Fault;
 use format::Faulted;
 use format::Header;
-use format::Info;
-use format::Link;
 use format::Place;
 use format::Profile;
 use format::Reading;
@@ -16,39 +15,25 @@ use header::HeaderTaken;
 use info::InfoTaken;
 use octets::Cursor;
 ghost use mathlib.Core.Path.{_≡_};
-ghost use mathlib.Core.List.{[], _∷_};
-ghost use Prim.Native.Nat.{_≤_};
-ghost use lib.ListN.{length};
-ghost use Rattle.format.specs.Info.{noInfo, linkOf};
+ghost use mathlib.Core.Bool.{true, cond, _||_};
+ghost use Prim.Native.Nat.{_+_, _-_, _≤_};
+ghost use lib.ListN.{length, replicate};
+ghost use Rattle.format.specs.Tests.{place, noPlace};
 ghost use Rattle.format.specs.Numbers.{Numbered};
+ghost use Rattle.format.specs.Bodies.{placeIn, itemsSlot, localSlot, netSlot, suffixSlot, stringSlot};
+ghost use Rattle.format.specs.Presence.{infoThere, workdirBit, argumentsBit, localThere, networkThere};
 ghost use Rattle.format.specs.Shortcut.{shortcut, faulted, reading};
-ghost use Rattle.format.specs.Tests.{noPlace};
 ghost use Rattle.blocks.specs.Steps.Walk.{noFirsts};
-ghost use Rattle.reader.specs.Steps.EachSection.{step, stepInfo, settled, itemsOn, itemsStep, stringOn, stringStep, infoOn, infoStep, stepBlocks, blocksOn, blocksStep, atOf, endsOf, recordFrom, outlineFrom};
-ghost use Rattle.reader.specs.Steps.Finish.{faultedTrail, refusedAt, outlineOff, OutlineAnswer, FinishAnswer};
+ghost use Rattle.info.specs.Steps.Found.{noLengths, textLengths};
+ghost use Rattle.fields.specs.Fields.{fieldsOf};
+ghost use Rattle.reader.specs.Steps.EachSection.{settled, itemsOn, stringOn, infoOn, stringsFrom, walkFrom};
+ghost use Rattle.reader.specs.Steps.Finish.{outlineOff, outlineIs, endedAt, OutlineAnswer, walkOf, lengthsIn, nextVerdict, Told, Whole};
+ghost use Rattle.reader.specs.Steps.Numbers.{withHeader, withStrings};
 
 // Going on from the cursor, or refused with a fault at a position.
 pub enum Next {
     On(Cursor),
     Off(Fault, Spot),
-}
-
-// A section of one body; zeros where it is absent or refused.
-pub struct Step {
-    pub next: Next,
-    pub held: Place,
-}
-
-pub struct InfoStep {
-    pub next: Next,
-    pub held: Info,
-}
-
-// The blocks, with where each known signature first stands.
-pub struct BlocksStep {
-    pub next: Next,
-    pub held: Place,
-    pub firsts: [u32; 11],
 }
 
 // Where each section after the header ends.
@@ -62,313 +47,112 @@ pub struct SectionEnds {
     pub icon: usize,
 }
 
+// How a shortcut was gone through, and where its sections end; zeros beside a refusal.
 pub struct Outline {
     pub next: Next,
-    pub held: Record,
     pub ends: SectionEnds,
-    pub firsts: [u32; 11],
 }
 
-// A section that is there.
-fn settle(t: Taken) -> Step
-    ensures { λ r. ⌜ r ≡ settled t ⌝ }
+// Where the strings end, or why one is refused and where.
+struct StringEnds {
+    name: usize,
+    relative: usize,
+    workdir: usize,
+    arguments: usize,
+    icon: usize,
+}
+
+enum StringsTaken {
+    Got(StringEnds),
+    Refused(Fault, Spot),
+}
+
+// ---- one section
+
+fn settle(t: Taken) -> Next
+    ensures { λ r. ⌜ r ≡ settled t .next ⌝ }
 {
     match t {
-        Taken::Got(b, c) => Step {
-            next: Next::On(c),
-            held: b,
-        },
-        Taken::Refused(f, p) => Step {
-            next: Next::Off(f, p),
-            held: format::NO_PLACE,
-        },
+        Taken::Got(_, c) => Next::On(c),
+        Taken::Refused(f, p) => Next::Off(f, p),
     }
 }
 
-// A refusal goes through every later step.
-fn off(f: Fault, at: Spot) -> Step
-    ensures { λ r. ⌜ r ≡ step (Next.Off f at) noPlace ⌝ }
-{
-    Step {
-        next: Next::Off(f, at),
-        held: format::NO_PLACE,
-    }
-}
-
-fn items_on(s: &[u8], present: bool, c: Cursor) -> Step
-    ensures { λ r. ⌜ r ≡ itemsOn (now (s .entry)) present c ⌝ }
+fn items_on(s: &[u8], present: bool, c: Cursor) -> Next
+    ensures { λ r. ⌜ r ≡ itemsOn (now (s .entry)) present c .next ⌝ }
 {
     if !present {
-        return Step {
-            next: Next::On(c),
-            held: format::NO_PLACE,
-        };
+        return Next::On(c);
     }
     settle(single::items(s, c))
 }
 
-fn items_step(s: &[u8], present: bool, next: Next) -> Step
-    ensures { λ r. ⌜ r ≡ itemsStep (now (s .entry)) present next ⌝ }
-{
-    match next {
-        Next::On(c) => items_on(s, present, c),
-        Next::Off(f, p) => off(f, p),
-    }
-}
-
-fn string_on(s: &[u8], present: bool, section: u32, unicode: bool, c: Cursor) -> Step
-    ensures { λ r. ⌜ r ≡ stringOn (now (s .entry)) present section unicode c ⌝ }
+fn string_on(s: &[u8], present: bool, section: u32, unicode: bool, c: Cursor) -> Next
+    ensures { λ r. ⌜ r ≡ stringOn (now (s .entry)) present section unicode c .next ⌝ }
 {
     if !present {
-        return Step {
-            next: Next::On(c),
-            held: format::NO_PLACE,
-        };
+        return Next::On(c);
     }
     settle(single::string(s, c, section, unicode))
 }
 
-fn string_step(s: &[u8], present: bool, section: u32, unicode: bool, next: Next) -> Step
-    ensures { λ r. ⌜ r ≡ stringStep (now (s .entry)) present section unicode next ⌝ }
-{
-    match next {
-        Next::On(c) => string_on(s, present, section, unicode, c),
-        Next::Off(f, p) => off(f, p),
-    }
-}
-
-fn info_off(f: Fault, at: Spot) -> InfoStep
-    ensures { λ r. ⌜ r ≡ stepInfo (Next.Off f at) noInfo ⌝ }
-{
-    InfoStep {
-        next: Next::Off(f, at),
-        held: format::NO_INFO,
-    }
-}
-
-fn info_on(s: &[u8], present: bool, c: Cursor, profile: Profile) -> InfoStep
-    requires { ⌜ length (now s) ≤ 65536 ⌝ }
-    ensures { λ r. ⌜ r ≡ infoOn profile (now (s .entry)) present c ⌝ }
+// The row gets the lengths of LinkInfo's texts.
+fn info_on(s: &[u8], present: bool, c: Cursor, profile: Profile, texts: &mut [u32; 9]) -> Next
+    requires small { ⌜ length (now s) ≤ 65536 ⌝ }
+    requires row { ⌜ now texts ≡ noLengths ⌝ }
+    ensures answer { λ r. ⌜ r ≡ infoOn profile (now (s .entry)) present c .next ⌝ }
+    ensures lengths { λ _. ⌜ now (texts .exit) ≡ textLengths (infoOn profile (now (s .entry)) present c .held) ⌝ }
 {
     if !present {
-        return InfoStep {
-            next: Next::On(c),
-            held: format::NO_INFO,
-        };
+        return Next::On(c);
     }
-    match info::info(s, c, profile) {
-        InfoTaken::Got(i, d) => InfoStep {
-            next: Next::On(d),
-            held: i,
-        },
-        InfoTaken::Refused(f, p) => info_off(f, p),
+    match info::info(s, c, profile, texts) {
+        InfoTaken::Got(d) => Next::On(d),
+        InfoTaken::Refused(f, p) => Next::Off(f, p),
     }
 }
 
-fn info_step(s: &[u8], present: bool, next: Next, profile: Profile) -> InfoStep
-    requires { ⌜ length (now s) ≤ 65536 ⌝ }
-    ensures { λ r. ⌜ r ≡ infoStep profile (now (s .entry)) present next ⌝ }
-{
-    match next {
-        Next::On(c) => info_on(s, present, c, profile),
-        Next::Off(f, p) => info_off(f, p),
-    }
-}
+// ---- all of them
 
-fn blocks_off(f: Fault, at: Spot) -> BlocksStep
-    ensures { λ r. ⌜ r ≡ stepBlocks (Next.Off f at) noPlace noFirsts ⌝ }
+// The five strings, by LinkFlags f.
+fn strings_on(s: &[u8], f: u32, c: Cursor) -> StringsTaken
+    ensures { λ r. ⌜ r ≡ stringsFrom (now (s .entry)) f c ⌝ }
 {
-    BlocksStep {
-        next: Next::Off(f, at),
-        held: format::NO_PLACE,
-        firsts: [0u32; 11],
-    }
-}
-
-fn blocks_on(s: &[u8], c: Cursor) -> BlocksStep
-    requires { ⌜ length (now s) ≤ 65536 ⌝ }
-    ensures { λ r. ⌜ r ≡ blocksOn (now (s .entry)) c ⌝ }
-{
-    let w = blocks::blocks(s, c);
-    let taken = w.taken;
-    let firsts = w.firsts;
-    match taken {
-        Taken::Got(b, d) => BlocksStep {
-            next: Next::On(d),
-            held: b,
-            firsts,
-        },
-        Taken::Refused(f, p) => blocks_off(f, p),
-    }
-}
-
-fn blocks_step(s: &[u8], next: Next) -> BlocksStep
-    requires { ⌜ length (now s) ≤ 65536 ⌝ }
-    ensures { λ r. ⌜ r ≡ blocksStep (now (s .entry)) next ⌝ }
-{
-    match next {
-        Next::On(c) => blocks_on(s, c),
-        Next::Off(f, p) => blocks_off(f, p),
-    }
-}
-
-// Where the cursor stands; 0 after a refusal, where nobody asks.
-fn at_of(next: Next) -> usize
-    ensures { λ r. ⌜ r ≡ atOf next ⌝ }
-{
-    match next {
-        Next::On(c) => c.at,
-        Next::Off(_, _) => 0,
-    }
-}
-
-fn ends_of(
-    items: Next,
-    info: Next,
-    name: Next,
-    relative: Next,
-    workdir: Next,
-    arguments: Next,
-    icon: Next,
-) -> SectionEnds
-    ensures { λ r. ⌜ r ≡ endsOf items info name relative workdir arguments icon ⌝ }
-{
-    SectionEnds {
-        items: at_of(items),
-        info: at_of(info),
-        name: at_of(name),
-        relative: at_of(relative),
-        workdir: at_of(workdir),
-        arguments: at_of(arguments),
-        icon: at_of(icon),
-    }
-}
-
-// The record: LinkInfo's numbers and kinds, and every place in its slot.
-fn link_of(i: Info) -> Link
-    ensures { λ r. ⌜ r ≡ linkOf i ⌝ }
-{
-    let v = i.volume;
-    let l = v.label;
-    let n = i.network;
-    Link {
-        flags: i.flags,
-        long: i.long,
-        drive: v.drive,
-        serial: v.serial,
-        label_unicode: format::label_unicode(l),
-        network_flags: n.flags,
-        provider: n.provider,
-        network_unicode: n.unicode,
-    }
-}
-
-fn record_of(
-    h: Header,
-    items: Place,
-    i: Info,
-    name: Place,
-    relative: Place,
-    workdir: Place,
-    arguments: Place,
-    icon: Place,
-    blocks: Place,
-) -> Record
-    ensures { λ r. ⌜ r ≡ recordFrom h items i (name ∷ relative ∷ workdir ∷ arguments ∷ icon ∷ []) blocks ⌝ }
-{
-    let v = i.volume;
-    let l = v.label;
-    let label = format::label_place(l);
-    let n = i.network;
-    let local = i.local;
-    let net = n.net;
-    let device = n.device;
-    let net_unicode = n.net_unicode;
-    let device_unicode = n.device_unicode;
-    let suffix = i.suffix;
-    let local_unicode = i.local_unicode;
-    let suffix_unicode = i.suffix_unicode;
-    let further = i.further;
-    Record {
-        header: h,
-        link: link_of(i),
-        places: [
-            items,
-            label,
-            local,
-            net,
-            device,
-            net_unicode,
-            device_unicode,
-            suffix,
-            local_unicode,
-            suffix_unicode,
-            name,
-            relative,
-            workdir,
-            arguments,
-            icon,
-            blocks,
-            further,
-        ],
-    }
-}
-
-// The sections after the header, by its flags.
-fn outline_from(s: &[u8], h: Header, c: Cursor, profile: Profile) -> Outline
-    requires { ⌜ length (now s) ≤ 65536 ⌝ }
-    ensures { λ r. ⌜ r ≡ outlineFrom profile (now (s .entry)) h c ⌝ }
-{
-    let f = h.flags;
     let u = format::strings_unicode(f);
-    let Step {
-        next: items,
-        held: b1,
-    } = items_step(s, format::items_there(f), Next::On(c));
-    let InfoStep {
-        next: info,
-        held: b2,
-    } = info_step(s, format::info_there(f), items, profile);
-    let Step {
-        next: name,
-        held: b3,
-    } = string_step(s, format::name_there(f), 3, u, info);
-    let Step {
-        next: relative,
-        held: b4,
-    } = string_step(s, format::relative_there(f), 4, u, name);
-    let Step {
-        next: workdir,
-        held: b5,
-    } = string_step(s, format::workdir_there(f), 5, u, relative);
-    let Step {
-        next: arguments,
-        held: b6,
-    } = string_step(s, format::arguments_there(f), 6, u, workdir);
-    let Step {
-        next: icon,
-        held: b7,
-    } = string_step(s, format::icon_there(f), 7, u, arguments);
-    let BlocksStep {
-        next,
-        held: b8,
-        firsts,
-    } = blocks_step(s, icon);
-    Outline {
-        next,
-        held: record_of(h, b1, b2, b3, b4, b5, b6, b7, b8),
-        ends: ends_of(items, info, name, relative, workdir, arguments, icon),
-        firsts,
-    }
+    let name = match string_on(s, format::name_there(f), 3, u, c) {
+        Next::On(d) => d,
+        Next::Off(f, p) => return StringsTaken::Refused(f, p),
+    };
+    let relative = match string_on(s, format::relative_there(f), 4, u, name) {
+        Next::On(d) => d,
+        Next::Off(f, p) => return StringsTaken::Refused(f, p),
+    };
+    let workdir = match string_on(s, format::workdir_there(f), 5, u, relative) {
+        Next::On(d) => d,
+        Next::Off(f, p) => return StringsTaken::Refused(f, p),
+    };
+    let arguments = match string_on(s, format::arguments_there(f), 6, u, workdir) {
+        Next::On(d) => d,
+        Next::Off(f, p) => return StringsTaken::Refused(f, p),
+    };
+    let icon = match string_on(s, format::icon_there(f), 7, u, arguments) {
+        Next::On(d) => d,
+        Next::Off(f, p) => return StringsTaken::Refused(f, p),
+    };
+    StringsTaken::Got(StringEnds {
+        name: name.at,
+        relative: relative.at,
+        workdir: workdir.at,
+        arguments: arguments.at,
+        icon: icon.at,
+    })
 }
 
-// A refusal before any section after the header is looked at.
 fn outline_off(f: Fault, at: Spot) -> Outline
     ensures { λ r. ⌜ r ≡ outlineOff f at ⌝ }
 {
     Outline {
         next: Next::Off(f, at),
-        held: format::NO_RECORD,
         ends: SectionEnds {
             items: 0,
             info: 0,
@@ -378,60 +162,279 @@ fn outline_off(f: Fault, at: Spot) -> Outline
             arguments: 0,
             icon: 0,
         },
-        firsts: [0u32; 11],
     }
 }
 
-// What stands where: every section that was reached, the record, and how it went on.
-pub fn outline_of(s: &[u8], profile: Profile) -> Outline
-    ensures { λ r. ⌜ OutlineAnswer profile (now (s .entry)) r ⌝ }
+// The terminal block ends at the cursor: at the end of the shortcut, or bytes are left.
+fn ended(s: &[u8], items: usize, info: usize, e: StringEnds, c: Cursor) -> Outline
+    requires { ⌜ 4 ≤ c .at ⌝ }
+    ensures { λ r. ⌜ r ≡ endedAt (length (now (s .entry))) items info e c ⌝ }
+{
+    let at = c.at;
+    if at != s.len() {
+        return outline_off(Fault::Trail, spot_at(9, at - 4, 4));
+    }
+    Outline {
+        next: Next::On(c),
+        ends: SectionEnds {
+            items,
+            info,
+            name: e.name,
+            relative: e.relative,
+            workdir: e.workdir,
+            arguments: e.arguments,
+            icon: e.icon,
+        },
+    }
+}
+
+// The sections after the header, by its LinkFlags.
+fn outline_from(
+    s: &[u8],
+    h: Header,
+    c: Cursor,
+    profile: Profile,
+    texts: &mut [u32; 9],
+    firsts: &mut [u32; 11],
+) -> Outline
+    requires small { ⌜ length (now s) ≤ 65536 ⌝ }
+    requires rows { ⌜ (now texts ≡ noLengths) × (now firsts ≡ noFirsts) ⌝ }
+    ensures answer { λ r. ⌜ r ≡ outlineIs (now (s .entry)) (walkFrom profile (now (s .entry)) h c) ⌝ }
+    ensures lengths { λ _. ⌜ now (texts .exit) ≡ textLengths (walkFrom profile (now (s .entry)) h c .info) ⌝ }
+    ensures firsts { λ _. ⌜ now (firsts .exit) ≡ walkFrom profile (now (s .entry)) h c .firsts ⌝ }
+{
+    let f = h.flags;
+    let items = match items_on(s, format::items_there(f), c) {
+        Next::On(d) => d,
+        Next::Off(f, p) => return outline_off(f, p),
+    };
+    let info = match info_on(s, format::info_there(f), items, profile, texts) {
+        Next::On(d) => d,
+        Next::Off(f, p) => return outline_off(f, p),
+    };
+    let e = match strings_on(s, f, info) {
+        StringsTaken::Got(e) => e,
+        StringsTaken::Refused(f, p) => return outline_off(f, p),
+    };
+    match blocks::blocks(s, Cursor { at: e.icon }, firsts) {
+        Taken::Got(_, d) => ended(s, items.at, info.at, e, d),
+        Taken::Refused(f, p) => outline_off(f, p),
+    }
+}
+
+// The first phase: how the shortcut goes through the tests, where its sections end, the lengths of LinkInfo's texts, and where each known signature first stands.
+pub fn outline_of(
+    s: &[u8],
+    profile: Profile,
+    texts: &mut [u32; 9],
+    firsts: &mut [u32; 11],
+) -> Outline
+    requires { ⌜ (now texts ≡ noLengths) × (now firsts ≡ noFirsts) ⌝ }
+    ensures answer { λ r. ⌜ OutlineAnswer profile (now (s .entry)) r ⌝ }
+    ensures lengths { λ _. ⌜ now (texts .exit) ≡ lengthsIn (walkOf profile (now (s .entry)) .held) ⌝ }
+    ensures firsts { λ _. ⌜ now (firsts .exit) ≡ walkOf profile (now (s .entry)) .firsts ⌝ }
+    ensures told { λ r. ⌜ Told profile (now (s .entry)) r (now (texts .exit)) (now (firsts .exit)) ⌝ }
 {
     if 65536 < s.len() {
         return outline_off(Fault::Long, spot_at(0, 0, 65536));
     }
     match header::header(s, profile) {
-        HeaderTaken::Got(h, c) => outline_from(s, h, c, profile),
+        HeaderTaken::Got(h, c) => outline_from(s, h, c, profile, texts, firsts),
         HeaderTaken::Refused(f, p) => outline_off(f, p),
     }
 }
 
-fn refused(f: Fault, at: usize) -> Reading
-    ensures { λ r. ⌜ r ≡ refusedAt f at ⌝ }
+// ---- what an accepted shortcut says; the sections end at e, and LinkInfo's texts have these lengths
+
+pub fn flags_of(s: &[u8], e: SectionEnds, texts: &[u32; 9], profile: Profile) -> u32
+    requires { ⌜ Whole profile (now s) e (now texts) ⌝ }
+    ensures { λ r. ⌜ r ≡ reading profile (now (s .entry)) .held .header .flags ⌝ }
 {
-    Reading {
-        verdict: Verdict::Refused(f, at),
-        held: format::NO_RECORD,
-    }
+    octets::u32_at(s, 20)
 }
 
-// n is the shortcut's length.
-pub fn finish(n: usize, next: Next, held: Record) -> Reading
-    ensures { λ r. ⌜ FinishAnswer n next held r ⌝ }
+// LinkInfo's flags; 0 where it is absent.
+pub fn link_flags(s: &[u8], e: SectionEnds, texts: &[u32; 9], profile: Profile) -> u32
+    requires { ⌜ Whole profile (now s) e (now texts) ⌝ }
+    ensures { λ r. ⌜ r ≡ reading profile (now (s .entry)) .held .link .flags ⌝ }
 {
-    match next {
-        Next::On(c) => {
-            let at = c.at;
-            if at == n {
-                return Reading {
-                    verdict: Verdict::Accepted(at),
-                    held,
-                };
-            }
-            refused(Fault::Trail, at)
-        }
-        Next::Off(f, p) => refused(f, p.position),
+    if format::info_there(octets::u32_at(s, 20)) {
+        return octets::u32_at(s, e.items + 8);
     }
+    0
 }
 
-// The verdict on a shortcut, beside its record.
+// The local path, or the net name where there is none.
+pub fn first_text(s: &[u8], e: SectionEnds, texts: &[u32; 9], profile: Profile) -> Place
+    requires whole { ⌜ Whole profile (now s) e (now texts) ⌝ }
+    requires there { ⌜ infoThere (reading profile (now s) .held .header .flags) ≡ true ⌝ }
+    requires either { ⌜ localThere (reading profile (now s) .held .link .flags) || networkThere (reading profile (now s) .held .link .flags) ≡ true ⌝ }
+    ensures { λ r. ⌜ r ≡ cond (localThere (reading profile (now (s .entry)) .held .link .flags)) (placeIn (reading profile (now (s .entry)) .held) localSlot) (placeIn (reading profile (now (s .entry)) .held) netSlot) ⌝ }
+{
+    let a = e.items;
+    let b = e.info;
+    info::first_text(&s[a..b], a, texts)
+}
+
+pub fn suffix_text(s: &[u8], e: SectionEnds, texts: &[u32; 9], profile: Profile) -> Place
+    requires whole { ⌜ Whole profile (now s) e (now texts) ⌝ }
+    requires there { ⌜ infoThere (reading profile (now s) .held .header .flags) ≡ true ⌝ }
+    ensures { λ r. ⌜ r ≡ placeIn (reading profile (now (s .entry)) .held) suffixSlot ⌝ }
+{
+    let a = e.items;
+    let b = e.info;
+    info::suffix_text(&s[a..b], a, texts)
+}
+
+// The body of a string: after its count, up to its end; the empty place where it is absent.
+fn body_if(there: bool, from: usize, to: usize) -> Place
+    requires { ⌜ (there ≡ true → from + 2 ≤ to) × (to ≤ 65536) ⌝ }
+    ensures { λ r. ⌜ r ≡ cond there (place (from + 2) (to - from - 2)) noPlace ⌝ }
+{
+    if there {
+        return Place {
+            at: from + 2,
+            len: to - from - 2,
+        };
+    }
+    format::NO_PLACE
+}
+
+pub fn workdir(s: &[u8], e: SectionEnds, texts: &[u32; 9], profile: Profile) -> Place
+    requires { ⌜ Whole profile (now s) e (now texts) ⌝ }
+    ensures { λ r. ⌜ r ≡ placeIn (reading profile (now (s .entry)) .held) (stringSlot workdirBit) ⌝ }
+{
+    body_if(
+        format::workdir_there(octets::u32_at(s, 20)),
+        e.relative,
+        e.workdir,
+    )
+}
+
+pub fn arguments(s: &[u8], e: SectionEnds, texts: &[u32; 9], profile: Profile) -> Place
+    requires { ⌜ Whole profile (now s) e (now texts) ⌝ }
+    ensures { λ r. ⌜ r ≡ placeIn (reading profile (now (s .entry)) .held) (stringSlot argumentsBit) ⌝ }
+{
+    body_if(
+        format::arguments_there(octets::u32_at(s, 20)),
+        e.workdir,
+        e.arguments,
+    )
+}
+
+// The header's numbers.
+fn put_header(f: &mut [u64], h: Header)
+    requires { ⌜ length (now f) ≡ 51 ⌝ }
+    ensures { λ _. ⌜ now (f .exit) ≡ withHeader (now (f .entry)) h ⌝ }
+{
+    f[0] = h.flags as u64;
+    f[1] = h.attributes as u64;
+    f[2] = h.creation;
+    f[3] = h.access;
+    f[4] = h.write;
+    f[5] = h.file_size as u64;
+    f[6] = format::bits_of(h.icon_index) as u64;
+    f[7] = h.command as u64;
+    f[8] = h.hotkey as u64;
+}
+
+// The places of the strings, slot by slot.
+fn put_strings(s: &[u8], e: SectionEnds, texts: &[u32; 9], profile: Profile, f: &mut [u64])
+    requires { ⌜ Whole profile (now s) e (now texts) × (length (now f) ≡ 51) ⌝ }
+    ensures { λ _. ⌜ now (f .exit) ≡ withStrings (now (f .entry)) (reading profile (now (s .entry)) .held) ⌝ }
+{
+    let flags = octets::u32_at(s, 20);
+    put_place(f, 10, body_if(format::name_there(flags), e.info, e.name));
+    put_place(
+        f,
+        11,
+        body_if(format::relative_there(flags), e.name, e.relative),
+    );
+    put_place(f, 12, workdir(s, e, texts, profile));
+    put_place(f, 13, arguments(s, e, texts, profile));
+    put_place(
+        f,
+        14,
+        body_if(format::icon_there(flags), e.arguments, e.icon),
+    );
+}
+
+// The items' place: they stand after a size, and before two zero bytes.
+fn items(s: &[u8], e: SectionEnds, texts: &[u32; 9], profile: Profile) -> Place
+    requires { ⌜ Whole profile (now s) e (now texts) ⌝ }
+    ensures { λ r. ⌜ r ≡ placeIn (reading profile (now (s .entry)) .held) itemsSlot ⌝ }
+{
+    if format::items_there(octets::u32_at(s, 20)) {
+        return Place {
+            at: 78,
+            len: e.items - 80,
+        };
+    }
+    format::NO_PLACE
+}
+
+// The second phase: the record as 51 numbers, into zeros.
+pub fn put_numbers(s: &[u8], e: SectionEnds, texts: &[u32; 9], profile: Profile, f: &mut [u64])
+    requires whole { ⌜ Whole profile (now s) e (now texts) ⌝ }
+    requires zeros { ⌜ now f ≡ replicate 51 0 ⌝ }
+    ensures { λ _. ⌜ now (f .exit) ≡ fieldsOf (reading profile (now (s .entry)) .held) ⌝ }
+{
+    if format::info_there(octets::u32_at(s, 20)) {
+        let a = e.items;
+        let b = e.info;
+        info::put_info(&s[a..b], a, texts, f);
+    }
+    put_header(f, header::header_fields(s));
+    put_place(f, format::ITEMS, items(s, e, texts, profile));
+    put_strings(s, e, texts, profile, f);
+    let blocks = Place {
+        at: e.icon,
+        len: s.len() - 4 - e.icon,
+    };
+    put_place(f, format::BLOCKS, blocks);
+}
+
+// The record itself.
+pub fn record_of(s: &[u8], e: SectionEnds, texts: &[u32; 9], profile: Profile) -> Record
+    requires { ⌜ Whole profile (now s) e (now texts) ⌝ }
+    ensures { λ r. ⌜ r ≡ reading profile (now (s .entry)) .held ⌝ }
+{
+    let mut f = [0u64; 51];
+    put_numbers(s, e, texts, profile, &mut f);
+    fields::record_from(&f)
+}
+
+// ---- the calls
+
+// The verdict on a shortcut, beside its record; zeros beside a refusal.
 pub fn read(s: &[u8], profile: Profile) -> Reading
     ensures answer { λ r. ⌜ r ≡ reading profile (now (s .entry)) ⌝ }
     ensures numbers { λ r. ⌜ Numbered (r .verdict) (shortcut profile (now (s .entry))) ⌝ }
 {
-    let o = outline_of(s, profile);
+    let mut texts = [0u32; 9];
+    let mut firsts = [0u32; 11];
+    let o = outline_of(s, profile, &mut texts, &mut firsts);
     let next = o.next;
-    let held = o.held;
-    finish(s.len(), next, held)
+    match next {
+        Next::On(c) => Reading {
+            verdict: Verdict::Accepted(c.at),
+            held: record_of(s, o.ends, &texts, profile),
+        },
+        Next::Off(f, p) => Reading {
+            verdict: Verdict::Refused(f, p.position),
+            held: format::NO_RECORD,
+        },
+    }
+}
+
+// The verdict of an outline.
+pub fn verdict_of(next: Next) -> Verdict
+    ensures { λ v. ⌜ v ≡ nextVerdict next ⌝ }
+{
+    match next {
+        Next::On(c) => Verdict::Accepted(c.at),
+        Next::Off(f, p) => Verdict::Refused(f, p.position),
+    }
 }
 
 // The verdict alone.
@@ -439,41 +442,27 @@ pub fn check(s: &[u8], profile: Profile) -> Verdict
     ensures answer { λ r. ⌜ r ≡ reading profile (now (s .entry)) .verdict ⌝ }
     ensures numbers { λ r. ⌜ Numbered r (shortcut profile (now (s .entry))) ⌝ }
 {
-    let g = read(s, profile);
-    g.verdict
-}
-
-// Bytes after the terminal block, which ends at the cursor.
-fn trailing(c: Cursor) -> Faulted
-    requires { ⌜ 4 ≤ c .at ⌝ }
-    ensures { λ r. ⌜ r ≡ faultedTrail c ⌝ }
-{
-    let at = c.at;
-    Faulted {
-        verdict: Verdict::Refused(Fault::Trail, at),
-        section: 9,
-        start: at - 4,
-    }
+    let mut texts = [0u32; 9];
+    let mut firsts = [0u32; 11];
+    let o = outline_of(s, profile, &mut texts, &mut firsts);
+    let next = o.next;
+    verdict_of(next)
 }
 
 // The verdict with the section at fault and where that starts.
 pub fn fault(s: &[u8], profile: Profile) -> Faulted
     ensures { λ r. ⌜ r ≡ faulted profile (now (s .entry)) ⌝ }
 {
-    let o = outline_of(s, profile);
+    let mut texts = [0u32; 9];
+    let mut firsts = [0u32; 11];
+    let o = outline_of(s, profile, &mut texts, &mut firsts);
     let next = o.next;
     match next {
-        Next::On(c) => {
-            let at = c.at;
-            if at == s.len() {
-                return Faulted {
-                    verdict: Verdict::Accepted(at),
-                    section: 0,
-                    start: 0,
-                };
-            }
-            trailing(c)
-        }
+        Next::On(c) => Faulted {
+            verdict: Verdict::Accepted(c.at),
+            section: 0,
+            start: 0,
+        },
         Next::Off(f, p) => Faulted {
             verdict: Verdict::Refused(f, p.position),
             section: p.section,

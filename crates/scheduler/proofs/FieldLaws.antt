@@ -4,19 +4,25 @@ use mathlib.Core.List.{List}
 use mathlib.Core.Bool.{Bool, true, false, not}
 use Prim.Native.Nat.{ℕ, _*_, _≤_}
 use lib.ListN.{length}
+use lib.Dec.{eqb}
 use borrow.Author.Tests.{eq-eqb, ne-eqb, not-true, not-false}
+use Rattle.octets.specs.declared.Cursor.{Cursor}
 use Rattle.format.specs.declared.Profile.{Profile}
 use Rattle.format.specs.declared.Record.{Record}
-use Rattle.format.specs.declared.Reading.{Reading}
 use Rattle.format.specs.declared.Fault.{Fault}
+use Rattle.format.specs.declared.Spot.{Spot}
 use Rattle.format.specs.declared.Verdict.{Verdict}
 use Rattle.format.specs.declared.Verdict.the-variants.{Accepted, Refused}
 use Rattle.format.specs.Shortcut.{reading}
-use Rattle.format.specs.Numbers.{Numbered}
+use Rattle.format.specs.Numbers.{answerValue, Numbered}
 use Rattle.format.specs.Writing.{writing, writeAnswer, writeOutput}
 use Rattle.format.specs.Demands.{Ends}
 use Rattle.format.proofs.Bools.{clash}
 use Rattle.fields.specs.Fields.{fieldCount, fieldsOf, areRecord, recordFrom}
+use Rattle.reader.specs.declared.Next.the-variants.{On, Off}
+use Rattle.reader.specs.declared.Outline.{Outline}
+use Rattle.reader.specs.Steps.Finish.{Told}
+use Rattle.reader.proofs.OutlineLaws.{told-accepted, told-refused}
 use Rattle.scheduler.specs.Code.{codeOf}
 use Rattle.scheduler.specs.Records.{FIELDS, VALUES, readCode, readFields, writeCode, writtenFields, EndsOf}
 use Rattle.scheduler.proofs.PositionLaws.{check-small}
@@ -29,24 +35,28 @@ module _ (profile : Profile) (s f : List ℕ) where
   unfolding readCode readFields
   read-miscounted h = let e = ne-eqb (length f) fieldCount h in (rw e, rw e)
 
-  module _ (h : length f ≡ fieldCount) {g : Reading} (e : g ≡ reading profile s) where
-    pub read-refused : {x : Fault} {p : ℕ} → g .verdict ≡ Refused x p → {r : ℕ} → r ≡ codeOf (g .verdict) → (r ≡ readCode profile s f) × (f ≡ readFields profile s f)
-    unfolding readCode readFields
-    read-refused t c =
-        let n = eq-eqb (length f) fieldCount h in
-        let v : reading profile s .verdict ≡ Refused _ _ = rw e at t in
-        (rw n (rw e at c), rw (n, v))
+  module _ (h : length f ≡ fieldCount) {o : Outline} {texts row : List ℕ} (T : Told profile s o texts row) where
+    counted : eqb (length f) fieldCount ≡ true
+    counted = eq-eqb (length f) fieldCount h
 
-    module _ {n : ℕ} (t : g .verdict ≡ Accepted n) where
-      pub read-small : n ≤ 4194820
-      read-small = let v : reading profile s .verdict ≡ Accepted n = rw e at t in accepted-small v (check-small profile s)
+    module _ {x : Fault} {p : Spot} (k : o .next ≡ Off x p) where
+      pub refusal-small : answerValue (Refused x (p .position)) ≤ 4194820
+      refusal-small = rw (told-refused T k) (check-small profile s)
 
-      pub read-filled : {x : List ℕ} → x ≡ fieldsOf (g .held) → (256 * n ≡ readCode profile s f) × (x ≡ readFields profile s f)
+      pub read-refused : {r : ℕ} → r ≡ codeOf (Refused x (p .position)) → (r ≡ readCode profile s f) × (f ≡ readFields profile s f)
       unfolding readCode readFields
-      read-filled c =
-          let k = eq-eqb (length f) fieldCount h in
-          let v : reading profile s .verdict ≡ Accepted n = rw e at t in
-          (rw k (accepted-code v), rw (k, v) (rw e at c))
+      read-refused c = (rw (counted, ← told-refused T k) c, rw (counted, ← told-refused T k))
+
+    module _ {c : Cursor} (k : o .next ≡ On c) where
+      accepted : reading profile s .verdict ≡ Accepted (c .at)
+      accepted = sym (told-accepted T k)
+
+      pub read-small : c .at ≤ 4194820
+      read-small = accepted-small accepted (check-small profile s)
+
+      pub read-filled : {x : List ℕ} → x ≡ fieldsOf (reading profile s .held) → (256 * c .at ≡ readCode profile s f) × (x ≡ readFields profile s f)
+      unfolding readCode readFields
+      read-filled e = (rw counted (accepted-code accepted), rw (counted, accepted) e)
 
 -- ---- writing from them
 

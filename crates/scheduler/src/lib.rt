@@ -1,6 +1,7 @@
 // What the scheduler calls (FORMAT: The C answers): a number for each answer, its number and its value in one.
 use format::Profile;
 use format::Verdict;
+use reader::Next;
 use shelving::Fetched;
 ghost use mathlib.Core.Path.{_≡_};
 ghost use Prim.Native.Nat.{_≤_};
@@ -153,14 +154,19 @@ pub extern "C" fn herringnet_read(s: &[u8], f: &mut [u64], profile: u32) -> u64
     if f.len() != 51 {
         return 201;
     }
-    let g = reader::read(s, profile_of(profile));
-    let v = g.verdict;
-    let q = g.held;
-    let Verdict::Accepted(n) = v else {
-        return code_of(v);
-    };
-    fields::put_fields(f, q);
-    256 * (n as u64)
+    let p = profile_of(profile);
+    let mut texts = [0u32; 9];
+    let mut firsts = [0u32; 11];
+    let o = reader::outline_of(s, p, &mut texts, &mut firsts);
+    let next = o.next;
+    match next {
+        Next::On(c) => {
+            fields::clear(f);
+            reader::put_numbers(s, o.ends, &texts, p, f);
+            256 * (c.at as u64)
+        }
+        Next::Off(fault, at) => code_of(Verdict::Refused(fault, at.position)),
+    }
 }
 
 #[no_mangle]

@@ -1,7 +1,7 @@
 -- No proper beginning of a shelf is a shelf: every call on one refuses it with SHELF, and touches no buffer.
 use mathlib.Core.Path.{_≡_, refl, sym, ap, _∙_}
-use mathlib.Core.List.{List, [], _∷_, _++_}
-use mathlib.Core.Bool.{Bool, true, false, _&&_}
+use mathlib.Core.List.{List, [], _∷_}
+use mathlib.Core.Bool.{Bool, true, false}
 use Prim.Native.Nat.{ℕ, zero, suc, _+_, _*_, _-_, _≤_, _<_}
 use native.Mathlib.Omega.{arith}
 use native.Mathlib.Nat.{add-sub-of-le}
@@ -16,10 +16,10 @@ use Rattle.format.specs.declared.Verdict.the-variants.{Accepted}
 use Rattle.format.specs.Tests.{all, place}
 use Rattle.format.proofs.Bools.{and-true}
 use Rattle.format.proofs.Chains.{drop-take}
-use Rattle.shelving.specs.Shelf.{shelfCount, tableRows, shelfRows, bodiesStart, rowsFollow, shelfTests, shelf, shelfAnswer, shelfEntry, shelfOne, entryAnswer, oneAnswer}
-use Rattle.shelving.specs.OldForm.{toOldAnswer, toOldOutput}
+use Rattle.shelves.specs.Table.{shelfCount, tableRows, shelfRows, bodiesStart, rowsFollow, shelfTests}
+use Rattle.shelving.specs.Shelf.{shelf, shelfAnswer, shelfEntry, shelfOne, entryAnswer, oneAnswer}
 use Rattle.shelving.specs.Promises.{NoShelf}
-use Rattle.shelving.proofs.TableLaws.{Right, shelf-right}
+use Rattle.shelves.proofs.TableLaws.{Right, shelf-right}
 use Rattle.shelving.proofs.CallLaws.{table-wrong, check-wrong}
 use Rattle.shelving.proofs.FileLaws.{to-told, to-wrong}
 use Rattle.shelving.proofs.ShelfLaws.{shelf-is, gives}

@@ -22,9 +22,11 @@ use Rattle.format.proofs.AnswerLaws.{nowhere, numbered}
 use Rattle.format.proofs.Bools.{by-order}
 use Rattle.format.proofs.Chains.{pass, all-pass, tests-append}
 use Rattle.shelving.specs.declared.Fetched.{Fetched}
-use Rattle.shelving.specs.Shelf.{mostEntries, shelfCount, acceptedEntry, entryTests, bodiesStart, shelfRows, rowsFollow, shelfTests, shelfEntries, shelf, shelfAnswer, shelfRow, shelfEntry, shelfOne, fetchedBy, entryAnswer, oneAnswer}
-use Rattle.shelving.specs.Steps.Apart.{apart, firstBad, tableLengths}
-use Rattle.shelving.proofs.TableLaws.{Right, shelf-right, entries-apart, entries-count, row-inside}
+use Rattle.shelves.specs.Table.{mostEntries, shelfCount, bodiesStart, shelfRows, rowsFollow, shelfTests, shelfEntries, shelfRow}
+use Rattle.shelving.specs.Shelf.{acceptedEntry, entryTests, shelf, shelfAnswer, shelfEntry, shelfOne, fetchedBy, entryAnswer, oneAnswer}
+use Rattle.shelves.specs.Steps.Apart.{apart, tableLengths}
+use Rattle.shelving.specs.Steps.Filing.{firstBad}
+use Rattle.shelves.proofs.TableLaws.{Right, shelf-right, entries-apart, entries-count, row-inside}
 use Rattle.shelving.proofs.EntryLaws.{tests-good, tests-bad, first-le, good-at}
 
 -- ---- the tests of a table, one for all

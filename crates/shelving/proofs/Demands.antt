@@ -18,15 +18,18 @@ use Rattle.format.specs.Contents.{bytesAt}
 use Rattle.format.specs.Writing.{endToEnd}
 use Rattle.format.proofs.AnswerLaws.{nowhere}
 use Rattle.format.proofs.Chains.{passed, pass, pass-all, all-pass}
-use Rattle.shelving.specs.Shelf.{mostEntries, shelfCount, shelfTests, shelfEntries, shelf, shelfAnswer, shelfRow, shelfEntry, shelfOne, fetchedBy, entryAnswer, oneAnswer, entryShown}
-use Rattle.shelving.specs.Building.{shelfBytes, filed, bodiesBy, shelfBuild, buildAnswer, buildOutput}
-use Rattle.shelving.specs.OldForm.{oldFits, oldEntries, oldBytes, fromOld, fromOldAnswer, fromOldOutput, toOld, toOldAnswer, toOldOutput}
-use Rattle.shelving.specs.Steps.Apart.{firstBad}
-use Rattle.shelving.proofs.TableLaws.{shelf-right, entries-count, row-long}
-use Rattle.shelving.proofs.OldLaws.{old-apart}
+use Rattle.shelves.specs.Table.{mostEntries, shelfCount, shelfTests, shelfEntries, shelfRow, shelfBytes}
+use Rattle.shelving.specs.Shelf.{shelf, shelfAnswer, shelfEntry, shelfOne, fetchedBy, entryAnswer, oneAnswer, entryShown}
+use Rattle.shelving.specs.Building.{filed, bodiesBy, shelfBuild, buildAnswer, buildOutput}
+use Rattle.shelves.specs.OldFile.{oldFits, oldEntries, oldBytes}
+use Rattle.shelving.specs.OldForm.{fromOld, fromOldAnswer, fromOldOutput, toOld, toOldAnswer, toOldOutput}
+use Rattle.shelving.specs.Steps.Filing.{firstBad}
+use Rattle.shelves.proofs.TableLaws.{shelf-right, entries-count, row-long}
+use Rattle.shelves.proofs.OldLaws.{old-apart}
 use Rattle.shelving.proofs.EntryLaws.{all-small, filed-all}
 use Rattle.shelving.proofs.CallLaws.{row-entry, row-good, entry-is-off, entry-is-good, one-is-good}
-use Rattle.shelving.proofs.ApartLaws.{length-end, bodies-apart, apart-count}
+use Rattle.shelves.proofs.ApartLaws.{length-end, apart-count}
+use Rattle.shelving.proofs.FileLaws.{bodies-apart}
 use Rattle.shelving.proofs.RoundLaws.{ShelfOf, built, rebuilt, bodies-cut, old-of, old-back}
 use Rattle.shelving.specs.Promises.{Leaves}
 use Rattle.shelving.proofs.ShelfLaws.{Good, small, shelf-is, file-is, build-long, from-long, to-long, entry-is, of-good, gives, leaves, taken}

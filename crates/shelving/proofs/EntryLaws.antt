@@ -1,12 +1,14 @@
 -- The tests of the entries come to the number of the first bad one; and entries that are all good are small.
-use mathlib.Core.Path.{_≡_, refl, ap, _∙_}
+use mathlib.Core.Path.{_≡_, refl, sym, ap, _∙_}
 use mathlib.Core.List.{List, [], _∷_, _++_, map}
-use mathlib.Core.Bool.{Bool, true, false, cond}
+use mathlib.Core.Bool.{Bool, true, false, not, cond}
 use Prim.Native.Nat.{ℕ, zero, suc, _+_, _≤_, _<_}
 use native.Mathlib.Omega.{arith}
-use lib.ListN.{length, getD}
+use lib.ListN.{length, take, drop, getD}
 use lib.Dec.{leb}
-use borrow.Author.Tests.{le-leb, lt-leb}
+use borrow.Author.Tests.{le-leb, lt-leb, not-true, not-false}
+use Rattle.octets.specs.Steps.Puts.{part}
+use Rattle.octets.proofs.PartLaws.{part-in}
 use Rattle.format.specs.declared.Fault.the-variants.{Entry as ENTRY, Room as ROOM}
 use Rattle.format.specs.declared.Profile.the-variants.{Strict}
 use Rattle.format.specs.declared.Verdict.{Verdict}
@@ -16,11 +18,30 @@ use Rattle.format.specs.Shortcut.{most, reading}
 use Rattle.format.proofs.AcceptedLaws.{accepted-held, accepted-limit}
 use Rattle.format.proofs.AnswerLaws.{nowhere}
 use Rattle.format.proofs.Chains.{Pass, no-true}
+use Rattle.shelves.specs.Steps.Apart.{apart, span}
+use Rattle.shelves.proofs.ApartLaws.{left-none, apart-left, first-inside}
 use Rattle.shelving.specs.Shelf.{acceptedBy, acceptedEntry, entryTests}
 use Rattle.shelving.specs.Building.{filed}
-use Rattle.shelving.specs.Steps.Apart.{firstBad}
+use Rattle.shelving.specs.Steps.Filing.{firstBad}
 
 -- ---- the number of the first bad one
+
+module _ (d : List ℕ) (gap : ℕ) (ns : List ℕ) (k p : ℕ) (more : k < length ns) (inside : p + span gap (drop k ns) ≤ length d)
+    {b : Bool} (told : b ≡ acceptedEntry (part d (p + gap) (getD ns k 0))) where
+  first-told : b ≡ acceptedEntry (take (getD ns k 0) (drop (p + gap) d))
+  first-told = told ∙ ap acceptedEntry (sym (part-in d (p + gap) (getD ns k 0) (omega (arith, first-inside d gap ns k p more inside))))
+
+  pub first-stop : not b ≡ true → firstBad (apart gap (drop k ns) (drop p d)) ≡ 0
+  unfolding firstBad
+  first-stop t = ap firstBad (apart-left d gap ns k p more) ∙ rw (← first-told, not-true b t)
+
+  pub first-on : not b ≡ false → firstBad (apart gap (drop k ns) (drop p d)) ≡ 1 + firstBad (apart gap (drop (k + 1) ns) (drop (p + gap + getD ns k 0) d))
+  unfolding firstBad
+  first-on t = ap firstBad (apart-left d gap ns k p more) ∙ rw (← first-told, not-false b t)
+
+pub first-none : (d : List ℕ) (gap : ℕ) (ns : List ℕ) {k : ℕ} → k ≡ length ns → firstBad (apart gap (drop k ns) d) ≡ 0
+unfolding firstBad
+first-none d gap ns e = rw (left-none ns e)
 
 pub first-le : (es : List (List ℕ)) → firstBad es ≤ length es
 unfolding firstBad

@@ -1,15 +1,13 @@
 -- One law for each way out of the calls that make a file.
 use mathlib.Core.Path.{_≡_, refl, sym, ap, _∙_}
-use mathlib.Core.List.{List, [], _++_, map, append-assoc, append-nil}
+use mathlib.Core.List.{List, [], _∷_, map, append-nil}
 use mathlib.Core.Bool.{Bool, true, false, not, cond}
 use Prim.Native.Nat.{ℕ, _+_, _*_, _-_, _≤_, _<_}
 use native.Mathlib.Omega.{arith}
-use lib.ListN.{length, drop, length-append, length-drop, length-map}
+use lib.ListN.{length, drop, length-drop, length-map}
 use lib.Dec.{eqb}
 use borrow.Author.Tests.{le-leb, lt-leb, eqb-true, not-true, not-false}
-use Rattle.octets.specs.Numbers.{little}
 use Rattle.octets.specs.Steps.Puts.{Wrote}
-use Rattle.octets.proofs.NumberLaws.{length-little}
 use Rattle.octets.proofs.WroteLaws.{reword}
 use Rattle.octets.proofs.ChoiceLaws.{cond-first}
 use Rattle.format.specs.declared.Fault.the-variants.{Shelf as SHELF, Entry as ENTRY, Room as ROOM}
@@ -18,17 +16,19 @@ use Rattle.format.specs.declared.Verdict.the-variants.{Accepted, Refused}
 use Rattle.format.specs.Tests.{Outcome, got, refused, Test, noSection, tests, all}
 use Rattle.format.specs.Numbers.{Numbered}
 use Rattle.format.specs.Shortcut.{sum, verdictOf}
-use Rattle.format.specs.Writing.{endToEnd, outputOf}
+use Rattle.format.specs.Writing.{outputOf}
 use Rattle.format.proofs.AnswerLaws.{nowhere, numbered}
 use Rattle.format.proofs.Chains.{pass, all-pass}
 use Rattle.canonical.proofs.FitsLaws.{wrote-whole}
-use Rattle.shelving.specs.Shelf.{mostEntries, shelfCount, bodiesStart, shelfTests, shelfEntries}
-use Rattle.shelving.specs.Building.{tableBytes, shelfBytes, filed, shelfBuild, buildAnswer, buildOutput}
-use Rattle.shelving.specs.OldForm.{oldFits, oldEntries, oldBytes, fromOld, fromOldAnswer, fromOldOutput, toOld, toOldAnswer, toOldOutput}
-use Rattle.shelving.specs.Steps.Apart.{apart, span, firstBad, tableLengths, oldLengths, Small, ShelfRoom, OldRoom, Entries, Filed}
-use Rattle.shelving.proofs.ApartLaws.{apart-count, apart-lengths, bodies-apart, table-long, span-none, span-four, length-end, old-long}
-use Rattle.shelving.proofs.TableLaws.{shelf-right, entries-apart, entries-count, lengths-sum, lengths-count}
-use Rattle.shelving.proofs.OldLaws.{OldApart, old-apart}
+use Rattle.shelves.specs.Table.{mostEntries, shelfCount, bodiesStart, shelfTests, shelfEntries, shelfBytes}
+use Rattle.shelving.specs.Building.{bodiesBy, filed, shelfBuild, buildAnswer, buildOutput}
+use Rattle.shelves.specs.OldFile.{oldFits, oldEntries, oldBytes}
+use Rattle.shelving.specs.OldForm.{fromOld, fromOldAnswer, fromOldOutput, toOld, toOldAnswer, toOldOutput}
+use Rattle.shelves.specs.Steps.Apart.{apart, span, tableLengths, oldLengths, Small, ShelfRoom, OldRoom}
+use Rattle.shelving.specs.Steps.Filing.{firstBad, Entries, Filed}
+use Rattle.shelves.proofs.ApartLaws.{apart-count, apart-lengths, shelf-size, span-none, span-four, old-long}
+use Rattle.shelves.proofs.TableLaws.{shelf-right, entries-apart, entries-count, lengths-sum, lengths-count}
+use Rattle.shelves.proofs.OldLaws.{OldApart, old-apart}
 use Rattle.shelving.proofs.EntryLaws.{first-le, filed-bad, filed-room, filed-all, all-small}
 use Rattle.shelving.proofs.CallLaws.{table-wrong}
 
@@ -43,23 +43,10 @@ module _ (o : Outcome (List ℕ)) (out : List ℕ) where
   unfolding outputOf
   file-made e g = let (l, c) = wrote-whole g in record { answer = rw e (ap Accepted l); output = rw e c }
 
--- ---- the bytes of a shelf, by the lengths of its entries
-
-pub shelf-long : (es : List (List ℕ)) → length (shelfBytes es) ≡ bodiesStart (length es) + sum (map length es)
-unfolding shelfBytes
-shelf-long es =
-    simp (length-append, length-little)
-    (omega (arith, table-long (bodiesStart (length es)) (map length es), length-map es length, length-end es))
-
-module _ (gap : ℕ) (ns d : List ℕ) (inside : span gap ns ≤ length d) where
-  pub shelf-apart : shelfBytes (apart gap ns d) ≡ (little 4 (length ns) ++ tableBytes (bodiesStart (length ns)) ns) ++ endToEnd (apart gap ns d)
-  unfolding shelfBytes
-  shelf-apart =
-      rw (apart-count gap ns d, apart-lengths gap ns d inside)
-      (sym (append-assoc (little 4 (length ns)) (tableBytes (bodiesStart (length ns)) ns) (endToEnd (apart gap ns d))))
-
-  pub shelf-size : length (shelfBytes (apart gap ns d)) ≡ bodiesStart (length ns) + sum ns
-  shelf-size = shelf-long (apart gap ns d) ∙ rw (apart-count gap ns d, apart-lengths gap ns d inside)
+-- bodies end to end have no gaps
+pub bodies-apart : (ns d : List ℕ) → bodiesBy ns d ≡ apart 0 ns d
+bodies-apart [] d = refl
+bodies-apart (n ∷ ns) d = let e : 0 + n ≡ n = omega arith in rw (bodies-apart ns (drop n d), e)
 
 -- ---- a shelf of entries one after another
 

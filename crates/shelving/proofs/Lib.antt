@@ -1,7 +1,3 @@
-pub mod PutLaws
-pub mod ApartLaws
-pub mod TableLaws
-pub mod OldLaws
 pub mod EntryLaws
 pub mod CallLaws
 pub mod FileLaws

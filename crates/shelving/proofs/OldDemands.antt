@@ -2,7 +2,7 @@
 use mathlib.Core.Path.{_≡_, refl, sym, ap, _∙_}
 use mathlib.Core.List.{List, [], _∷_, _++_, map, append-assoc}
 use mathlib.Core.Bool.{Bool, true, false, _&&_, _||_, cond}
-use Prim.Native.Nat.{ℕ, zero, suc, _+_, _-_, _≤_, _<_}
+use Prim.Native.Nat.{ℕ, zero, suc, _+_, _≤_, _<_}
 use native.Mathlib.Omega.{arith}
 use lib.ListN.{length, take, drop, length-append, length-take, length-drop, take-append-drop}
 use lib.Seq.{take-all, take-append-le, take-append-seam, drop-append-le, length-take-le}
@@ -17,14 +17,15 @@ use Rattle.format.specs.Shortcut.{sum}
 use Rattle.format.specs.Writing.{outputOf}
 use Rattle.format.proofs.Bools.{and-true, by-order, clash}
 use Rattle.format.proofs.Chains.{passed}
-use Rattle.shelving.specs.Shelf.{mostEntries}
-use Rattle.shelving.specs.Building.{shelfBytes, filed}
-use Rattle.shelving.specs.OldForm.{oldFits, oldEntries, oldBytes, fromOld, fromOldAnswer, fromOldOutput}
+use Rattle.shelves.specs.Table.{mostEntries, shelfBytes}
+use Rattle.shelving.specs.Building.{filed}
+use Rattle.shelves.specs.OldFile.{oldFits, oldEntries, oldBytes}
+use Rattle.shelving.specs.OldForm.{fromOld, fromOldAnswer, fromOldOutput}
 use Rattle.shelving.specs.Promises.{firstEntries, OldCut, at-an-end, elsewhere}
-use Rattle.shelving.specs.Steps.Apart.{firstBad}
-use Rattle.shelving.proofs.OldLaws.{old-apart}
+use Rattle.shelving.specs.Steps.Filing.{firstBad}
+use Rattle.shelves.proofs.OldLaws.{old-apart}
 use Rattle.shelving.proofs.EntryLaws.{first-good, all-small, filed-all}
-use Rattle.shelving.proofs.FileLaws.{shelf-long}
+use Rattle.shelves.proofs.ApartLaws.{shelf-long}
 use Rattle.shelving.proofs.RoundLaws.{old-of, old-back}
 use Rattle.shelving.proofs.ShelfLaws.{Good, file-is, gives}
 

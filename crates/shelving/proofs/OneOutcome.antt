@@ -1,17 +1,9 @@
 -- Any two outcomes that the contract of a public call allows are equal.
-use mathlib.Core.Path.{refl, sym, _∙_}
+use mathlib.Core.Path.{sym, _∙_}
 use denote.Ref.{now}
 use Rattle.octets.proofs.Outcomes.{OneAnswer, OneShown, OneOutcome}
 use Rattle.shelving.proofs.entries.entry_ok as entry-ok
 use Rattle.shelving.proofs.entries.first_bad as first-bad
-use Rattle.shelving.proofs.entries.adds_up as adds-up
-use Rattle.shelving.proofs.entries.put_shelf as put-shelf
-use Rattle.shelving.proofs.entries.put_old as put-old
-use Rattle.shelving.proofs.old.old_count as old-count
-use Rattle.shelving.proofs.old.old_lengths as old-lengths
-use Rattle.shelving.proofs.table.table_ok as table-ok
-use Rattle.shelving.proofs.table.shelf_row as shelf-row
-use Rattle.shelving.proofs.table.table_lengths as table-lengths
 use Rattle.shelving.proofs.shelf_check as shelf-check
 use Rattle.shelving.proofs.shelf_entry as shelf-entry
 use Rattle.shelving.proofs.shelf_one as shelf-one
@@ -26,30 +18,6 @@ entry-ok-one-outcome κs a r q s t p o = p ∙ sym o
 
 pub first-bad-one-outcome : OneAnswer first-bad.ended first-bad.Reads.Post
 first-bad-one-outcome κs a r q s t p o = p ∙ sym o
-
-pub adds-up-one-outcome : OneAnswer adds-up.ended adds-up.Reads.Post
-adds-up-one-outcome κs a r q s t p o = p ∙ sym o
-
-pub put-shelf-one-outcome : OneOutcome put-shelf.ended (λ κs s. now (s .1 .1 .1 .0)) put-shelf.Reads.Post
-put-shelf-one-outcome κs a r q s t p o = (p .next ∙ sym (o .next), p .content ∙ sym (o .content))
-
-pub put-old-one-outcome : OneOutcome put-old.ended (λ κs s. now (s .1 .1 .1 .0)) put-old.Reads.Post
-put-old-one-outcome κs a r q s t p o = (p .next ∙ sym (o .next), p .content ∙ sym (o .content))
-
-pub old-count-one-outcome : OneAnswer old-count.ended old-count.Reads.Post
-old-count-one-outcome κs a r q s t p o = p ∙ sym o
-
-pub old-lengths-one-outcome : OneOutcome old-lengths.ended (λ κs s. now (s .1 .0)) old-lengths.Reads.Post
-old-lengths-one-outcome κs a r q s t p o = (refl, p ∙ sym o)
-
-pub table-ok-one-outcome : OneAnswer table-ok.ended table-ok.Reads.Post
-table-ok-one-outcome κs a r q s t p o = p ∙ sym o
-
-pub shelf-row-one-outcome : OneAnswer shelf-row.ended shelf-row.Reads.Post
-shelf-row-one-outcome κs a r q s t p o = p ∙ sym o
-
-pub table-lengths-one-outcome : OneOutcome table-lengths.ended (λ κs s. now (s .1 .0)) table-lengths.Reads.Post
-table-lengths-one-outcome κs a r q s t p o = (refl, p ∙ sym o)
 
 pub shelf-check-one-outcome : OneAnswer shelf-check.ended shelf-check.Reads.Post
 shelf-check-one-outcome κs a r q s t p o = p .0 ∙ sym (o .0)

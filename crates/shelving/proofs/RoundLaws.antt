@@ -2,7 +2,7 @@
 use mathlib.Core.Path.{_≡_, refl, sym, ap, _∙_}
 use mathlib.Core.List.{List, [], _∷_, _++_, map, append-assoc}
 use mathlib.Core.Bool.{Bool, true, false, _&&_, _||_, cond}
-use Prim.Native.Nat.{ℕ, zero, suc, _+_, _*_, _-_, _≤_, _<_}
+use Prim.Native.Nat.{ℕ, zero, suc, _+_, _*_, _≤_, _<_}
 use native.Mathlib.Omega.{arith}
 use lib.ListN.{length, take, drop, getD, length-append, length-drop, length-map, take-append-drop}
 use lib.Seq.{drop-drop, length-take-le, take-at, drop-at}
@@ -17,13 +17,13 @@ use Rattle.format.specs.Contents.{bytesAt}
 use Rattle.format.specs.Writing.{endToEnd}
 use Rattle.format.proofs.Bools.{and-true}
 use Rattle.format.proofs.Chains.{pass-all}
-use Rattle.shelving.specs.Shelf.{mostEntries, shelfCount, tableRows, shelfRows, bodiesStart, rowsFollow, shelfTests, shelfEntries}
-use Rattle.shelving.specs.Building.{tableBytes, shelfBytes, bodiesBy}
-use Rattle.shelving.specs.OldForm.{oldFits, oldEntries, oldBytes}
-use Rattle.shelving.specs.Steps.Apart.{tableLengths, Small}
-use Rattle.shelving.proofs.ApartLaws.{small-sum, table-long, span-none, apart-lengths, bodies-apart}
-use Rattle.shelving.proofs.TableLaws.{lengthOf, Right, entries-apart, lengths-sum, entries-count}
-use Rattle.shelving.proofs.FileLaws.{shelf-long}
+use Rattle.shelves.specs.Table.{mostEntries, shelfCount, tableRows, shelfRows, bodiesStart, rowsFollow, shelfTests, shelfEntries, tableBytes, shelfBytes}
+use Rattle.shelving.specs.Building.{bodiesBy}
+use Rattle.shelves.specs.OldFile.{oldFits, oldEntries, oldBytes}
+use Rattle.shelves.specs.Steps.Apart.{tableLengths, Small}
+use Rattle.shelves.proofs.ApartLaws.{small-sum, table-long, span-none, apart-lengths, shelf-long}
+use Rattle.shelving.proofs.FileLaws.{bodies-apart}
+use Rattle.shelves.proofs.TableLaws.{lengthOf, Right, entries-apart, lengths-sum, entries-count}
 
 -- ---- a number of four bytes
 

@@ -17,9 +17,11 @@ use Rattle.format.specs.Shortcut.{sections, shortcut, reading}
 use Rattle.format.specs.Probes.{zeros, Z}
 use Rattle.format.specs.Writing.{outputOf}
 use Rattle.shelving.specs.declared.Fetched.{Fetched}
-use Rattle.shelving.specs.Shelf.{acceptedEntry, shelfRows, shelfTests, shelfEntries, shelf, shelfAnswer, shelfRow, shelfEntry, shelfOne, entryAnswer, oneAnswer}
-use Rattle.shelving.specs.Building.{shelfBytes, filed, shelfBuild, buildAnswer, buildOutput}
-use Rattle.shelving.specs.OldForm.{oldFits, oldEntries, oldBytes, fromOld, fromOldAnswer, fromOldOutput, toOld, toOldOutput}
+use Rattle.shelving.specs.Shelf.{acceptedEntry, shelf, shelfAnswer, shelfEntry, shelfOne, entryAnswer, oneAnswer}
+use Rattle.shelves.specs.Table.{shelfRows, shelfTests, shelfEntries, shelfRow, shelfBytes}
+use Rattle.shelving.specs.Building.{filed, shelfBuild, buildAnswer, buildOutput}
+use Rattle.shelves.specs.OldFile.{oldFits, oldEntries, oldBytes}
+use Rattle.shelving.specs.OldForm.{fromOld, fromOldAnswer, fromOldOutput, toOld, toOldOutput}
 
 abbrev row : ℕ → ℕ → List ℕ
 row start len = little 4 start ++ little 4 len

@@ -2,7 +2,7 @@
 use mathlib.Core.Path.{_≡_, refl, sym, ap, _∙_}
 use mathlib.Core.List.{List, [], _∷_, _++_, map}
 use mathlib.Core.Bool.{true}
-use Prim.Native.Nat.{ℕ, _+_, _≤_, _<_}
+use Prim.Native.Nat.{ℕ, _≤_, _<_}
 use native.Mathlib.Omega.{arith}
 use lib.ListN.{length, take, length-map}
 use lib.Dec.{leb, ltb, eqb}
@@ -14,12 +14,15 @@ use Rattle.format.specs.Tests.{Outcome, got, refused, Test, _else_at_, noSectio
 use Rattle.format.specs.Shortcut.{sum, verdictOf}
 use Rattle.format.specs.Writing.{outputOf}
 use Rattle.format.proofs.Chains.{passed, pass-split, pass-all, got-elim}
-use Rattle.shelving.specs.Shelf.{mostEntries, shelfCount, entryTests, shelfTests, shelfEntries, shelf, shelfRow, shelfEntry}
-use Rattle.shelving.specs.Building.{shelfBytes, filed, bodiesBy, shelfBuild}
-use Rattle.shelving.specs.OldForm.{oldFits, oldEntries, oldBytes, fromOld, toOld}
-use Rattle.shelving.specs.Steps.Apart.{firstBad, Small}
-use Rattle.shelving.proofs.PutLaws.{front-put}
-use Rattle.shelving.proofs.TableLaws.{shelf-right, entries-count}
+use Rattle.shelves.specs.Table.{mostEntries, shelfCount, shelfTests, shelfEntries, shelfRow, shelfBytes}
+use Rattle.shelving.specs.Shelf.{entryTests, shelf, shelfEntry}
+use Rattle.shelving.specs.Building.{filed, bodiesBy, shelfBuild}
+use Rattle.shelves.specs.OldFile.{oldFits, oldEntries, oldBytes}
+use Rattle.shelving.specs.OldForm.{fromOld, toOld}
+use Rattle.shelving.specs.Steps.Filing.{firstBad}
+use Rattle.shelves.specs.Steps.Apart.{Small}
+use Rattle.shelves.proofs.PutLaws.{front-put}
+use Rattle.shelves.proofs.TableLaws.{shelf-right, entries-count}
 use Rattle.shelving.proofs.EntryLaws.{all-good, all-small}
 use Rattle.shelving.proofs.CallLaws.{shelf-good}
 use Rattle.shelving.proofs.RoundLaws.{ShelfOf, built}

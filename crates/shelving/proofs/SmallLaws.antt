@@ -18,17 +18,20 @@ use Rattle.format.specs.Shortcut.{most, sum, verdictOf}
 use Rattle.format.specs.Contents.{bytesAt}
 use Rattle.format.proofs.Bools.{by-order}
 use Rattle.format.proofs.Chains.{pass, all-pass}
-use Rattle.shelving.specs.Shelf.{mostEntries, shelfCount, acceptedEntry, shelfTests, shelfEntries, shelfAnswer, shelfRow, entryAnswer, oneAnswer}
-use Rattle.shelving.specs.Building.{shelfBytes, filed, bodiesBy, shelfBuild, buildAnswer}
-use Rattle.shelving.specs.OldForm.{oldFits, oldEntries, oldBytes, fromOld, fromOldAnswer, toOld, toOldAnswer}
-use Rattle.shelving.specs.Steps.Apart.{firstBad, Small}
+use Rattle.shelves.specs.Table.{mostEntries, shelfCount, shelfTests, shelfEntries, shelfRow, shelfBytes}
+use Rattle.shelving.specs.Shelf.{acceptedEntry, shelfAnswer, entryAnswer, oneAnswer}
+use Rattle.shelving.specs.Building.{filed, bodiesBy, shelfBuild, buildAnswer}
+use Rattle.shelves.specs.OldFile.{oldFits, oldEntries, oldBytes}
+use Rattle.shelving.specs.OldForm.{fromOld, fromOldAnswer, toOld, toOldAnswer}
+use Rattle.shelving.specs.Steps.Filing.{firstBad}
+use Rattle.shelves.specs.Steps.Apart.{Small}
 use Rattle.shelving.specs.Steps.Fetches.{FetchSmall}
-use Rattle.shelving.proofs.ApartLaws.{small-sum, span-four, bodies-apart, apart-count, old-long}
-use Rattle.shelving.proofs.TableLaws.{shelf-right, entries-count, row-is, row-long}
-use Rattle.shelving.proofs.OldLaws.{old-apart}
+use Rattle.shelves.proofs.ApartLaws.{small-sum, span-four, apart-count, old-long, shelf-long}
+use Rattle.shelving.proofs.FileLaws.{bodies-apart, to-wrong}
+use Rattle.shelves.proofs.TableLaws.{shelf-right, entries-count, row-is, row-long}
+use Rattle.shelves.proofs.OldLaws.{old-apart}
 use Rattle.shelving.proofs.EntryLaws.{first-le, good-small, all-small, filed-bad, filed-room, filed-all}
 use Rattle.shelving.proofs.CallLaws.{check-wrong, check-bad, check-good, refusedBy, any-entry, any-one}
-use Rattle.shelving.proofs.FileLaws.{shelf-long, to-wrong}
 
 abbrev pub longest : ℕ
 longest = 4194820

@@ -1,26 +1,15 @@
 -- FORMAT: Shelf building. A shelf from bodies that stand end to end, and their lengths.
-use Prim.Native.Nat.{ℕ, _+_}
-use mathlib.Core.List.{List, [], _∷_, _++_, map}
+use Prim.Native.Nat.{ℕ}
+use mathlib.Core.List.{List, [], _∷_, _++_}
 use lib.ListN.{length, take, drop}
 use lib.Dec.{leb, eqb}
-use Rattle.octets.specs.Numbers.{little}
 use Rattle.format.specs.declared.Fault.the-variants.{Shelf as SHELF, Room as ROOM}
 use Rattle.format.specs.declared.Verdict.{Verdict}
 use Rattle.format.specs.Tests.{Outcome, got, _else_at_, noSection, tests}
 use Rattle.format.specs.Shortcut.{sum, verdictOf}
-use Rattle.format.specs.Writing.{endToEnd, outputOf}
-use Rattle.shelving.specs.Shelf.{mostEntries, bodiesStart, entryTests}
-
--- ---- the bytes of a shelf
-
--- a row for each length, the first body at this start
-abbrev pub tableBytes : ℕ → List ℕ → List ℕ
-tableBytes p [] = []
-tableBytes p (n ∷ ns) = little 4 p ++ (little 4 n ++ tableBytes (p + n) ns)
-
--- count, table, bodies
-unfoldable pub shelfBytes : List (List ℕ) → List ℕ
-shelfBytes es = little 4 (length es) ++ (tableBytes (bodiesStart (length es)) (map length es) ++ endToEnd es)
+use Rattle.format.specs.Writing.{outputOf}
+use Rattle.shelves.specs.Table.{mostEntries, shelfBytes}
+use Rattle.shelving.specs.Shelf.{entryTests}
 
 -- ---- a file w with these entries: ENTRY for a bad one, then ROOM
 

@@ -7,9 +7,10 @@ use Rattle.octets.specs.Parts.{put}
 use Rattle.format.specs.declared.Verdict.{Verdict}
 use Rattle.format.specs.declared.Fault.the-variants.{Shelf as SHELF}
 use Rattle.format.specs.declared.Verdict.the-variants.{Accepted, Refused}
-use Rattle.shelving.specs.Shelf.{mostEntries, shelfAnswer, entryAnswer, oneAnswer}
-use Rattle.shelving.specs.Building.{shelfBytes}
-use Rattle.shelving.specs.OldForm.{oldEntries, oldBytes, toOldAnswer, toOldOutput}
+use Rattle.shelves.specs.Table.{mostEntries, shelfBytes}
+use Rattle.shelving.specs.Shelf.{shelfAnswer, entryAnswer, oneAnswer}
+use Rattle.shelves.specs.OldFile.{oldEntries, oldBytes}
+use Rattle.shelving.specs.OldForm.{toOldAnswer, toOldOutput}
 
 -- the file that a success leaves in front of the buffer
 pub record Leaves (v : Verdict) (x w : List ℕ) : Type 0 where

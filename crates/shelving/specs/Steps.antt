@@ -1,3 +1,3 @@
 -- Steps of the implementation: contracts inside the libraries cite them, and nobody has to believe them.
-pub mod Apart
+pub mod Filing
 pub mod Fetches

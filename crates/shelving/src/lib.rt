@@ -1,20 +1,24 @@
 // The shelf file: testing one, fetching from it, building it, and moving to it from the old form and back (FORMAT: The shelf).
 mod entries;
-mod old;
-mod table;
 
 use format::Fault;
 use format::Place;
 use format::Verdict;
+use shelves::making;
+use shelves::old;
+use shelves::table;
 ghost use mathlib.Core.Path.{_≡_};
 ghost use mathlib.Core.Bool.{true};
 ghost use lib.ListN.{length};
 ghost use Rattle.format.specs.Numbers.{Numbered};
 ghost use Rattle.format.specs.Tests.{all, noPlace};
-ghost use Rattle.shelving.specs.Shelf.{shelfTests, shelfEntries, shelf, shelfAnswer, shelfEntry, shelfOne, entryAnswer, oneAnswer, entryShown, oneShown};
-ghost use Rattle.shelving.specs.Building.{shelfBytes, filed, shelfBuild, buildAnswer, buildOutput};
-ghost use Rattle.shelving.specs.OldForm.{oldBytes, fromOld, fromOldAnswer, fromOldOutput, toOld, toOldAnswer, toOldOutput};
-ghost use Rattle.shelving.specs.Steps.Apart.{apart, firstBad, tableLengths, Entries, Filed};
+ghost use Rattle.shelves.specs.Table.{shelfTests, shelfEntries, shelfBytes};
+ghost use Rattle.shelving.specs.Shelf.{shelf, shelfAnswer, shelfEntry, shelfOne, entryAnswer, oneAnswer, entryShown, oneShown};
+ghost use Rattle.shelving.specs.Building.{filed, shelfBuild, buildAnswer, buildOutput};
+ghost use Rattle.shelves.specs.OldFile.{oldBytes};
+ghost use Rattle.shelving.specs.OldForm.{fromOld, fromOldAnswer, fromOldOutput, toOld, toOldAnswer, toOldOutput};
+ghost use Rattle.shelves.specs.Steps.Apart.{apart, tableLengths};
+ghost use Rattle.shelving.specs.Steps.Filing.{firstBad, Entries, Filed};
 
 // The verdict on a shelf and a number, and where the entry stands; the empty place beside a refusal.
 pub struct Fetched {
@@ -134,7 +138,7 @@ fn shelve(d: &[u8], gap: usize, lengths: &[u64], bytes: usize, out: &mut [u8]) -
     if out.len() < 4 + 8 * n + bytes {
         return Verdict::Refused(Fault::Room, 0);
     }
-    Verdict::Accepted(entries::put_shelf(d, gap, lengths, out))
+    Verdict::Accepted(making::put_shelf(d, gap, lengths, out))
 }
 
 // A shelf of bodies, which stand one after another in a slice, by their lengths.
@@ -146,7 +150,7 @@ pub fn shelf_build(lengths: &[u64], bodies: &[u8], out: &mut [u8]) -> Verdict
     if 64 < lengths.len() {
         return Verdict::Refused(Fault::Shelf, 0);
     }
-    if !entries::adds_up(lengths, bodies.len()) {
+    if !making::adds_up(lengths, bodies.len()) {
         return Verdict::Refused(Fault::Shelf, 0);
     }
     shelve(bodies, 0, lengths, bodies.len(), out)
@@ -181,7 +185,7 @@ fn unshelve(s: &[u8], lengths: &[u64], out: &mut [u8]) -> Verdict
     if out.len() < s.len() - (4 + 4 * n) {
         return Verdict::Refused(Fault::Room, 0);
     }
-    Verdict::Accepted(entries::put_old(s, start, lengths, out))
+    Verdict::Accepted(making::put_old(s, start, lengths, out))
 }
 
 // And back.

@@ -1,31 +1,28 @@
 -- A section asked for by name: where the outline says that it stands.
-use mathlib.Core.Path.{_≡_, refl, sym, ap, _∙_}
+use mathlib.Core.Path.{_≡_, refl, sym, ap, subst₂, _∙_}
 use mathlib.Core.List.{List, [], _∷_, _++_, append-nil}
 use mathlib.Core.Bool.{Bool, true, false, cond}
 use Prim.Native.Nat.{ℕ, zero, suc, _+_, _-_, _≤_, _<_}
 use native.Mathlib.Omega.{arith}
 use lib.ListN.{length, drop}
-use lib.Dec.{leb, eqb}
-use borrow.Author.Tests.{leb-true, leb-false, eq-eqb, ne-eqb}
+use lib.Dec.{eqb}
+use borrow.Author.Tests.{eq-eqb, ne-eqb}
+use Rattle.octets.specs.Numbers.{u32At}
 use Rattle.octets.specs.Steps.Puts.{part}
 use Rattle.octets.specs.declared.Cursor.{Cursor}
 use Rattle.octets.proofs.PartLaws.{part-in}
 use Rattle.format.specs.declared.Profile.{Profile}
 use Rattle.format.specs.declared.Fault.{Fault}
-use Rattle.format.specs.declared.Fault.the-variants.{Long as LONG, Trail as TRAIL}
 use Rattle.format.specs.declared.Header.{Header}
 use Rattle.format.specs.declared.Place.{Place}
+use Rattle.format.specs.declared.Record.{Record}
 use Rattle.format.specs.declared.Spot.{Spot}
-use Rattle.format.specs.Tests.{section, noSection, spotAt, Outcome, got, refused, place, noPlace}
+use Rattle.format.specs.Tests.{Outcome, got, refused, place, noPlace}
 use Rattle.format.specs.Presence.{itemsThere, infoThere, nameBit, relativeBit, workdirBit, argumentsBit, iconBit, stringThere}
-use Rattle.format.specs.Header.{header}
 use Rattle.format.specs.Blocks.{blocks}
-use Rattle.format.specs.Shortcut.{Section, Tail, Sections, most, shortcut, sum}
+use Rattle.format.specs.Shortcut.{Section, Tail, Sections, shortcut, reading, sum}
 use Rattle.format.specs.Bodies.{placeIn, itemsSlot, stringSlot}
 use Rattle.format.specs.Listing.{Row, EndToEnd, row, blockRows, rowsOf, rowsBy, listing, named, nth, sectionPlace, sectionBytes}
-use Rattle.header.specs.Steps.Taken.{headerAt}
-use Rattle.header.specs.declared.HeaderTaken.{HeaderTaken}
-use Rattle.header.specs.declared.HeaderTaken.the-variants.{Got, Refused}
 use Rattle.blocks.specs.Steps.Walk.{nthPlace, nthBlock}
 use Rattle.blocks.proofs.NthLaws.{nth-of}
 use Rattle.format.proofs.BlockLaws.{blocks-walked}
@@ -34,11 +31,13 @@ use Rattle.format.proofs.FoundLaws.{read-end-to-end}
 use Rattle.format.proofs.Demands.{ahead}
 use Rattle.reader.specs.declared.Next.the-variants.{On, Off}
 use Rattle.reader.specs.declared.Outline.{Outline}
-use Rattle.reader.specs.Steps.EachSection.{atOf, outlineFrom}
-use Rattle.reader.specs.Steps.Finish.{outlineOff, outlineAfter, outlineOf}
+use Rattle.reader.specs.declared.SectionEnds.{SectionEnds}
+use Rattle.reader.specs.Steps.EachSection.{Walk, atOf}
+use Rattle.reader.specs.Steps.Finish.{walkOf, outlineIs, lengthsIn, Whole}
 use Rattle.shown.specs.Steps.Asked.{between}
-use Rattle.reader.proofs.Runs.{sectionOf, on-not-off}
-use Rattle.reader.proofs.OutlineLaws.{blocksIn, outline, Outlined, header-got, header-refused, headerSection, header-held, outline-runs, sections-refused, sections-got, shortcut-refused, shortcut-ends, header-refused-shortcut, long-shortcut}
+use Rattle.reader.proofs.Runs.{sectionOf}
+use Rattle.reader.proofs.OutlineLaws.{blocksIn, outline, Outlined, headerSection, header-held, sections-got, shortcut-ends, Walked, walked-tail, whole-walked, told}
+use Rattle.reader.proofs.WholeLaws.{laid, flags-held}
 
 -- ---- rows by name
 
@@ -79,75 +78,40 @@ the-terminal p (n ∷ ns) = let z : p + n + sum ns ≡ p + (n + sum ns) = omega 
 
 -- ---- what the outline says of the listing
 
-data Cases (profile : Profile) (s : List ℕ) (o : Outline) : Type 0 where
-  stopped : (f : Fault) (q : Spot) → o .next ≡ Off f q → shortcut profile s ≡ refused f q → Cases profile s o
-  went : (h : Header) → length s ≤ most → header profile 0 s ≡ got h 76 → o ≡ outline profile s h → Cases profile s o
-
-cases : (profile : Profile) (s : List ℕ) (o : Outline) → o ≡ outlineOf profile s → Cases profile s o
-unfolding outlineOf outlineOff
-cases profile s o e = go (leb (length s) most) refl e
-  where
-    after : length s ≤ most → (t : HeaderTaken) → t ≡ headerAt profile s → o ≡ outlineAfter profile s t → Cases profile s o
-    after k (Got h c) i x = let g = header-got profile s i refl in went h k (g .is) (x ∙ ap (outlineFrom profile s h) (g .cursor))
-    after k (Refused f q) i x = stopped f q (ap (λ (y : Outline). y .next) x) (header-refused-shortcut profile s k (header-refused profile s i refl))
-
-    go : (b : Bool) → leb (length s) most ≡ b → o ≡ cond b (outlineAfter profile s (headerAt profile s)) (outlineOff LONG (spotAt noSection most)) → Cases profile s o
-    go true k x = after (leb-true (length s) most k) (headerAt profile s) refl x
-    go false k x = stopped LONG (spotAt noSection most) (ap (λ (y : Outline). y .next) x) (long-shortcut profile s (leb-false (length s) most k))
-
 refused-listing : (profile : Profile) (s : List ℕ) {f : Fault} {q : Spot} → shortcut profile s ≡ refused f q → listing profile s ≡ []
 unfolding listing
 refused-listing profile s e = rw e
 
-pub off-listing : (profile : Profile) (s : List ℕ) (o : Outline) {f : Fault} {q : Spot} → o ≡ outlineOf profile s → o .next ≡ Off f q → listing profile s ≡ []
-off-listing profile s o {f} {q} e k = go (cases profile s o e)
-  where
-    go : Cases profile s o → listing profile s ≡ []
-    go (stopped g p i j) = refused-listing profile s j
-    go (went h l i x) = refused-listing profile s (shortcut-refused profile s l (sections-refused profile s h i ((outline-runs profile s h) .off f q (ap (λ (y : Outline). y .next) (sym x) ∙ k))))
+-- the rows after the header of an accepted shortcut with these flags
+abbrev rowsAfter : ℕ → SectionEnds → List ℕ → List Row
+rowsAfter f e ns =
+    row 1 (sectionOf (itemsThere f) 76 (e .items) (tt {0}))
+    ++ (row 2 (sectionOf (infoThere f) (e .items) (e .info) (tt {0}))
+    ++ (row 3 (sectionOf (stringThere nameBit f) (e .info) (e .name) (tt {0}))
+    ++ (row 4 (sectionOf (stringThere relativeBit f) (e .name) (e .relative) (tt {0}))
+    ++ (row 5 (sectionOf (stringThere workdirBit f) (e .relative) (e .workdir) (tt {0}))
+    ++ (row 6 (sectionOf (stringThere argumentsBit f) (e .workdir) (e .arguments) (tt {0}))
+    ++ (row 7 (sectionOf (stringThere iconBit f) (e .arguments) (e .icon) (tt {0})) ++ blockRows (e .icon) ns))))))
 
-pub trail-listing : (profile : Profile) (s : List ℕ) (o : Outline) (c : Cursor) → o ≡ outlineOf profile s → o .next ≡ On c → (c .at ≡ length s → ⊥) → listing profile s ≡ []
-trail-listing profile s o c e k d = go (cases profile s o e)
-  where
-    go : Cases profile s o → listing profile s ≡ []
-    go (stopped g p i j) = refused-listing profile s j
-    go (went h l i x) =
-        let r = (outline-runs profile s h) .on c (ap (λ (y : Outline). y .next) (sym x) ∙ k) in
-        let n : 76 + r .count ≡ c .at = r .ends in
-        let z : shortcut profile s ≡ refused TRAIL (spotAt (section 9 (c .at - 4)) 4) = shortcut-ends profile s l (sections-got profile s h i (r .is)) ∙ rw (n, ne-eqb (c .at) (length s) d) in
-        refused-listing profile s z
+abbrev rowsFrom : ℕ → SectionEnds → List ℕ → List Row
+rowsFrom f e ns = record { name = 0; start = 0; len = 76 } ∷ rowsAfter f e ns
 
--- the rows of an accepted shortcut
-abbrev rowsFrom : Outline → List ℕ → List Row
-rowsFrom o ns =
-    let f = o .held .header .flags in
-    row 0 (headerSection (o .held .header))
-    ++ (row 1 (sectionOf (itemsThere f) 76 (o .ends .items) (tt {0}))
-    ++ (row 2 (sectionOf (infoThere f) (o .ends .items) (o .ends .info) (tt {0}))
-    ++ (row 3 (sectionOf (stringThere nameBit f) (o .ends .info) (o .ends .name) (tt {0}))
-    ++ (row 4 (sectionOf (stringThere relativeBit f) (o .ends .name) (o .ends .relative) (tt {0}))
-    ++ (row 5 (sectionOf (stringThere workdirBit f) (o .ends .relative) (o .ends .workdir) (tt {0}))
-    ++ (row 6 (sectionOf (stringThere argumentsBit f) (o .ends .workdir) (o .ends .arguments) (tt {0}))
-    ++ (row 7 (sectionOf (stringThere iconBit f) (o .ends .arguments) (o .ends .icon) (tt {0})) ++ blockRows (o .ends .icon) ns)))))))
-
-pub record AllRows (profile : Profile) (s : List ℕ) (o : Outline) : Type 0 where
+pub record AllRows (profile : Profile) (s : List ℕ) (f : ℕ) (e : SectionEnds) : Type 0 where
   pub lengths : List ℕ
   pub count : ℕ
-  pub is : blocks (o .ends .icon) (drop (o .ends .icon) s) ≡ got lengths count
-  pub last : o .ends .icon + count ≡ length s
-  pub rows : listing profile s ≡ rowsFrom o lengths
+  pub is : blocks (e .icon) (drop (e .icon) s) ≡ got lengths count
+  pub last : e .icon + count ≡ length s
+  pub rows : listing profile s ≡ rowsFrom f e lengths
 
 accepted-listing : (profile : Profile) (s : List ℕ) {c : Sections} {n : ℕ} → shortcut profile s ≡ got c n → listing profile s ≡ rowsOf c
 unfolding listing
 accepted-listing profile s e = rw e
 
-outlined-rows : (profile : Profile) (s : List ℕ) (h : Header) (v : Tail) → Outlined s h (outline profile s h) v → rowsOf (headerSection h, v) ≡ rowsFrom (outline profile s h) (blocksIn v .read)
+outlined-rows : (profile : Profile) (s : List ℕ) (h : Header) (v : Tail) → Outlined s h (outline profile s h) v → rowsOf (headerSection h, v) ≡ rowsFrom (h .flags) (outline profile s h .ends) (blocksIn v .read)
 outlined-rows profile s h v F =
-    let e = header-held profile s h in
     let f = h .flags in
     let o = outline profile s h .ends in
     rw (
-      e,
       F .items,
       row-any 1 (itemsThere f) 76 (o .items) (placeIn (outline profile s h .held) itemsSlot),
       F .info,
@@ -173,32 +137,54 @@ outlined-rows profile s h v F =
     row-any k true p e a = refl
     row-any k false p e a = refl
 
-pub all-rows : (profile : Profile) (s : List ℕ) (o : Outline) (c : Cursor) → o ≡ outlineOf profile s → o .next ≡ On c → c .at ≡ length s → AllRows profile s o
+walked-rows : (profile : Profile) (s : List ℕ) (W : Walked profile s) → AllRows profile s (W .head .flags) (outline profile s (W .head) .ends)
 unfolding atOf
-all-rows profile s o c e k d = go (cases profile s o e)
-  where
-    go : Cases profile s o → AllRows profile s o
-    go (stopped g p i j) = absurd (on-not-off k i)
-    go (went h l i x) =
-        let y : outline profile s h .next ≡ On c = ap (λ (y : Outline). y .next) (sym x) ∙ k in
-        let r = (outline-runs profile s h) .on c y in
-        let n : 76 + r .count ≡ c .at = r .ends in
-        let F = r .fact in
-        let z : shortcut profile s ≡ got (headerSection h, r .value) (c .at) = shortcut-ends profile s l (sections-got profile s h i (r .is)) ∙ rw (n, eq-eqb (c .at) (length s) d) in
-        rw x
-        (record {
-          lengths = blocksIn (r .value) .read;
-          count = blocksIn (r .value) .len;
-          is = F .blocks .is;
-          last = F .blocks .last ∙ ap atOf y ∙ d;
-          rows = accepted-listing profile s z ∙ outlined-rows profile s h (r .value) F;
-        })
+walked-rows profile s W =
+    let h = W .head in
+    let r = walked-tail W in
+    let F = r .fact in
+    let n : 76 + r .count ≡ length s = r .ends in
+    let z : shortcut profile s ≡ got (headerSection h, r .value) (length s) = shortcut-ends profile s (W .small) (sections-got profile s h (W .is) (r .is)) ∙ rw (n, eq-eqb (length s) (length s) refl) in
+    record {
+      lengths = blocksIn (r .value) .read;
+      count = blocksIn (r .value) .len;
+      is = F .blocks .is;
+      last = F .blocks .last ∙ ap atOf (W .next);
+      rows = accepted-listing profile s z ∙ outlined-rows profile s h (r .value) F;
+    }
+
+pub all-rows : {profile : Profile} {s : List ℕ} {e : SectionEnds} {texts : List ℕ} → Whole profile s e texts → {f : ℕ} → f ≡ reading profile s .held .header .flags → AllRows profile s f e
+all-rows {profile} {s} {e} A {f} i =
+    let W = whole-walked A in
+    let held : reading profile s .held ≡ outline profile s (W .head) .held = A .held ∙ ap (λ (w : Walk). w .held) (W .walk) in
+    let flags : f ≡ W .head .flags = i ∙ ap (λ (r : Record). r .header .flags) held ∙ ap (λ (h : Header). h .flags) (header-held profile s (W .head)) in
+    let ends : e ≡ outline profile s (W .head) .ends = A .ends ∙ ap (λ (w : Walk). w .ends) (W .walk) in
+    subst₂ (λ (x : ℕ) (y : SectionEnds). AllRows profile s x y) (sym flags) (sym ends) (walked-rows profile s W)
+
+-- what the outline of s leads to
+module _ (profile : Profile) (s : List ℕ) {o : Outline} (e : o ≡ outlineIs s (walkOf profile s)) where
+  pub off-listing : {f : Fault} {q : Spot} → o .next ≡ Off f q → listing profile s ≡ []
+  off-listing {f} {q} k = refused-listing profile s (told profile s e refl refl .off f q k)
+
+  module _ {c : Cursor} (k : o .next ≡ On c) where
+    abbrev whole : Whole profile s (o .ends) (lengthsIn (walkOf profile s .held))
+    whole = told profile s e refl refl .on c k
+
+    pub flags-inside : 20 + 4 ≤ length s
+    flags-inside = omega (arith, laid whole .long)
+
+    -- the flags stand behind size and class
+    pub on-rows : {f : ℕ} → f ≡ u32At s 20 → AllRows profile s f (o .ends)
+    on-rows i = all-rows whole (i ∙ sym (flags-held whole))
+
+    pub on-blocks : AllRows profile s (u32At s 20) (o .ends)
+    on-blocks = on-rows refl
 
 -- ---- the place of each name
 
--- none of the ten
+-- none of the nine beside the blocks
 abbrev Other : ℕ → Type 0
-Other n = (((((((((Unit {0} × (n ≡ 0 → ⊥)) × (n ≡ 1 → ⊥)) × (n ≡ 2 → ⊥)) × (n ≡ 3 → ⊥)) × (n ≡ 4 → ⊥)) × (n ≡ 5 → ⊥)) × (n ≡ 6 → ⊥)) × (n ≡ 7 → ⊥)) × (n ≡ 8 → ⊥)) × (n ≡ 9 → ⊥)
+Other n = ((((((((Unit {0} × (n ≡ 0 → ⊥)) × (n ≡ 1 → ⊥)) × (n ≡ 2 → ⊥)) × (n ≡ 3 → ⊥)) × (n ≡ 4 → ⊥)) × (n ≡ 5 → ⊥)) × (n ≡ 6 → ⊥)) × (n ≡ 7 → ⊥)) × (n ≡ 9 → ⊥)
 
 nth-section : {A : Type 0} (j : ℕ) (b : Bool) (p e : ℕ) (a : A) → nth 0 (row j (sectionOf b p e a)) ≡ between b p e
 unfolding between
@@ -210,87 +196,84 @@ module _ (profile : Profile) (s : List ℕ) (block : ℕ) where
   unfolding sectionPlace
   none-place name e = rw e
 
-  module _ (o : Outline) (R : AllRows profile s o) where
-    abbrev f : ℕ
-    f = o .held .header .flags
-
-    low : (k : ℕ) → k < 8 → named k (blockRows (o .ends .icon) (R .lengths)) ≡ []
-    low k h = no-blocks k (o .ends .icon) (R .lengths) (λ e. omega arith) (λ e. omega arith)
+  module _ {f : ℕ} {e : SectionEnds} (R : AllRows profile s f e) where
+    low : (k : ℕ) → k < 8 → named k (blockRows (e .icon) (R .lengths)) ≡ []
+    low k h = no-blocks k (e .icon) (R .lengths) (λ i. omega arith) (λ i. omega arith)
 
     pub place-0 : place 0 76 ≡ sectionPlace profile s 0 block
     unfolding sectionPlace
     place-0 = rw (R .rows)
 
-    pub place-1 : between (itemsThere f) 76 (o .ends .items) ≡ sectionPlace profile s 1 block
+    pub place-1 : between (itemsThere f) 76 (e .items) ≡ sectionPlace profile s 1 block
     unfolding sectionPlace
-    place-1 = rw (R .rows) (simp (named-append, named-row, low 1 (omega arith), append-nil) (sym (nth-section 1 (itemsThere f) 76 (o .ends .items) (tt {0}))))
+    place-1 = rw (R .rows) (simp (named-append, named-row, low 1 (omega arith), append-nil) (sym (nth-section 1 (itemsThere f) 76 (e .items) (tt {0}))))
 
-    pub place-2 : between (infoThere f) (o .ends .items) (o .ends .info) ≡ sectionPlace profile s 2 block
+    pub place-2 : between (infoThere f) (e .items) (e .info) ≡ sectionPlace profile s 2 block
     unfolding sectionPlace
     place-2 =
         rw (R .rows)
-        (simp (named-append, named-row, low 2 (omega arith), append-nil) (sym (nth-section 2 (infoThere f) (o .ends .items) (o .ends .info) (tt {0}))))
+        (simp (named-append, named-row, low 2 (omega arith), append-nil) (sym (nth-section 2 (infoThere f) (e .items) (e .info) (tt {0}))))
 
-    pub place-3 : between (stringThere nameBit f) (o .ends .info) (o .ends .name) ≡ sectionPlace profile s 3 block
+    pub place-3 : between (stringThere nameBit f) (e .info) (e .name) ≡ sectionPlace profile s 3 block
     unfolding sectionPlace
     place-3 =
         rw (R .rows)
-        (simp (named-append, named-row, low 3 (omega arith), append-nil) (sym (nth-section 3 (stringThere nameBit f) (o .ends .info) (o .ends .name) (tt {0}))))
+        (simp (named-append, named-row, low 3 (omega arith), append-nil) (sym (nth-section 3 (stringThere nameBit f) (e .info) (e .name) (tt {0}))))
 
-    pub place-4 : between (stringThere relativeBit f) (o .ends .name) (o .ends .relative) ≡ sectionPlace profile s 4 block
+    pub place-4 : between (stringThere relativeBit f) (e .name) (e .relative) ≡ sectionPlace profile s 4 block
     unfolding sectionPlace
     place-4 =
         rw (R .rows)
-        (simp (named-append, named-row, low 4 (omega arith), append-nil) (sym (nth-section 4 (stringThere relativeBit f) (o .ends .name) (o .ends .relative) (tt {0}))))
+        (simp (named-append, named-row, low 4 (omega arith), append-nil) (sym (nth-section 4 (stringThere relativeBit f) (e .name) (e .relative) (tt {0}))))
 
-    pub place-5 : between (stringThere workdirBit f) (o .ends .relative) (o .ends .workdir) ≡ sectionPlace profile s 5 block
+    pub place-5 : between (stringThere workdirBit f) (e .relative) (e .workdir) ≡ sectionPlace profile s 5 block
     unfolding sectionPlace
     place-5 =
         rw (R .rows)
-        (simp (named-append, named-row, low 5 (omega arith), append-nil) (sym (nth-section 5 (stringThere workdirBit f) (o .ends .relative) (o .ends .workdir) (tt {0}))))
+        (simp (named-append, named-row, low 5 (omega arith), append-nil) (sym (nth-section 5 (stringThere workdirBit f) (e .relative) (e .workdir) (tt {0}))))
 
-    pub place-6 : between (stringThere argumentsBit f) (o .ends .workdir) (o .ends .arguments) ≡ sectionPlace profile s 6 block
+    pub place-6 : between (stringThere argumentsBit f) (e .workdir) (e .arguments) ≡ sectionPlace profile s 6 block
     unfolding sectionPlace
     place-6 =
         rw (R .rows)
-        (simp (named-append, named-row, low 6 (omega arith), append-nil) (sym (nth-section 6 (stringThere argumentsBit f) (o .ends .workdir) (o .ends .arguments) (tt {0}))))
+        (simp (named-append, named-row, low 6 (omega arith), append-nil) (sym (nth-section 6 (stringThere argumentsBit f) (e .workdir) (e .arguments) (tt {0}))))
 
-    pub place-7 : between (stringThere iconBit f) (o .ends .arguments) (o .ends .icon) ≡ sectionPlace profile s 7 block
+    pub place-7 : between (stringThere iconBit f) (e .arguments) (e .icon) ≡ sectionPlace profile s 7 block
     unfolding sectionPlace
     place-7 =
         rw (R .rows)
-        (simp (named-append, named-row, low 7 (omega arith), append-nil) (sym (nth-section 7 (stringThere iconBit f) (o .ends .arguments) (o .ends .icon) (tt {0}))))
+        (simp (named-append, named-row, low 7 (omega arith), append-nil) (sym (nth-section 7 (stringThere iconBit f) (e .arguments) (e .icon) (tt {0}))))
 
-    pub place-8 : {b : Place} → b ≡ nthBlock s (o .ends .icon) block → b ≡ sectionPlace profile s 8 block
+    pub place-8 : {b : Place} → b ≡ nthBlock s (e .icon) block → b ≡ sectionPlace profile s 8 block
     unfolding sectionPlace
-    place-8 e =
-        rw (R .rows) (nth-of e .is [] (R .lengths) (R .count) (R .is) ∙ simp (named-append, named-row) (sym (nth-block block (o .ends .icon) (R .lengths))))
+    place-8 i =
+        rw (R .rows) (nth-of i .is [] (R .lengths) (R .count) (R .is) ∙ simp (named-append, named-row) (sym (nth-block block (e .icon) (R .lengths))))
 
     pub place-9 : place (length s - 4) 4 ≡ sectionPlace profile s 9 block
     unfolding sectionPlace
     place-9 =
-        let w = blocks-walked [] (o .ends .icon) (drop (o .ends .icon) s) (R .lengths) (R .count) (R .is) in
-        let z : length s - 4 ≡ o .ends .icon + sum (R .lengths) = omega (arith, w .adds, R .last) in
+        let w = blocks-walked [] (e .icon) (drop (e .icon) s) (R .lengths) (R .count) (R .is) in
+        let z : length s - 4 ≡ e .icon + sum (R .lengths) = omega (arith, w .adds, R .last) in
         rw (R .rows, z) (simp (named-append, named-row, the-terminal))
 
-    pub place-more : (name : ℕ) → Other name → noPlace ≡ sectionPlace profile s name block
+    pub place-more : (name : ℕ) → (name ≡ 8 → ⊥) → Other name → noPlace ≡ sectionPlace profile s name block
     unfolding sectionPlace
-    place-more name n =
-        let e : named name (rowsFrom o (R .lengths)) ≡ []
+    place-more name eight n =
+        let after : named name (rowsAfter f e (R .lengths)) ≡ []
         = simp (
           named-append,
           named-row,
-          no-blocks name (o .ends .icon) (R .lengths) (λ e. n .0 .1 (sym e)) (λ e. n .1 (sym e)),
-          ne-eqb 0 name (λ e. n .0 .0 .0 .0 .0 .0 .0 .0 .0 .1 (sym e)),
-          ne-eqb 1 name (λ e. n .0 .0 .0 .0 .0 .0 .0 .0 .1 (sym e)),
-          ne-eqb 2 name (λ e. n .0 .0 .0 .0 .0 .0 .0 .1 (sym e)),
-          ne-eqb 3 name (λ e. n .0 .0 .0 .0 .0 .0 .1 (sym e)),
-          ne-eqb 4 name (λ e. n .0 .0 .0 .0 .0 .1 (sym e)),
-          ne-eqb 5 name (λ e. n .0 .0 .0 .0 .1 (sym e)),
-          ne-eqb 6 name (λ e. n .0 .0 .0 .1 (sym e)),
-          ne-eqb 7 name (λ e. n .0 .0 .1 (sym e)),
+          no-blocks name (e .icon) (R .lengths) (λ i. eight (sym i)) (λ i. n .1 (sym i)),
+          ne-eqb 1 name (λ i. n .0 .0 .0 .0 .0 .0 .0 .1 (sym i)),
+          ne-eqb 2 name (λ i. n .0 .0 .0 .0 .0 .0 .1 (sym i)),
+          ne-eqb 3 name (λ i. n .0 .0 .0 .0 .0 .1 (sym i)),
+          ne-eqb 4 name (λ i. n .0 .0 .0 .0 .1 (sym i)),
+          ne-eqb 5 name (λ i. n .0 .0 .0 .1 (sym i)),
+          ne-eqb 6 name (λ i. n .0 .0 .1 (sym i)),
+          ne-eqb 7 name (λ i. n .0 .1 (sym i)),
         ) in
-        rw (R .rows, e)
+        let none : named name (rowsFrom f e (R .lengths)) ≡ [] = rw (ne-eqb 0 name (λ i. n .0 .0 .0 .0 .0 .0 .0 .0 .1 (sym i))) after in
+        rw (R .rows, none)
 
 -- ---- the section lies inside
 

@@ -6,7 +6,7 @@ use reader::Outline;
 ghost use mathlib.Core.Path.{_≡_};
 ghost use Prim.Native.Nat.{_-_};
 ghost use Rattle.format.specs.Listing.{sectionPlace, sectionBytes};
-ghost use Rattle.reader.specs.Steps.Finish.{outlineOf};
+ghost use Rattle.reader.specs.Steps.Finish.{outlineIs, walkOf};
 ghost use Rattle.shown.specs.Steps.Asked.{between};
 
 // a - b, or 0.
@@ -33,17 +33,17 @@ fn between(there: bool, p: usize, e: usize) -> Place
 
 // By the outline, which is all that the sections' places need.
 fn place_in(s: &[u8], o: Outline, name: u32, block: usize, profile: Profile) -> Place
-    requires { ⌜ o ≡ outlineOf profile (now s) ⌝ }
+    requires { ⌜ o ≡ outlineIs (now s) (walkOf profile (now s)) ⌝ }
     ensures { λ r. ⌜ r ≡ sectionPlace profile (now (s .entry)) name block ⌝ }
 {
     let next = o.next;
-    let Next::On(c) = next else {
+    let Next::On(_) = next else {
         return format::NO_PLACE;
     };
-    if c.at != s.len() {
-        return format::NO_PLACE;
+    if name == 8 {
+        return blocks::nth_block(s, o.ends.icon, block);
     }
-    let f = o.held.header.flags;
+    let f = octets::u32_at(s, 20);
     let e = o.ends;
     match name {
         0 => Place { at: 0, len: 76 },
@@ -54,7 +54,6 @@ fn place_in(s: &[u8], o: Outline, name: u32, block: usize, profile: Profile) -> 
         5 => between(format::workdir_there(f), e.relative, e.workdir),
         6 => between(format::arguments_there(f), e.workdir, e.arguments),
         7 => between(format::icon_there(f), e.arguments, e.icon),
-        8 => blocks::nth_block(s, e.icon, block),
         9 => Place {
             at: less(s.len(), 4),
             len: 4,
@@ -67,7 +66,10 @@ fn place_in(s: &[u8], o: Outline, name: u32, block: usize, profile: Profile) -> 
 pub fn section_place(s: &[u8], name: u32, block: usize, profile: Profile) -> Place
     ensures { λ r. ⌜ r ≡ sectionPlace profile (now (s .entry)) name block ⌝ }
 {
-    place_in(s, reader::outline_of(s, profile), name, block, profile)
+    let mut texts = [0u32; 9];
+    let mut firsts = [0u32; 11];
+    let o = reader::outline_of(s, profile, &mut texts, &mut firsts);
+    place_in(s, o, name, block, profile)
 }
 
 pub fn section(s: &[u8], name: u32, block: usize, profile: Profile) -> &[u8]

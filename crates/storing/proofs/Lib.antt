@@ -2,8 +2,6 @@ pub mod RowLaws
 pub mod InsideLaws
 pub mod ListLaws
 pub mod FewLaws
-pub mod TestLaws
-pub mod MakingLaws
 pub mod WriteLaws
 pub mod Demands
 pub mod OneOutcome

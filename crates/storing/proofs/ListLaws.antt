@@ -18,6 +18,7 @@ use Rattle.format.specs.declared.Fault.the-variants.{Room as ROOM}
 use Rattle.format.specs.declared.Place.{Place}
 use Rattle.format.specs.declared.Record.{Record}
 use Rattle.format.specs.declared.Reading.{Reading}
+use Rattle.format.specs.declared.Spot.{Spot}
 use Rattle.format.specs.declared.StoreRow.{StoreRow}
 use Rattle.format.specs.declared.Verdict.{Verdict}
 use Rattle.format.specs.declared.Verdict.the-variants.{Accepted, Refused}
@@ -41,7 +42,10 @@ use Rattle.format.proofs.StoreLaws.{store-anywhere}
 use Rattle.format.proofs.StoreDemands.{first-store}
 use Rattle.blocks.specs.Steps.Walk.{blockFrom}
 use Rattle.blocks.proofs.FirstLaws.{first-block}
-use Rattle.reader.specs.Steps.Finish.{FirstsOf}
+use Rattle.reader.specs.declared.Next.the-variants.{Off}
+use Rattle.reader.specs.declared.Outline.{Outline}
+use Rattle.reader.specs.Steps.Finish.{FirstsOf, Told}
+use Rattle.reader.proofs.OutlineLaws.{told-refused}
 use Rattle.storing.specs.declared.Stored.{Stored}
 use Rattle.storing.specs.Steps.Stored.{Holds, StoredIs, RowIs}
 use Rattle.storing.proofs.InsideLaws.{store-in, nth-in}
@@ -53,51 +57,50 @@ pub no-rows : (s : List ℕ) (b : Place) → b .len ≡ 0 → blockRows s b ≡ 
 unfolding storeRows perPart
 no-rows s b e = rw e
 
-module _ (profile : Profile) (s : List ℕ) {g : Reading} (e : g ≡ reading profile s) where
-  pub stored-refused : {f : Fault} {p : ℕ} → g .verdict ≡ Refused f p → StoredIs profile s (record { verdict = g .verdict; block = noPlace })
-  stored-refused q =
-      let i = refused-read profile s (ap (λ (x : Reading). x .verdict) (sym e) ∙ q) in
+pub stored-refused : {profile : Profile} {s : List ℕ} {o : Outline} {texts row : List ℕ} {f : Fault} {p : Spot} → Told profile s o texts row → o .next ≡ Off f p
+    → StoredIs profile s (record { verdict = Refused f (p .position); block = noPlace })
+stored-refused {s = s} {f = f} {p = p} T k = record {
+  verdict = told-refused T k;
+  rows = no-rows s noPlace refl ∙ rw (T .off f p k);
+  holds = λ z. absurd (z refl);
+}
+
+-- of an accepted shortcut with the row of its signatures
+module _ (profile : Profile) (s : List ℕ) (held : Record) {row : List ℕ} (a : Accepts profile s held) (noted : FirstsOf s held row) where
+  -- the ninth signature of the table
+  pub record StoreField : Type 0 where
+    pub reached : getD row 8 0 ≤ length s
+    pub stored : {b : Place} {n : ℕ} → b ≡ blockFrom s (getD row 8 0) → n ≡ length s → StoredIs profile s (record { verdict = Accepted n; block = b })
+
+  pub store-field : StoreField
+  unfolding Accepts firsts rowsOf
+  store-field =
+      let x = accepted-read profile s held (length s) a in
+      let q = x .sections in
+      let start = blocksOf q .start in
+      let lengths = blocksOf q .read in
+      let walk = read-walk profile s q (length s) ((shortcut-whole profile s q (length s) (x .is)) .read) in
+      let same : placeIn held blocksSlot .at ≡ start = ap (λ (r : Record). placeIn r blocksSlot .at) (sym (x .held)) in
+      let n : (ls : List ℕ) (m : ℕ) → blocks start (drop start s) ≡ got ls m → row ≡ firsts s start ls = rw same at noted in
+      let field : getD row 8 0 ≡ firstField s 0xA0000009 start lengths = ap (λ (l : List ℕ). getD l 8 0) (n lengths _ walk) in
+      let F = first-block s 0xA0000009 start lengths _ walk in
       record {
-        verdict = ap (λ (x : Reading). x .verdict) e;
-        rows = no-rows s noPlace refl ∙ rw (i .is);
-        holds = λ z. absurd (z refl);
+        reached = rw field (F .field);
+        stored = λ i e.
+            let p : _ ≡ firstPlace s 0xA0000009 start lengths = i ∙ ap (blockFrom s) field ∙ F .block in
+            rw p
+            (record {
+              verdict = ap Accepted e ∙ sym (ap (λ (y : Reading). y .verdict) a);
+              rows = sym (ap (rowsBy s) (x .is));
+              holds = λ z.
+                  let h = first-store s start lengths _ walk z in
+                  record {
+                    inside = omega (arith, h .inside);
+                    long = h .long;
+                    right = store-anywhere 0 8 (drop 8 (bytesAt s (firstPlace s 0xA0000009 start lengths))) ∙ pass-all (storeTests 8 (drop 8 (bytesAt s (firstPlace s 0xA0000009 start lengths)))) (h .right);
+                  };
+            });
       }
-
-  module _ {n : ℕ} (q : g .verdict ≡ Accepted n) {row : List ℕ} (noted : FirstsOf s (g .held) row) where
-    -- the ninth signature of the table
-    pub record StoreField : Type 0 where
-      pub reached : getD row 8 0 ≤ length s
-      pub stored : {b : Place} → b ≡ blockFrom s (getD row 8 0) → StoredIs profile s (record { verdict = g .verdict; block = b })
-
-    pub store-field : StoreField
-    unfolding Accepts firsts rowsOf
-    store-field =
-        let x = accepted-read profile s (g .held) n (accepted-held profile s e q) in
-        let c = x .sections in
-        let start = blocksOf c .start in
-        let lengths = blocksOf c .read in
-        let walk = read-walk profile s c n ((shortcut-whole profile s c n (x .is)) .read) in
-        let same : placeIn (g .held) blocksSlot .at ≡ start = ap (λ (r : Record). placeIn r blocksSlot .at) (sym (x .held)) in
-        let k : (ls : List ℕ) (m : ℕ) → blocks start (drop start s) ≡ got ls m → row ≡ firsts s start ls = rw same at noted in
-        let field : getD row 8 0 ≡ firstField s 0xA0000009 start lengths = ap (λ (l : List ℕ). getD l 8 0) (k lengths _ walk) in
-        let F = first-block s 0xA0000009 start lengths _ walk in
-        record {
-          reached = rw field (F .field);
-          stored = λ i.
-              let p : _ ≡ firstPlace s 0xA0000009 start lengths = i ∙ ap (blockFrom s) field ∙ F .block in
-              rw p
-              (record {
-                verdict = ap (λ (x : Reading). x .verdict) e;
-                rows = rw (x .is) refl;
-                holds = λ z.
-                    let h = first-store s start lengths _ walk z in
-                    record {
-                      inside = omega (arith, h .inside);
-                      long = h .long;
-                      right = store-anywhere 0 8 (drop 8 (bytesAt s (firstPlace s 0xA0000009 start lengths))) ∙ pass-all (storeTests 8 (drop 8 (bytesAt s (firstPlace s 0xA0000009 start lengths)))) (h .right);
-                    };
-              });
-        }
 
 -- ---- the list
 

@@ -20,9 +20,9 @@ use Rattle.format.proofs.Bools.{by-order, and-no}
 use Rattle.format.proofs.AnswerLaws.{nowhere, numbered}
 use Rattle.format.proofs.StoreDemands.{store-ends}
 use Rattle.canonical.proofs.FitsLaws.{wrote-whole}
-use Rattle.storing.specs.Steps.Sizes.{cappedStore, sizeOr0}
-use Rattle.storing.specs.Steps.Making.{StoreRoom}
-use Rattle.storing.proofs.TestLaws.{over, under, store-long}
+use Rattle.stores.specs.Steps.Sizes.{cappedStore, sizeOr0}
+use Rattle.stores.specs.Steps.Making.{StoreRoom}
+use Rattle.stores.proofs.TestLaws.{over, under, store-long}
 
 -- ---- what the length tells
 

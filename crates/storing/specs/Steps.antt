@@ -1,5 +1,3 @@
 -- Steps of the implementation: contracts inside the libraries cite them, and nobody has to believe them.
 pub mod Rows
 pub mod Stored
-pub mod Sizes
-pub mod Making

@@ -1,13 +1,14 @@
 // The property store of a shortcut: its list, its names and values shown (FORMAT: Store list), and a store from a list (FORMAT: Store writing).
-mod making;
 mod rows;
-mod tests;
 
 use format::Fault;
 use format::Place;
 use format::Profile;
 use format::StoreRow;
 use format::Verdict;
+use reader::Next;
+use stores::making;
+use stores::tests;
 ghost use mathlib.Core.Path.{_≡_};
 ghost use lib.ListN.{length};
 ghost use Rattle.format.specs.Numbers.{Numbered};
@@ -25,21 +26,19 @@ struct Stored {
 fn stored_in(s: &[u8], profile: Profile) -> Stored
     ensures { λ r. ⌜ StoredIs profile (now (s .entry)) r ⌝ }
 {
-    let o = reader::outline_of(s, profile);
+    let mut texts = [0u32; 9];
+    let mut firsts = [0u32; 11];
+    let o = reader::outline_of(s, profile, &mut texts, &mut firsts);
     let next = o.next;
-    let held = o.held;
-    let firsts = o.firsts;
-    let g = reader::finish(s.len(), next, held);
-    let verdict = g.verdict;
-    let Verdict::Accepted(_) = verdict else {
-        return Stored {
-            verdict,
+    match next {
+        Next::On(c) => Stored {
+            verdict: Verdict::Accepted(c.at),
+            block: blocks::block_from(s, firsts[8]),
+        },
+        Next::Off(f, p) => Stored {
+            verdict: Verdict::Refused(f, p.position),
             block: format::NO_PLACE,
-        };
-    };
-    Stored {
-        verdict,
-        block: blocks::block_from(s, firsts[8]),
+        },
     }
 }
 

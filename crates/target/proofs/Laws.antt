@@ -1,7 +1,7 @@
 -- One law for each way out of the target call.
 use mathlib.Core.Path.{_≡_, refl, sym, ap, _∙_}
 use mathlib.Core.List.{List, [], _∷_, _++_, append-nil}
-use mathlib.Core.Bool.{Bool, true, false, not, cond}
+use mathlib.Core.Bool.{Bool, true, false, not, cond, _&&_, _||_}
 use Prim.Native.Nat.{ℕ, _+_, _-_, _≤_, _<_}
 use native.Mathlib.Omega.{arith}
 use lib.ListN.{length, take, drop, getD, length-append}
@@ -14,23 +14,27 @@ use Rattle.octets.proofs.PartLaws.{part-in, put-put, length-put}
 use Rattle.format.specs.declared.Profile.{Profile}
 use Rattle.format.specs.declared.Place.{Place}
 use Rattle.format.specs.declared.Record.{Record}
-use Rattle.format.specs.declared.Reading.{Reading}
 use Rattle.format.specs.declared.Fault.{Fault}
 use Rattle.format.specs.declared.Fault.the-variants.{Room as ROOM, NoTarget as NOTARGET}
 use Rattle.format.specs.declared.Verdict.{Verdict}
 use Rattle.format.specs.declared.Verdict.the-variants.{Accepted, Refused}
-use Rattle.format.specs.Tests.{got, refused}
+use Rattle.format.specs.declared.Spot.{Spot}
+use Rattle.format.specs.Tests.{got, refused, bit}
 use Rattle.format.specs.Numbers.{Numbered}
-use Rattle.format.specs.Presence.{localThere}
-use Rattle.format.specs.Shortcut.{reading}
+use Rattle.format.specs.Presence.{infoThere, localThere, networkThere}
+use Rattle.format.specs.Shortcut.{shortcut, reading}
 use Rattle.format.specs.Contents.{bytesAt}
 use Rattle.format.specs.Writing.{outputOf}
-use Rattle.format.specs.Target.{hasTarget, separated, backslash, separator, joined, targetText, target, targetAnswer, targetOutput}
+use Rattle.format.specs.Demands.{Accepts}
+use Rattle.format.specs.Target.{targeted, hasTarget, separated, backslash, separator, joined, targetText, target, targetAnswer, targetOutput}
+use Rattle.format.proofs.Bools.{and-true}
 use Rattle.format.proofs.AnswerLaws.{nowhere, numbered}
 use Rattle.format.proofs.BodyLaws.{body-length, body-part, part-length}
 use Rattle.format.specs.Bodies.{placeIn, localSlot, netSlot, suffixSlot}
 use Rattle.format.proofs.TargetLaws.{separator-few}
-use Rattle.format.proofs.AcceptedLaws.{accepted-read, accepted-held, refused-read, accepted-bodies, accepted-limit}
+use Rattle.format.proofs.AcceptedLaws.{accepted-read, accepted-bodies, accepted-limit}
+use Rattle.reader.specs.declared.SectionEnds.{SectionEnds}
+use Rattle.reader.specs.Steps.Finish.{Whole}
 use Rattle.target.specs.declared.Texts.{Texts}
 use Rattle.target.specs.Steps.Texts.{firstText, separators, textsOf, Stands, textsLength, textsBytes}
 
@@ -41,25 +45,52 @@ pub record TextsInside (s : List ℕ) (r : Record) : Type 0 where
   pub suffix : placeIn r suffixSlot .at + placeIn r suffixSlot .len ≤ length s
   pub small : length s ≤ 65536
 
-pub texts-inside : (profile : Profile) (s : List ℕ) (r : Record) (n : ℕ) → reading profile s ≡ record { verdict = Accepted n; held = r } → TextsInside s r
-unfolding firstText
-texts-inside profile s r n e =
-    let inside = accepted-bodies profile s r n e in
-    record {
-      first = either (localThere (r .link .flags)) (placeIn r localSlot) (placeIn r netSlot) (inside localSlot) (inside netSlot);
-      suffix = inside suffixSlot;
-      small = accepted-limit profile s r n e;
-    }
-  where
-    either : (b : Bool) (x y : Place) → x .at + x .len ≤ length s → y .at + y .len ≤ length s → (cond b x y) .at + (cond b x y) .len ≤ length s
-    either true x y p q = p
-    either false x y p q = q
+module _ (profile : Profile) (s : List ℕ) (r : Record) (e : Accepts profile s r) where
+  pub texts-inside : TextsInside s r
+  unfolding firstText Accepts
+  texts-inside =
+      let inside = accepted-bodies profile s r (length s) e in
+      record {
+        first = either (localThere (r .link .flags)) (placeIn r localSlot) (placeIn r netSlot) (inside localSlot) (inside netSlot);
+        suffix = inside suffixSlot;
+        small = accepted-limit profile s r (length s) e;
+      }
+    where
+      either : (b : Bool) (x y : Place) → x .at + x .len ≤ length s → y .at + y .len ≤ length s → (cond b x y) .at + (cond b x y) .len ≤ length s
+      either true x y p q = p
+      either false x y p q = q
 
-pub texts-stand : (profile : Profile) (s : List ℕ) (r : Record) (n : ℕ) → reading profile s ≡ record { verdict = Accepted n; held = r } → Stands s (textsOf s r)
-unfolding textsOf
-texts-stand profile s r n e =
-    let i = texts-inside profile s r n e in
-    (i .first, i .suffix, separator-few (bytesAt s (firstText r)) (bytesAt s (placeIn r suffixSlot)))
+  pub texts-stand : Stands s (textsOf s r)
+  unfolding textsOf
+  texts-stand =
+      let i = texts-inside in
+      (i .first, i .suffix, separator-few (bytesAt s (firstText r)) (bytesAt s (placeIn r suffixSlot)))
+
+  -- where the code has the text, the numbers are small
+  pub record Found (t : Texts) : Type 0 where
+    pub stands : Stands s t
+    pub small : length s ≤ 65536
+
+  pub found : {t : Texts} → t ≡ textsOf s r → Found t
+  found is = rw is (record { stands = texts-stand; small = texts-inside .small })
+
+-- where there is a target, so are LinkInfo and one of its texts
+pub record TargetThere (r : Record) : Type 0 where
+  pub info : infoThere (r .header .flags) ≡ true
+  pub either : localThere (r .link .flags) || networkThere (r .link .flags) ≡ true
+
+-- w tells a caller's proof which shortcut is meant
+module _ (profile : Profile) (s : List ℕ) {ends : SectionEnds} {texts : List ℕ} (w : Whole profile s ends texts) where
+  pub target-there : hasTarget (reading profile s .held) ≡ true → TargetThere (reading profile s .held)
+  target-there h =
+      let f = reading profile s .held .header .flags in
+      let i = reading profile s .held .link .flags in
+      let (unbarred, either) = and-true (not (bit 8 f) && infoThere f) (localThere i || networkThere i) h in
+      record { info = and-true (not (bit 8 f)) (infoThere f) unbarred .1; either = either }
+
+  -- by the two flags that were asked for
+  pub target-asked : {f i : ℕ} {k : Bool} → f ≡ reading profile s .held .header .flags → i ≡ reading profile s .held .link .flags → k ≡ targeted f i → k ≡ hasTarget (reading profile s .held)
+  target-asked ef ei e = e ∙ rw (ef, ei)
 
 -- ---- the text
 
@@ -135,49 +166,35 @@ target-call : (profile : Profile) (s out : List ℕ) {v : Verdict} {x : List ℕ
 unfolding targetAnswer
 target-call profile s out a o = (a, (o, numbered (target profile s (length out)) a))
 
-module _ (profile : Profile) (s out : List ℕ) {g : Reading} (e : g ≡ reading profile s) where
+module _ (profile : Profile) (s out : List ℕ) where
   -- leaving with the refusal
-  pub target-left : {f : Fault} {p : ℕ} → g .verdict ≡ Refused f p → TargetCall profile s out (g .verdict) out
+  pub target-left : {f : Fault} {p : Spot} → shortcut profile s ≡ refused f p → TargetCall profile s out (Refused f (p .position)) out
   unfolding targetAnswer targetOutput target outputOf
-  target-left q = let i = refused-read profile s (ap (λ (x : Reading). x .verdict) (sym e) ∙ q) in target-call profile s out (q ∙ rw (i .is, i .told)) (rw (i .is))
+  target-left e = target-call profile s out (rw e) (rw e)
 
-  module _ {n : ℕ} (q : g .verdict ≡ Accepted n) where
-    accepted : reading profile s ≡ record { verdict = Accepted n; held = g .held }
-    accepted = accepted-held profile s e q
-
-    pub inside : TextsInside s (g .held)
-    inside = texts-inside profile s (g .held) n accepted
-
-    -- where the code has the text, the numbers are small
-    pub record Found (t : Texts) : Type 0 where
-      pub stands : Stands s t
-      pub small : length s ≤ 65536
-
-    pub found : {t : Texts} → t ≡ textsOf s (g .held) → Found t
-    found is = rw is (record { stands = texts-stand profile s (g .held) n accepted; small = inside .small })
-
+  module _ (r : Record) (e : Accepts profile s r) where
     -- the target of what was read
-    target-is : target profile s (length out) ≡ cond (hasTarget (g .held)) (cond (leb (length (targetText s (g .held))) (length out)) (got (targetText s (g .held)) (length (targetText s (g .held)))) (refused ROOM nowhere)) (refused NOTARGET nowhere)
-    unfolding target
+    target-is : target profile s (length out) ≡ cond (hasTarget r) (cond (leb (length (targetText s r)) (length out)) (got (targetText s r) (length (targetText s r))) (refused ROOM nowhere)) (refused NOTARGET nowhere)
+    unfolding target Accepts
     target-is =
-        let x = accepted-read profile s (g .held) n accepted in
+        let x = accepted-read profile s r (length s) e in
         rw (x .is)
-        (ap (λ (r : Record). cond (hasTarget r) (cond (leb (length (targetText s r)) (length out)) (got (targetText s r) (length (targetText s r))) (refused ROOM nowhere)) (refused NOTARGET nowhere))
+        (ap (λ (q : Record). cond (hasTarget q) (cond (leb (length (targetText s q)) (length out)) (got (targetText s q) (length (targetText s q))) (refused ROOM nowhere)) (refused NOTARGET nowhere))
         (x .held))
 
-    module _ {k : Bool} (h : k ≡ hasTarget (g .held)) where
+    module _ {k : Bool} (h : k ≡ hasTarget r) where
       pub target-none : not k ≡ true → TargetCall profile s out (Refused NOTARGET 0) out
       unfolding targetAnswer targetOutput outputOf
       target-none t =
           let z : target profile s (length out) ≡ refused NOTARGET nowhere = target-is ∙ rw (sym h ∙ not-true k t) in
           target-call profile s out (rw z) (rw z)
 
-      module _ (has : not k ≡ false) {t : Texts} {m : ℕ} (is : t ≡ textsOf s (g .held)) (sum : m ≡ textsLength t) where
-        target-text : targetText s (g .held) ≡ textsBytes s t
-        target-text = texts-are s (g .held) ∙ rw (← is)
+      module _ (has : not k ≡ false) {t : Texts} {m : ℕ} (is : t ≡ textsOf s r) (sum : m ≡ textsLength t) where
+        target-text : targetText s r ≡ textsBytes s t
+        target-text = texts-are s r ∙ rw (← is)
 
         long : length (textsBytes s t) ≡ m
-        long = texts-long s t (found is .stands) ∙ sym sum
+        long = texts-long s t (found profile s r e is .stands) ∙ sym sum
 
         pub target-room : length out < m → TargetCall profile s out (Refused ROOM 0) out
         unfolding targetAnswer targetOutput outputOf

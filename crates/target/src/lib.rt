@@ -4,13 +4,17 @@ use format::Place;
 use format::Profile;
 use format::Record;
 use format::Verdict;
+use reader::SectionEnds;
 ghost use mathlib.Core.Path.{_≡_};
+ghost use mathlib.Core.Bool.{true};
 ghost use Prim.Native.Nat.{_+_, _≤_};
 ghost use lib.ListN.{length};
 ghost use Rattle.octets.specs.Parts.{put};
 ghost use Rattle.format.specs.Numbers.{Numbered};
 ghost use Rattle.format.specs.Bodies.{placeIn, suffixSlot};
-ghost use Rattle.format.specs.Target.{hasTarget, target, targetAnswer, targetOutput};
+ghost use Rattle.format.specs.Target.{targeted, hasTarget, target, targetAnswer, targetOutput};
+ghost use Rattle.format.specs.Shortcut.{reading};
+ghost use Rattle.reader.specs.Steps.Finish.{Whole};
 ghost use Rattle.target.specs.Steps.Texts.{firstText, separators, textsOf, Stands, textsLength, textsBytes};
 
 // The two texts, and how many separators stand between them.
@@ -20,14 +24,19 @@ pub struct Texts {
     pub suffix: Place,
 }
 
-pub fn has_target(r: Record) -> bool
-    ensures { λ b. ⌜ b ≡ hasTarget r ⌝ }
+// By LinkFlags and LinkInfo's flags.
+pub fn targeted(f: u32, i: u32) -> bool
+    ensures { λ b. ⌜ b ≡ targeted f i ⌝ }
 {
-    let f = r.header.flags;
-    let i = r.link.flags;
     !(f / 256 % 2 == 1)
         & format::info_there(f)
         & (format::local_there(i) | format::network_there(i))
+}
+
+pub fn has_target(r: Record) -> bool
+    ensures { λ b. ⌜ b ≡ hasTarget r ⌝ }
+{
+    targeted(r.header.flags, r.link.flags)
 }
 
 // The local path, or the net name where there is none.
@@ -73,6 +82,20 @@ pub fn texts_of(s: &[u8], r: Record) -> Texts
     }
 }
 
+// The same of an accepted shortcut, by where its sections end and the lengths of LinkInfo's texts.
+pub fn texts_in(s: &[u8], e: SectionEnds, texts: &[u32; 9], profile: Profile) -> Texts
+    requires { ⌜ Whole profile (now s) e (now texts) × (hasTarget (reading profile (now s) .held) ≡ true) ⌝ }
+    ensures { λ t. ⌜ t ≡ textsOf (now (s .entry)) (reading profile (now (s .entry)) .held) ⌝ }
+{
+    let first = reader::first_text(s, e, texts, profile);
+    let suffix = reader::suffix_text(s, e, texts, profile);
+    Texts {
+        first,
+        separators: separators(s, first, suffix),
+        suffix,
+    }
+}
+
 // From the place `at` on.
 pub fn put_texts(s: &[u8], t: Texts, at: usize, out: &mut [u8])
     requires { ⌜ Stands (now s) t × (at + textsLength t ≤ length (now out)) ⌝ }
@@ -96,16 +119,20 @@ pub fn target(s: &[u8], out: &mut [u8], profile: Profile) -> Verdict
     ensures output { λ _. ⌜ now (out .exit) ≡ targetOutput profile (now (s .entry)) (now (out .entry)) ⌝ }
     ensures numbers { λ r. ⌜ Numbered r (target profile (now (s .entry)) (length (now (out .entry)))) ⌝ }
 {
-    let g = reader::read(s, profile);
-    let v = g.verdict;
+    let mut texts = [0u32; 9];
+    let mut firsts = [0u32; 11];
+    let o = reader::outline_of(s, profile, &mut texts, &mut firsts);
+    let next = o.next;
+    let v = reader::verdict_of(next);
     let Verdict::Accepted(_) = v else {
         return v;
     };
-    let r = g.held;
-    if !has_target(r) {
+    let e = o.ends;
+    let flags = reader::flags_of(s, e, &texts, profile);
+    if !targeted(flags, reader::link_flags(s, e, &texts, profile)) {
         return Verdict::Refused(Fault::NoTarget, 0);
     }
-    let t = texts_of(s, r);
+    let t = texts_in(s, e, &texts, profile);
     let n = t.first.len + t.separators + t.suffix.len;
     if out.len() < n {
         return Verdict::Refused(Fault::Room, 0);

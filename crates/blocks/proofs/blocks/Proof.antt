@@ -15,10 +15,9 @@ stopped-requires : tie.Need-stopped-requires
 stopped-requires c κs = search needs
 
 returns : tie.Need-returns
-returns c = rw (c .stopped .ensures, c .before .size-spot .ensures) (read-nowhere _ _ (c .before .before .if1 .taken))
-
-no-firsts-requires : tie.Need-no-firsts-requires
-no-firsts-requires c κs = search needs
+returns c =
+    let after-spot = c .before .before in
+    rw (c .stopped .ensures .0, after-spot .size-spot .ensures) (read-nowhere _ _ (after-spot .before .if1 .taken) (c .stopped .ensures .1))
 
 run-requires : tie.Need-run-requires
 run-requires c κs = search needs
@@ -61,38 +60,40 @@ slice-aggregate-wrong-block c =
 
 wrong-block-requires : tie.Need-wrong-block-requires
 wrong-block-requires c κs =
-    let after-n = c .before .before in
+    let after-n = c .before .before .before in
     let after-step = after-n .before .before in
     let after-run = after-step .before .before in
-    let after-if = after-run .before .before .before .before in
+    let after-if = after-run .before .before in
+    let start = after-if .before .before in
     let z = by-block _ (after-step .step .ensures) (after-n .n .given .1) in
     let fits = passed-fits (after-run .run .ensures .0) refl (rw tail-part at z) in
-    rw (length-take-le _ _ (z .inside)) (z .fits, omega (arith, after-if .before .pre))
+    rw (length-take-le _ _ (z .inside)) (z .fits, omega (arith, start .pre .0))
 
 returns-2 : tie.Need-returns-2
 returns-2 c =
     let after-step = c .before .before .before in
     let after-run = after-step .before .before in
-    let after-no-firsts = after-run .before .before in
-    let start = after-no-firsts .before .before .before in
+    let after-if = after-run .before .before in
+    let start = after-if .before .before in
     let r = after-run .run .ensures in
-    rw (c .read-to .ensures) (read-end _ _ (r .0) (start .pre) (by-end _ (rw tail-part at (after-step .step .ensures)) (c .before .enum-told .given .1)))
+    rw (c .read-to .ensures) (read-end _ _ (r .0) (start .pre .0) (by-end _ (rw tail-part at (after-step .step .ensures)) (c .before .enum-told .given .1)))
 
 returns-3 : tie.Need-returns-3
 returns-3 c =
-    let after-f = c .before .before .before in
+    let after-spot = c .before .before in
+    let after-f = after-spot .before .before in
     let after-step = after-f .before .before in
     let r = after-step .before .before .run .ensures in
     let h = by-fault _ (rw tail-part at (after-step .step .ensures)) (after-f .f .given .1) _ in
-    rw (c .stopped2 .ensures, rw tail-part at (c .before .size-spot2 .ensures)) (read-stopped _ _ (r .0) h)
+    rw (c .stopped2 .ensures .0, rw tail-part at (after-spot .size-spot2 .ensures)) (read-stopped _ _ (r .0) (c .stopped2 .ensures .1) h)
 
 returns-4 : tie.Need-returns-4
 returns-4 c =
-    let after-n = c .before .before .before in
+    let after-n = c .before .before .before .before in
     let after-step = after-n .before .before in
     let r = after-step .before .before .run .ensures in
     let z = by-block _ (rw tail-part at (after-step .step .ensures)) (after-n .n .given .1) in
-    rw (rw tail-part at (c .wrong-block .ensures)) (read-wrong _ _ (r .0) (r .1) z)
+    rw (rw tail-part at (c .wrong-block .ensures .0)) (read-wrong _ _ (r .0) (c .wrong-block .ensures .1) (r .1) z)
 
 pub blocks-spec : {M : Type 1} → statement M
 blocks-spec =
@@ -101,7 +102,6 @@ blocks-spec =
     size-spot-requires
     stopped-requires
     returns
-    no-firsts-requires
     run-requires
     sub-rest
     part-rest-start

@@ -20,10 +20,11 @@ stopped-requires c κs = search needs
 returns : tie.Need-returns
 unfolding wrongBlock
 returns c =
-    let after-if = c .before .before in
+    let after-spot = c .before .before in
+    let after-if = after-spot .before in
     let start = after-if .before .before .before in
     let none = no-rule (start .args .slot) (start .args .b .now) (sym (after-if .before .has-rule .ensures) ∙ not-true _ (after-if .if1 .taken)) in
-    rw (c .stopped .ensures, c .before .spot-at .ensures, eq-eqb _ 0 none)
+    (rw (c .stopped .ensures .0, after-spot .spot-at .ensures, eq-eqb _ 0 none), c .stopped .ensures .1)
 
 held-wrong-requires : tie.Need-held-wrong-requires
 held-wrong-requires c κs = (sym (c .before .has-rule .ensures) ∙ not-false _ (c .if1 .left), search needs)
@@ -37,8 +38,9 @@ stopped-requires-2 c κs = search needs
 returns-2 : tie.Need-returns-2
 unfolding wrongBlock
 returns-2 c =
-    let after-if = c .before .before in
-    rw (c .stopped2 .ensures, c .before .spot-at2 .ensures, ← (after-if .before .held-wrong .ensures), eq-eqb _ 0 (after-if .if2 .taken))
+    let after-spot = c .before .before in
+    let after-if = after-spot .before in
+    (rw (c .stopped2 .ensures .0, after-spot .spot-at2 .ensures, ← (after-if .before .held-wrong .ensures), eq-eqb _ 0 (after-if .if2 .taken)), c .stopped2 .ensures .1)
 
 held-fault-requires : tie.Need-held-fault-requires
 held-fault-requires c κs = search needs
@@ -56,9 +58,10 @@ stopped-requires-3 c κs = search needs
 returns-3 : tie.Need-returns-3
 unfolding wrongBlock
 returns-3 c =
-    let after-fault = c .before .before in
+    let after-spot = c .before .before in
+    let after-fault = after-spot .before in
     let after-if = after-fault .before in
-    rw (c .stopped3 .ensures, c .before .spot-at3 .ensures, after-fault .held-fault .ensures, ← (after-if .before .held-wrong .ensures), ne-eqb _ 0 (after-if .if2 .left))
+    (rw (c .stopped3 .ensures .0, after-spot .spot-at3 .ensures, after-fault .held-fault .ensures, ← (after-if .before .held-wrong .ensures), ne-eqb _ 0 (after-if .if2 .left)), c .stopped3 .ensures .1)
 
 pub wrong-block-spec : {M : Type 1} → statement M
 wrong-block-spec =

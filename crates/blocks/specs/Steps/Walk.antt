@@ -21,7 +21,6 @@ use Rattle.blocks.specs.declared.BlockStep.{BlockStep}
 use Rattle.blocks.specs.declared.BlockStep.the-variants.{Block, Terminal, Refused as NotOne}
 use Rattle.format.specs.declared.Taken.{Taken}
 use Rattle.format.specs.declared.Taken.the-variants.{Got, Refused}
-use Rattle.blocks.specs.declared.BlocksRead.{BlocksRead}
 
 -- the slots of blocks that have a rule for what they hold: two texts, a store, or items
 abbrev pub hasRule : ℕ → Bool
@@ -147,20 +146,23 @@ abbrev pub firstsBy : List ℕ → ℕ → Outcome (List ℕ) → List ℕ
 firstsBy s p (got lengths n) = firsts s p lengths
 firstsBy s p (refused f q) = noFirsts
 
-unfoldable pub blocksRead : List ℕ → ℕ → BlocksRead
-blocksRead s p = record { taken = blocksTaken p (blocks p (drop p s)); firsts = firstsBy s p (blocks p (drop p s)) }
+unfoldable pub blocksAt : List ℕ → ℕ → Taken
+blocksAt s p = blocksTaken p (blocks p (drop p s))
 
-abbrev pub BlocksAnswer : List ℕ → ℕ → BlocksRead → Type 0
-BlocksAnswer s p r = Answers (λ (b : BlocksRead). takenNumber (b .taken)) (λ (b : BlocksRead). takenValue (b .taken)) p (blocks p (drop p s)) (blocksRead s p) r
+unfoldable pub blocksFirsts : List ℕ → ℕ → List ℕ
+blocksFirsts s p = firstsBy s p (blocks p (drop p s))
 
-abbrev pub readTo : ℕ → ℕ → List ℕ → BlocksRead
-readTo a p row = record { taken = Got (place a (p - a)) (record { at = p + 4 }); firsts = row }
+abbrev pub BlocksAnswer : List ℕ → ℕ → Taken → Type 0
+BlocksAnswer s p r = Answers takenNumber takenValue p (blocks p (drop p s)) (blocksAt s p) r
 
-abbrev pub stoppedAt : Fault → Spot → BlocksRead
-stoppedAt f q = record { taken = Refused f q; firsts = noFirsts }
+abbrev pub readTo : ℕ → ℕ → Taken
+readTo a p = Got (place a (p - a)) (record { at = p + 4 })
+
+abbrev pub stoppedAt : Fault → Spot → Taken
+stoppedAt f q = Refused f q
 
 -- a block b at p whose sizes are right: what it holds is wrong, or it is the second of its kind
-unfoldable pub wrongBlock : ℕ → List ℕ → ℕ → BlocksRead
+unfoldable pub wrongBlock : ℕ → List ℕ → ℕ → Taken
 wrongBlock slot b p =
     let field = wrong (insideTests slot b) in
     cond (eqb field 0) (stoppedAt TWICE (spotAt (block p) 4)) (stoppedAt (heldFault slot) (spotAt (block p) field))

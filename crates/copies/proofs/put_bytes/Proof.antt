@@ -1,86 +1,125 @@
--- The loop goes on from where the turns have come, in whatever buffer they began.
+-- Two spans that overlap, or the turns and two spans that reach back to where these ended.
 use native.Mathlib.Omega.{arith}
+use Prim.Native.Nat.{_*_, _/_}
+use lib.ListN.{length}
+use Rattle.copies.proofs.CopyLaws.{put-two, put-last-two}
 use borrow.Author.Needs.{needs}
-use Prim.Native.Nat.{ℕ, _+_, _≤_, _-_}
-use mathlib.Core.Path.{_≡_, refl}
-use mathlib.Core.List.{List}
-use lib.ListN.{length, take}
-use Rattle.octets.specs.Parts.{put}
-use Rattle.copies.proofs.CopyLaws.{put-over, put-last}
 use Rattle.copies.proofs.put_bytes.Statement.{statement}
 use Rattle.copies.proofs.put_bytes.Tie as tie
 
-abbrev Inv-loop : tie.InvT-loop
-Inv-loop out₀ at src last i₀ out i =
-    (i ≤ length src) × (length out ≡ length out₀)
-    × ((d : List ℕ) → at + length src ≤ length d → out₀ ≡ put d at (take i₀ src) → out ≡ put d at (take i src))
+put-few-requires : tie.Need-put-few-requires
+put-few-requires c κs = search needs
 
-abbrev μ-loop : tie.MeasureT-loop
-μ-loop out₀ at src last i₀ out i = length src - i
-
-put-few-requires : tie.Need-put-few-requires Inv-loop μ-loop
-put-few-requires c κs = (omega arith, omega arith)
-
-same-length : tie.Need-same-length Inv-loop μ-loop
+same-length : tie.Need-same-length
 same-length c = search needs
 
-returns : tie.Need-returns Inv-loop μ-loop
-returns c = c .before .before .put-few .ensures
+returns : tie.Need-returns
+returns c = search needs
 
-sub-last : tie.Need-sub-last Inv-loop μ-loop
-sub-last c = omega arith
+put-sixteen-requires : tie.Need-put-sixteen-requires
+put-sixteen-requires c κs = search needs
 
-put-turns-requires : tie.Need-put-turns-requires Inv-loop μ-loop
-put-turns-requires c κs = omega arith
+put-sixteen-requires-2 : tie.Need-put-sixteen-requires-2
+put-sixteen-requires-2 c κs = search needs
 
-loop-holds : tie.Need-loop-holds Inv-loop μ-loop
-loop-holds c = (omega arith, refl, λ d h e. e)
+same-length-2 : tie.Need-same-length-2
+same-length-2 c = search needs
 
-put-sixteen-requires : tie.Need-put-sixteen-requires Inv-loop μ-loop
-put-sixteen-requires c κs = (omega arith, omega arith)
-
-add-i : tie.Need-add-i Inv-loop μ-loop
-add-i c = omega arith
-
-loop-less : tie.Need-loop-less Inv-loop μ-loop
-loop-less c = omega arith
-
-loop-again : tie.Need-loop-again Inv-loop μ-loop
-loop-again c =
-    let after-put = c .before .before in
-    let l = after-put .before .before .before .loop in
-    (omega arith, omega arith, λ d h e. put-over d _ _ (l .i) (l .i) 16 (l .inv .2 d h e) (after-put .put-sixteen .ensures) (omega arith) (omega arith) (omega arith) h)
-
-put-sixteen-requires-2 : tie.Need-put-sixteen-requires-2 Inv-loop μ-loop
-put-sixteen-requires-2 c κs = (omega arith, omega arith)
-
-same-length-2 : tie.Need-same-length-2 Inv-loop μ-loop
-same-length-2 c = omega arith
-
-returns-2 : tie.Need-returns-2 Inv-loop μ-loop
+returns-2 : tie.Need-returns-2
 returns-2 c =
-    let after-put = c .before .before in
-    let at-loop = after-put .before .before .before in
-    let after-turns = at-loop .before .before .before in
-    let reached = at-loop .loop .inv .2 _ (omega arith) (after-turns .put-turns .ensures .1) in
-    put-last _ _ _ (at-loop .loop .i) (length (after-turns .before .before .before .before .before .args .src .now) - 16) 16 reached (after-put .put-sixteen2 .ensures) (omega arith) (omega arith) (omega arith) (omega arith)
+    let after-last = c .before .before in
+    let after-first = after-last .before .before .before .before in
+    put-two _ _ _ 16 _ (after-first .put-sixteen .ensures) (after-last .put-sixteen2 .ensures) (omega arith) (omega arith) (omega arith)
+
+put-thirty-two-requires : tie.Need-put-thirty-two-requires
+put-thirty-two-requires c κs = search needs
+
+sub-put-thirty-two : tie.Need-sub-put-thirty-two
+sub-put-thirty-two c = search needs
+
+put-thirty-two-requires-2 : tie.Need-put-thirty-two-requires-2
+put-thirty-two-requires-2 c κs = search needs
+
+same-length-3 : tie.Need-same-length-3
+same-length-3 c = search needs
+
+returns-3 : tie.Need-returns-3
+returns-3 c =
+    let after-last = c .before .before in
+    let after-first = after-last .before .before .before .before in
+    put-two _ _ _ 32 _ (after-first .put-thirty-two .ensures) (after-last .put-thirty-two2 .ensures) (omega arith) (omega arith) (omega arith)
+
+put-sixty-four-requires : tie.Need-put-sixty-four-requires
+put-sixty-four-requires c κs = search needs
+
+sub-put-sixty-four : tie.Need-sub-put-sixty-four
+sub-put-sixty-four c = search needs
+
+put-sixty-four-requires-2 : tie.Need-put-sixty-four-requires-2
+put-sixty-four-requires-2 c κs = search needs
+
+same-length-4 : tie.Need-same-length-4
+same-length-4 c = search needs
+
+returns-4 : tie.Need-returns-4
+returns-4 c =
+    let after-last = c .before .before in
+    let after-first = after-last .before .before .before .before in
+    put-two _ _ _ 64 _ (after-first .put-sixty-four .ensures) (after-last .put-sixty-four2 .ensures) (omega arith) (omega arith) (omega arith)
+
+put-turns-requires : tie.Need-put-turns-requires
+put-turns-requires c κs = search needs
+
+sub-put-sixty-four-2 : tie.Need-sub-put-sixty-four-2
+sub-put-sixty-four-2 c = search needs
+
+put-sixty-four-requires-3 : tie.Need-put-sixty-four-requires-3
+put-sixty-four-requires-3 c κs = search needs
+
+sub-put-sixty-four-3 : tie.Need-sub-put-sixty-four-3
+sub-put-sixty-four-3 c = search needs
+
+put-sixty-four-requires-4 : tie.Need-put-sixty-four-requires-4
+put-sixty-four-requires-4 c κs = search needs
+
+same-length-5 : tie.Need-same-length-5
+same-length-5 c = search needs
+
+returns-5 : tie.Need-returns-5
+returns-5 c =
+    let after-last = c .before .before in
+    let after-first = after-last .before .before .before .before in
+    let after-turns = after-first .before .before .before .before in
+    let above-thirty-two = after-turns .before .before .before .before in
+    let start = above-thirty-two .before .before .before .before in
+    let n = length (start .args .src .now) in
+    put-last-two _ _ _ (128 * (n / 128)) _ 64 _ (after-turns .put-turns .ensures) (after-first .put-sixty-four3 .ensures) (after-last .put-sixty-four4 .ensures) (omega arith) (omega arith) (omega arith) (omega arith) (omega arith)
 
 pub put-bytes-spec : {M : Type 1} → statement M
 put-bytes-spec =
     tie.close
     (tie.spec
-    Inv-loop
-    μ-loop
     put-few-requires
     same-length
     returns
-    sub-last
-    put-turns-requires
-    loop-holds
     put-sixteen-requires
-    add-i
-    loop-less
-    loop-again
     put-sixteen-requires-2
     same-length-2
-    returns-2)
+    returns-2
+    put-thirty-two-requires
+    sub-put-thirty-two
+    put-thirty-two-requires-2
+    same-length-3
+    returns-3
+    put-sixty-four-requires
+    sub-put-sixty-four
+    put-sixty-four-requires-2
+    same-length-4
+    returns-4
+    put-turns-requires
+    sub-put-sixty-four-2
+    put-sixty-four-requires-3
+    sub-put-sixty-four-3
+    put-sixty-four-requires-4
+    same-length-5
+    returns-5)

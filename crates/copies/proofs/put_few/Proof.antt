@@ -1,9 +1,6 @@
 -- The first bytes and the last ones, of which some may be the same.
 use native.Mathlib.Omega.{arith}
-use Prim.Native.Nat.{_-_}
-use lib.ListN.{length}
-use Rattle.copies.proofs.CopyLaws.{put-over, put-last}
-use Rattle.octets.proofs.WroteLaws.{put-nil}
+use Rattle.copies.proofs.CopyLaws.{put-two}
 use borrow.Author.Needs.{needs}
 use Rattle.copies.proofs.put_few.Statement.{statement}
 use Rattle.copies.proofs.put_few.Tie as tie
@@ -21,9 +18,7 @@ returns : tie.Need-returns
 returns c =
     let after-last = c .before .before in
     let after-first = after-last .before .before .before .before in
-    let n = length (after-first .before .before .before .before .before .args .src .now) in
-    let first = put-over _ _ _ 0 0 8 (put-nil _ _) (after-first .put-eight .ensures) (omega arith) (omega arith) (omega arith) (omega arith) in
-    put-last _ _ _ 8 (n - 8) 8 first (after-last .put-eight2 .ensures) (omega arith) (omega arith) (omega arith) (omega arith)
+    put-two _ _ _ 8 _ (after-first .put-eight .ensures) (after-last .put-eight2 .ensures) (omega arith) (omega arith) (omega arith)
 
 put-four-requires : tie.Need-put-four-requires
 put-four-requires c κs = search needs
@@ -38,9 +33,7 @@ returns-2 : tie.Need-returns-2
 returns-2 c =
     let after-last = c .before .before in
     let after-first = after-last .before .before .before .before in
-    let n = length (after-first .before .before .before .before .before .before .args .src .now) in
-    let first = put-over _ _ _ 0 0 4 (put-nil _ _) (after-first .put-four .ensures) (omega arith) (omega arith) (omega arith) (omega arith) in
-    put-last _ _ _ 4 (n - 4) 4 first (after-last .put-four2 .ensures) (omega arith) (omega arith) (omega arith) (omega arith)
+    put-two _ _ _ 4 _ (after-first .put-four .ensures) (after-last .put-four2 .ensures) (omega arith) (omega arith) (omega arith)
 
 put-each-requires : tie.Need-put-each-requires
 put-each-requires c κs = search needs

@@ -1,6 +1,6 @@
 -- After i bytes, which are whole turns, the first i are put.
 use native.Mathlib.Omega.{arith}
-use Prim.Native.Nat.{_≤_, _-_, _%_}
+use Prim.Native.Nat.{_≤_, _-_, _*_, _/_, _%_}
 use mathlib.Core.Path.{_≡_, refl}
 use lib.ListN.{length, take}
 use Rattle.octets.specs.Parts.{put}
@@ -16,7 +16,10 @@ abbrev μ-loop : tie.MeasureT-loop
 μ-loop out₀ at src last i₀ out i = length src - i
 
 returns : tie.Need-returns Inv-loop μ-loop
-returns c = (omega arith, put-nil _ _)
+returns c =
+    let start = c .before .before .before in
+    let none : 128 * (length (start .args .src .now) / 128) ≡ 0 = omega arith in
+    rw none (put-nil _ _)
 
 sub-last : tie.Need-sub-last Inv-loop μ-loop
 sub-last c = omega arith
@@ -53,7 +56,11 @@ same-length : tie.Need-same-length Inv-loop μ-loop
 same-length c = c .before .loop .inv .2
 
 returns-2 : tie.Need-returns-2 Inv-loop μ-loop
-returns-2 c = (omega arith, c .before .loop .inv .3)
+returns-2 c =
+    let at-loop = c .before in
+    let start = at-loop .before .before .before .before in
+    let reached : 128 * (length (start .args .src .now) / 128) ≡ at-loop .loop .i = omega arith in
+    rw reached (at-loop .loop .inv .3)
 
 pub put-turns-spec : {M : Type 1} → statement M
 put-turns-spec =

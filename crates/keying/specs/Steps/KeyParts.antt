@@ -5,13 +5,15 @@ use mathlib.Core.List.{List}
 use mathlib.Core.Bool.{Bool, false, cond}
 use lib.ListN.{length}
 use Rattle.format.specs.declared.Place.{Place}
+use Rattle.format.specs.declared.Record.{Record}
 use Rattle.format.specs.Tests.{noPlace}
 use Rattle.format.specs.Shortcut.{most}
 use Rattle.format.specs.Contents.{bytesAt}
+use Rattle.format.specs.Target.{hasTarget}
 use Rattle.format.specs.Key.{Part, partIf, Key, blockText, environment}
 use Rattle.blocks.specs.Steps.Walk.{blockFrom}
 use Rattle.target.specs.declared.Texts.{Texts}
-use Rattle.target.specs.Steps.Texts.{Stands, textsLength, textsBytes}
+use Rattle.target.specs.Steps.Texts.{textsOf, Stands, textsLength, textsBytes}
 use Rattle.keying.specs.declared.KeyPart.{KeyPart}
 use Rattle.keying.specs.declared.KeyParts.{KeyParts}
 
@@ -24,6 +26,11 @@ only b = record { first = b; separators = 0; suffix = noPlace }
 -- an absent part has no texts
 unfoldable pub keyPart : Bool → Texts → KeyPart
 keyPart there t = record { there = there; texts = cond there t (only noPlace) }
+
+-- the target of a record
+unfoldable pub targetPart : List ℕ → Record → KeyPart
+unfolding keyPart
+targetPart s r = keyPart (hasTarget r) (textsOf s r)
 
 unfoldable pub partShown : List ℕ → KeyPart → Part
 partShown s p = partIf (p .there) (textsBytes s (p .texts))

@@ -1,15 +1,14 @@
 -- Each section has room where the whole has.
 use Rattle.moving.proofs.CallLaws.{info-fits, total-fits, room-fits}
-use Rattle.moving.proofs.PieceLaws.{slot-inside}
+use Rattle.moves.proofs.BodyMoves.{slot-inside}
 use Rattle.moving.specs.Steps.Pieces.{movedFlat}
-use Rattle.moving.specs.Steps.Moves.{inRow}
+use Rattle.moves.specs.Steps.Moves.{inRow}
 use Rattle.format.specs.Steps.Flat.{infoTo}
-use Rattle.format.specs.Presence.{infoThere}
 use Rattle.octets.proofs.WroteLaws.{kept, join, reword}
 use native.Mathlib.Omega.{arith}
-use Prim.Native.Nat.{ℕ, _+_}
+use Prim.Native.Nat.{_+_}
 use mathlib.Core.Bool.{Bool, cond}
-use mathlib.Core.Path.{_≡_, refl, sym, ap, _∙_}
+use mathlib.Core.Path.{sym, ap, _∙_}
 use borrow.Author.Needs.{needs}
 use Rattle.moving.proofs.put_moved.Statement.{statement}
 use Rattle.moving.proofs.put_moved.Tie as tie

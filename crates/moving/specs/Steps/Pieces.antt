@@ -17,7 +17,7 @@ use Rattle.format.specs.Steps.Lengths.{writtenBody, volumePart, networkPart}
 use Rattle.format.specs.Steps.Shape.{rowAs, rowsFrom}
 use Rattle.format.specs.Steps.Flat.{rowBytes, slotsBytes, volumeHeadBytes, networkHeadBytes, infoHeadBytes}
 use Rattle.canonical.specs.Steps.Puts.{slotsSize}
-use Rattle.moving.specs.Steps.Moves.{translate, movedPlace}
+use Rattle.moves.specs.Steps.Moves.{translate, movedPlace}
 
 -- ---- StringData
 

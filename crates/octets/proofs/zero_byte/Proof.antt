@@ -1,18 +1,18 @@
 -- The search from i answers as the search from the start, and each byte of a turn that is not zero is passed.
 use Rattle.octets.proofs.ReadLaws.{number-byte}
-use Rattle.octets.proofs.ZeroLaws.{sixteens-passed, scan-zero, byte-passed}
-use Rattle.octets.specs.Steps.Scans.{zeroFrom, scanAt}
+use Rattle.octets.proofs.ZeroLaws.{sixteens-passed, search-zero, byte-passed}
+use Rattle.octets.specs.Steps.Scans.{zeroPlace}
 use borrow.Author.Needs.{needs}
 use lib.ListN.{length}
 use mathlib.Core.Bool.{false}
-use mathlib.Core.Path.{_≡_}
-use Prim.Native.Nat.{_≤_, _+_, _-_}
+use mathlib.Core.Path.{_≡_, _∙_}
+use Prim.Native.Nat.{_+_, _-_}
 use native.Mathlib.Omega.{arith}
 use Rattle.octets.proofs.zero_byte.Statement.{statement}
 use Rattle.octets.proofs.zero_byte.Tie as tie
 
 abbrev Inv-loop : tie.InvT-loop
-Inv-loop s from i₀ last i = (from ≤ i) × (scanAt false s i (i - from) ≡ zeroFrom false s from)
+Inv-loop s from i₀ last i = zeroPlace false s i ≡ zeroPlace false s from
 
 abbrev μ-loop : tie.MeasureT-loop
 μ-loop s from i₀ last i = length s - i
@@ -21,33 +21,22 @@ skip-bytes-requires : tie.Need-skip-bytes-requires Inv-loop μ-loop
 skip-bytes-requires c κs = search needs
 
 zero-rest-requires : tie.Need-zero-rest-requires Inv-loop μ-loop
-zero-rest-requires c κs =
-    let after-skip = c .before in
-    let p = sixteens-passed _ _ _ (after-skip .skip-bytes .ensures) in
-    let e : after-skip .skip-bytes .result - after-skip .before .before .args .from ≡ p .count = omega (arith, p .place) in
-    (omega (arith, p .place), rw e (p .rest))
+zero-rest-requires c κs = search needs
 
 returns : tie.Need-returns Inv-loop μ-loop
-returns c = c .zero-rest .ensures
+returns c = c .zero-rest .ensures ∙ sixteens-passed _ _ _ (c .before .before .skip-bytes .ensures)
 
 sub-last : tie.Need-sub-last Inv-loop μ-loop
 sub-last c = omega arith
 
 loop-holds : tie.Need-loop-holds Inv-loop μ-loop
-loop-holds c =
-    let after-skip = c .before in
-    let p = sixteens-passed _ _ _ (after-skip .skip-bytes .ensures) in
-    let e : after-skip .skip-bytes .result - after-skip .before .before .args .from ≡ p .count = omega (arith, p .place) in
-    (omega (arith, p .place), rw e (p .rest))
+loop-holds c = sixteens-passed _ _ _ (c .before .skip-bytes .ensures)
 
 shared-slice-read-if2 : tie.Need-shared-slice-read-if2 Inv-loop μ-loop
 shared-slice-read-if2 c = omega arith
 
-sub-t10 : tie.Need-sub-t10 Inv-loop μ-loop
-sub-t10 c = omega arith
-
 returns-2 : tie.Need-returns-2 Inv-loop μ-loop
-returns-2 c = scan-zero _ _ _ _ (c .before .before .before .loop .inv .1) (omega arith) (number-byte _ _) (c .if2 .taken)
+returns-2 c = search-zero _ _ _ (c .before .before .before .loop .inv) (omega arith) (number-byte _ _) (c .if2 .taken)
 
 add-if3 : tie.Need-add-if3 Inv-loop μ-loop
 add-if3 c = omega arith
@@ -55,19 +44,16 @@ add-if3 c = omega arith
 shared-slice-read-if3 : tie.Need-shared-slice-read-if3 Inv-loop μ-loop
 shared-slice-read-if3 c = omega arith
 
-add-t13 : tie.Need-add-t13 Inv-loop μ-loop
-add-t13 c = omega arith
-
-sub-t14 : tie.Need-sub-t14 Inv-loop μ-loop
-sub-t14 c = omega arith
+add-result : tie.Need-add-result Inv-loop μ-loop
+add-result c = omega arith
 
 returns-3 : tie.Need-returns-3 Inv-loop μ-loop
 returns-3 c =
     let past-first = c .before .before in
     let at-loop = past-first .before .before .before in
     let i = at-loop .loop .i in
-    let after-first = byte-passed _ _ i (i + 1) (omega arith) (omega arith) (at-loop .loop .inv .1) (past-first .if2 .left) (omega arith) in
-    scan-zero _ _ _ _ after-first (omega arith) (number-byte _ _) (c .if3 .taken)
+    let after-first = byte-passed _ i (i + 1) (omega arith) (at-loop .loop .inv) (past-first .if2 .left) (omega arith) in
+    search-zero _ _ _ after-first (omega arith) (number-byte _ _) (c .if3 .taken)
 
 add-if4 : tie.Need-add-if4 Inv-loop μ-loop
 add-if4 c = omega arith
@@ -75,11 +61,8 @@ add-if4 c = omega arith
 shared-slice-read-if4 : tie.Need-shared-slice-read-if4 Inv-loop μ-loop
 shared-slice-read-if4 c = omega arith
 
-add-t16 : tie.Need-add-t16 Inv-loop μ-loop
-add-t16 c = omega arith
-
-sub-t17 : tie.Need-sub-t17 Inv-loop μ-loop
-sub-t17 c = omega arith
+add-result-2 : tie.Need-add-result-2 Inv-loop μ-loop
+add-result-2 c = omega arith
 
 returns-4 : tie.Need-returns-4 Inv-loop μ-loop
 returns-4 c =
@@ -87,9 +70,9 @@ returns-4 c =
     let past-first = past-second .before .before in
     let at-loop = past-first .before .before .before in
     let i = at-loop .loop .i in
-    let after-first = byte-passed _ _ i (i + 1) (omega arith) (omega arith) (at-loop .loop .inv .1) (past-first .if2 .left) (omega arith) in
-    let after-second = byte-passed _ _ (i + 1) (i + 2) (omega arith) (omega arith) after-first (past-second .if3 .left) (omega arith) in
-    scan-zero _ _ _ _ after-second (omega arith) (number-byte _ _) (c .if4 .taken)
+    let after-first = byte-passed _ i (i + 1) (omega arith) (at-loop .loop .inv) (past-first .if2 .left) (omega arith) in
+    let after-second = byte-passed _ (i + 1) (i + 2) (omega arith) after-first (past-second .if3 .left) (omega arith) in
+    search-zero _ _ _ after-second (omega arith) (number-byte _ _) (c .if4 .taken)
 
 add-if5 : tie.Need-add-if5 Inv-loop μ-loop
 add-if5 c = omega arith
@@ -97,11 +80,8 @@ add-if5 c = omega arith
 shared-slice-read-if5 : tie.Need-shared-slice-read-if5 Inv-loop μ-loop
 shared-slice-read-if5 c = omega arith
 
-add-t19 : tie.Need-add-t19 Inv-loop μ-loop
-add-t19 c = omega arith
-
-sub-t20 : tie.Need-sub-t20 Inv-loop μ-loop
-sub-t20 c = omega arith
+add-result-3 : tie.Need-add-result-3 Inv-loop μ-loop
+add-result-3 c = omega arith
 
 returns-5 : tie.Need-returns-5 Inv-loop μ-loop
 returns-5 c =
@@ -110,10 +90,10 @@ returns-5 c =
     let past-first = past-second .before .before in
     let at-loop = past-first .before .before .before in
     let i = at-loop .loop .i in
-    let after-first = byte-passed _ _ i (i + 1) (omega arith) (omega arith) (at-loop .loop .inv .1) (past-first .if2 .left) (omega arith) in
-    let after-second = byte-passed _ _ (i + 1) (i + 2) (omega arith) (omega arith) after-first (past-second .if3 .left) (omega arith) in
-    let after-third = byte-passed _ _ (i + 2) (i + 3) (omega arith) (omega arith) after-second (past-third .if4 .left) (omega arith) in
-    scan-zero _ _ _ _ after-third (omega arith) (number-byte _ _) (c .if5 .taken)
+    let after-first = byte-passed _ i (i + 1) (omega arith) (at-loop .loop .inv) (past-first .if2 .left) (omega arith) in
+    let after-second = byte-passed _ (i + 1) (i + 2) (omega arith) after-first (past-second .if3 .left) (omega arith) in
+    let after-third = byte-passed _ (i + 2) (i + 3) (omega arith) after-second (past-third .if4 .left) (omega arith) in
+    search-zero _ _ _ after-third (omega arith) (number-byte _ _) (c .if5 .taken)
 
 add-i : tie.Need-add-i Inv-loop μ-loop
 add-i c = omega arith
@@ -129,17 +109,16 @@ loop-again c =
     let past-first = past-second .before .before in
     let at-loop = past-first .before .before .before in
     let i = at-loop .loop .i in
-    let after-first = byte-passed _ _ i (i + 1) (omega arith) (omega arith) (at-loop .loop .inv .1) (past-first .if2 .left) (omega arith) in
-    let after-second = byte-passed _ _ (i + 1) (i + 2) (omega arith) (omega arith) after-first (past-second .if3 .left) (omega arith) in
-    let after-third = byte-passed _ _ (i + 2) (i + 3) (omega arith) (omega arith) after-second (past-third .if4 .left) (omega arith) in
-    let after-fourth = byte-passed _ _ (i + 3) (i + 4) (omega arith) (omega arith) after-third (past-fourth .if5 .left) (omega arith) in
-    (omega arith, after-fourth)
+    let after-first = byte-passed _ i (i + 1) (omega arith) (at-loop .loop .inv) (past-first .if2 .left) (omega arith) in
+    let after-second = byte-passed _ (i + 1) (i + 2) (omega arith) after-first (past-second .if3 .left) (omega arith) in
+    let after-third = byte-passed _ (i + 2) (i + 3) (omega arith) after-second (past-third .if4 .left) (omega arith) in
+    byte-passed _ (i + 3) (i + 4) (omega arith) after-third (past-fourth .if5 .left) (omega arith)
 
 zero-rest-requires-2 : tie.Need-zero-rest-requires-2 Inv-loop μ-loop
-zero-rest-requires-2 c κs = c .before .loop .inv
+zero-rest-requires-2 c κs = search needs
 
 returns-6 : tie.Need-returns-6 Inv-loop μ-loop
-returns-6 c = c .zero-rest2 .ensures
+returns-6 c = c .zero-rest2 .ensures ∙ c .before .before .loop .inv
 
 pub zero-byte-spec : {M : Type 1} → statement M
 zero-byte-spec =
@@ -153,22 +132,18 @@ zero-byte-spec =
     sub-last
     loop-holds
     shared-slice-read-if2
-    sub-t10
     returns-2
     add-if3
     shared-slice-read-if3
-    add-t13
-    sub-t14
+    add-result
     returns-3
     add-if4
     shared-slice-read-if4
-    add-t16
-    sub-t17
+    add-result-2
     returns-4
     add-if5
     shared-slice-read-if5
-    add-t19
-    sub-t20
+    add-result-3
     returns-5
     add-i
     loop-less

@@ -1,24 +1,23 @@
--- The search from i with n units passed answers as the search from the start; n is at most i, so it cannot wrap.
-use Rattle.octets.proofs.ZeroLaws.{sixteens-passed, scan-start, scan-end, scan-zero, scan-other}
-use Rattle.octets.specs.Steps.Scans.{scanAt}
-use Rattle.octets.specs.Steps.Scans.{zeroFrom}
+-- The search from i answers as the search from the start.
+use Rattle.octets.proofs.ZeroLaws.{sixteens-passed, search-end, search-zero, search-other}
+use Rattle.octets.specs.Steps.Scans.{zeroPlace}
 use borrow.Author.Needs.{needs}
 use lib.ListN.{length}
 use mathlib.Core.Bool.{true}
-use mathlib.Core.Path.{_≡_}
-use Prim.Native.Nat.{_≤_, _-_, _/_}
+use mathlib.Core.Path.{_≡_, refl}
+use Prim.Native.Nat.{_-_}
 use native.Mathlib.Omega.{arith}
 use Rattle.octets.proofs.zero_unit.Statement.{statement}
 use Rattle.octets.proofs.zero_unit.Tie as tie
 
 abbrev Inv-loop : tie.InvT-loop
-Inv-loop s from last i₀ n₀ i n = (n ≤ i) × (scanAt true s i n ≡ zeroFrom true s from)
+Inv-loop s from last i₀ i = zeroPlace true s i ≡ zeroPlace true s from
 
 abbrev μ-loop : tie.MeasureT-loop
-μ-loop s from last i₀ n₀ i n = length s - i
+μ-loop s from last i₀ i = length s - i
 
 returns : tie.Need-returns Inv-loop μ-loop
-returns c = scan-end _ _ _ _ (scan-start _ _ _) (omega arith)
+returns c = search-end _ _ _ refl (omega arith)
 
 sub-last : tie.Need-sub-last Inv-loop μ-loop
 sub-last c = omega arith
@@ -26,36 +25,26 @@ sub-last c = omega arith
 skip-units-requires : tie.Need-skip-units-requires Inv-loop μ-loop
 skip-units-requires c κs = search needs
 
-sub-n : tie.Need-sub-n Inv-loop μ-loop
-sub-n c = omega (arith, sixteens-passed _ _ _ (c .skip-units .ensures) .place)
-
 loop-holds : tie.Need-loop-holds Inv-loop μ-loop
-loop-holds c =
-    let p = sixteens-passed _ _ _ (c .skip-units .ensures) in
-    let e : (c .skip-units .result - c .before .before .before .args .from) / 2 ≡ p .count = omega (arith, p .place) in
-    (omega arith, rw e (p .rest))
+loop-holds c = sixteens-passed _ _ _ (c .skip-units .ensures)
 
 u16-at-requires : tie.Need-u16-at-requires Inv-loop μ-loop
 u16-at-requires c κs = omega arith
 
 returns-2 : tie.Need-returns-2 Inv-loop μ-loop
-returns-2 c = scan-zero _ _ _ _ (c .before .before .before .loop .inv .1) (omega arith) (c .before .u16-at .ensures) (c .if2 .taken)
+returns-2 c = search-zero _ _ _ (c .before .before .before .loop .inv) (omega arith) (c .before .u16-at .ensures) (c .if2 .taken)
 
 add-i : tie.Need-add-i Inv-loop μ-loop
 add-i c = omega arith
-
-add-n : tie.Need-add-n Inv-loop μ-loop
-add-n c = omega arith
 
 loop-less : tie.Need-loop-less Inv-loop μ-loop
 loop-less c = omega arith
 
 loop-again : tie.Need-loop-again Inv-loop μ-loop
-loop-again c =
-    (omega arith, scan-other _ _ _ _ (c .before .before .before .loop .inv .1) (omega arith) (c .before .u16-at .ensures) (c .if2 .left))
+loop-again c = search-other _ _ _ (c .before .before .before .loop .inv) (omega arith) (c .before .u16-at .ensures) (c .if2 .left)
 
 returns-3 : tie.Need-returns-3 Inv-loop μ-loop
-returns-3 c = scan-end _ _ _ _ (c .before .loop .inv .1) (omega arith)
+returns-3 c = search-end _ _ _ (c .before .loop .inv) (omega arith)
 
 pub zero-unit-spec : {M : Type 1} → statement M
 zero-unit-spec =
@@ -66,12 +55,10 @@ zero-unit-spec =
     returns
     sub-last
     skip-units-requires
-    sub-n
     loop-holds
     u16-at-requires
     returns-2
     add-i
-    add-n
     loop-less
     loop-again
     returns-3)

@@ -1,9 +1,9 @@
--- A scan for a zero character on its way: what it has passed, and what is still to come.
+-- A search for a zero character: what it answers, and what it passes at once.
 use mathlib.Core.Path.{_≡_}
 use mathlib.Core.List.{List}
-use mathlib.Core.Bool.{Bool, true, not, cond, _&&_}
-use Prim.Native.Nat.{ℕ, zero, suc, _+_, _*_, _/_}
-use lib.ListN.{drop}
+use mathlib.Core.Bool.{Bool, true, false, not, cond, _&&_}
+use Prim.Native.Nat.{ℕ, zero, suc, _+_, _*_, _/_, _≤_, _<_}
+use lib.ListN.{length, drop}
 use lib.Dec.{eqb}
 use Rattle.octets.specs.Numbers.{numberAt}
 use Rattle.octets.specs.Characters.{bytesOf, characters, beforeZero, hasZero}
@@ -31,13 +31,26 @@ pub record ScanAnswer (u : Bool) (s : List ℕ) (i : ℕ) (z : Zero) : Type 0 wh
   pub number : zeroNumber z ≡ okOrCut (hasZero (characters u (drop i s)))
   pub value : zeroValue z ≡ cond (hasZero (characters u (drop i s))) (beforeZero (characters u (drop i s))) 0
 
--- a scan that has passed n characters and has l before it
-abbrev pub scanOn : ℕ → List ℕ → Zero
-scanOn n l = cond (hasZero l) (After (n + beforeZero l)) Nowhere
+-- how many characters stand before the first zero one from the place i on
+abbrev pub before : Bool → List ℕ → ℕ → ℕ
+before u s i = beforeZero (characters u (drop i s))
 
--- the scan of s from the place i on
-unfoldable pub scanAt : Bool → List ℕ → ℕ → ℕ → Zero
-scanAt u s i n = scanOn n (characters u (drop i s))
+-- where the first zero character from the place i on stands; the length where there is none
+unfoldable pub zeroPlace : Bool → List ℕ → ℕ → ℕ
+zeroPlace u s i = cond (hasZero (characters u (drop i s))) (i + bytesOf u (before u s i)) (length s)
+
+-- the first zero character from the place i on stands at the place p
+pub record FirstZero (u : Bool) (s : List ℕ) (i p : ℕ) : Type 0 where
+  pub ends : hasZero (characters u (drop i s)) ≡ true
+  pub text : i + bytesOf u (before u s i) ≡ p
+  pub inside : p + bytesOf u 1 ≤ length s
+
+-- what the search from the place i on answers: the length alone says that no character is zero
+pub record PlaceAnswer (u : Bool) (s : List ℕ) (i p : ℕ) : Type 0 where
+  pub is : p ≡ zeroPlace u s i
+  pub within : p ≤ length s
+  pub found : p < length s → FirstZero u s i p
+  pub none : p ≡ length s → hasZero (characters u (drop i s)) ≡ false
 
 -- the character at the place i is not zero
 abbrev pub other : Bool → List ℕ → ℕ → Bool
@@ -48,16 +61,6 @@ unfoldable pub others : Bool → List ℕ → ℕ → ℕ → Bool
 others u s i zero = true
 others u s i (suc k) = others u s i k && other u s (i + bytesOf u k)
 
--- how many characters stand before the first zero one from the place i on
-abbrev pub before : Bool → List ℕ → ℕ → ℕ
-before u s i = beforeZero (characters u (drop i s))
-
 -- past all whole sixteens of bytes in front of the first that has a zero character
 unfoldable pub sixteens : Bool → List ℕ → ℕ → ℕ
 sixteens u s i = i + bytesOf u (before u s i) / 16 * 16
-
--- a scan from the place i on may go on from the place r
-pub record Passed (u : Bool) (s : List ℕ) (i r : ℕ) : Type 0 where
-  pub count : ℕ
-  pub place : r ≡ i + bytesOf u count
-  pub rest : scanAt u s r count ≡ zeroFrom u s i

@@ -12,7 +12,7 @@ no-network-requires : tie.Need-no-network-requires
 no-network-requires c κs = search needs
 
 returns : tie.Need-returns
-returns c = struct-absent networkKind _ _ _ _ (c .before .if1 .taken) (c .no-network .ensures)
+returns c = struct-absent networkKind _ _ _ (c .before .if1 .taken) (c .no-network .ensures)
 
 u32-at-requires : tie.Need-u32-at-requires
 u32-at-requires c κs = search needs
@@ -47,9 +47,6 @@ part-v-end c =
     let after-end-of = c .before .before .before in
     omega (arith, ended _ _ _ _ _ (after-end-of .end-of .ensures .is) (c .before .e .given .1))
 
-add-network-in : tie.Need-add-network-in
-add-network-in c = search needs
-
 network-in-requires : tie.Need-network-in-requires
 network-in-requires c κs =
     let after-e = c .before .before in
@@ -66,17 +63,17 @@ add-no-network c =
     let after-e = after-network-in .before .before .before in
     let after-end-of = after-e .before .before in
     let w = ended _ _ _ _ _ (after-end-of .end-of .ensures .is) (after-e .e .given .1) in
-    let b = bad-small networkKind _ _ (after-network-in .network-in .ensures .is) (c .before .wrong2 .given .1) in
+    let b = bad-small networkKind _ (after-network-in .network-in .ensures .is) (c .before .wrong2 .given .1) in
     omega (arith, after-end-of .before .before .before .before .pre .1)
 
 no-network-requires-3 : tie.Need-no-network-requires-3
 no-network-requires-3 c κs = search needs
 
-enum-known-network : tie.Need-enum-known-network
-enum-known-network c = search needs
+enum-known-texts : tie.Need-enum-known-texts
+enum-known-texts c = search needs
 
-sub-t21 : tie.Need-sub-t21
-sub-t21 c =
+sub-t20 : tie.Need-sub-t20
+sub-t20 c =
     let after-v = c .before .before .before .before in
     let after-e = after-v .before .before in
     let after-end-of = after-e .before .before in
@@ -88,7 +85,7 @@ returns-2 c =
     let after-end-of = after-wrong .before .before in
     let after-u32-at = after-end-of .before in
     let after-if1 = after-u32-at .before in
-    struct-lost networkKind _ _ _ _ (after-if1 .if1 .left) (after-u32-at .u32-at .ensures) (after-end-of .end-of .ensures .is) (after-wrong .wrong .given .1) (c .no-network2 .ensures)
+    struct-lost networkKind _ _ _ (after-if1 .if1 .left) (after-u32-at .u32-at .ensures) (after-end-of .end-of .ensures .is) (after-wrong .wrong .given .1) (c .no-network2 .ensures)
 
 returns-3 : tie.Need-returns-3
 returns-3 c =
@@ -98,7 +95,7 @@ returns-3 c =
     let after-end-of = after-e .before .before in
     let after-u32-at = after-end-of .before in
     let after-if1 = after-u32-at .before in
-    struct-bad networkKind _ _ _ _ (after-if1 .if1 .left) (after-u32-at .u32-at .ensures) (after-end-of .end-of .ensures .is) (after-e .e .given .1)
+    struct-bad networkKind _ _ _ (after-if1 .if1 .left) (after-u32-at .u32-at .ensures) (after-end-of .end-of .ensures .is) (after-e .e .given .1)
     (after-network-in .network-in .ensures .is) (after-wrong2 .wrong2 .given .1) refl (c .no-network3 .ensures)
 
 returns-4 : tie.Need-returns-4
@@ -108,8 +105,8 @@ returns-4 c =
     let after-end-of = after-e .before .before in
     let after-u32-at = after-end-of .before in
     let after-if1 = after-u32-at .before in
-    struct-good networkKind _ _ _ _ (after-if1 .if1 .left) (after-u32-at .u32-at .ensures) (after-end-of .end-of .ensures .is) (after-e .e .given .1)
-    (after-network-in .network-in .ensures .is) (after-if1 .before .before .pre .1) (c .before .network .given .1)
+    struct-good networkKind _ _ _ (after-if1 .if1 .left) (after-u32-at .u32-at .ensures) (after-end-of .end-of .ensures .is) (after-e .e .given .1)
+    (after-network-in .network-in .ensures .is) (after-if1 .before .before .pre .1) (c .before .texts .given .1)
 
 pub network-spec : {M : Type 1} → statement M
 network-spec =
@@ -126,13 +123,12 @@ network-spec =
     sub-v
     part-v-start
     part-v-end
-    add-network-in
     network-in-requires
     enum-known-wrong-2
     add-no-network
     no-network-requires-3
-    enum-known-network
-    sub-t21
+    enum-known-texts
+    sub-t20
     returns-2
     returns-3
     returns-4)

@@ -9,7 +9,7 @@ network-head-wrong-requires : tie.Need-network-head-wrong-requires
 network-head-wrong-requires c κs = search needs
 
 returns : tie.Need-returns
-returns c = network-fails _ _ (c .before .network-head-wrong .ensures) (c .if1 .taken)
+returns c = network-fails _ (c .before .network-head-wrong .ensures) (c .if1 .taken)
 
 u32-at-requires : tie.Need-u32-at-requires
 u32-at-requires c κs = search needs
@@ -85,31 +85,12 @@ unless-requires-3 c κs = search needs
 unless-requires-4 : tie.Need-unless-requires-4
 unless-requires-4 c κs = search needs
 
-provider-there-requires : tie.Need-provider-there-requires
-provider-there-requires c κs = search needs
-
-u32-at-requires-4 : tie.Need-u32-at-requires-4
-u32-at-requires-4 c κs =
-    let after-unless = c .before .before .before .before in
-    let after-text-at3 = after-unless .before .before .before .before in
-    let after-text-at = after-text-at3 .before .before .before .before in
-    let after-u32-at2 = after-text-at .before .before .before .before in
-    let after-shared-slice-known = after-u32-at2 .before .before .before .before in
-    after-shared-slice-known .before .pre .0
-
-number-if-requires : tie.Need-number-if-requires
-number-if-requires c κs = search needs
-
 network-if-requires : tie.Need-network-if-requires
 network-if-requires c κs = search needs
 
 returns-2 : tie.Need-returns-2
 returns-2 c =
-    let after-net = c .before .before .before .before in
-    let after-number-if = after-net .before in
-    let after-u32-at4 = after-number-if .before in
-    let after-provider-there = after-u32-at4 .before in
-    let after-unless4 = after-provider-there .before in
+    let after-unless4 = c .before in
     let after-unless3 = after-unless4 .before in
     let after-unless2 = after-unless3 .before in
     let after-unless = after-unless2 .before in
@@ -128,12 +109,12 @@ returns-2 c =
     let after-u32-at = after-u32-at2 .before in
     let after-if1 = after-u32-at .before in
     let after-network-head-wrong = after-if1 .before in
-    let f = four _ _ (after-u32-at .u32-at .ensures) (after-u32-at2 .u32-at2 .ensures) (after-device-there .device-there .ensures) (after-device-unicode-there .device-unicode-there .ensures)
+    let f = four _ (after-u32-at .u32-at .ensures) (after-u32-at2 .u32-at2 .ensures) (after-device-there .device-there .ensures) (after-device-unicode-there .device-unicode-there .ensures)
     (after-network-head .network-head .ensures) (after-text-at .text-at .ensures .0) (after-u32-at3 .u32-at3 .ensures) (after-text-at2 .text-at2 .ensures .0)
     (after-field .field .ensures) (after-text-at3 .text-at3 .ensures .0) (after-field2 .field2 .ensures) (after-text-at4 .text-at4 .ensures .0) in
-    network-read _ _ (after-network-head-wrong .network-head-wrong .ensures) (after-if1 .if1 .left) f (after-apart-four .apart-four .ensures)
+    network-read _ (after-network-head-wrong .network-head-wrong .ensures) (after-if1 .if1 .left) f (after-apart-four .apart-four .ensures)
     (after-unless .unless .ensures) (after-unless2 .unless2 .ensures) (after-unless3 .unless3 .ensures) (after-unless4 .unless4 .ensures)
-    (after-u32-at .u32-at .ensures) (after-u32-at2 .u32-at2 .ensures) (after-provider-there .provider-there .ensures) (after-u32-at4 .u32-at4 .ensures) (after-number-if .number-if .ensures) (c .network-if .ensures .is)
+    (c .network-if .ensures .is)
 
 pub network-in-spec : {M : Type 1} → statement M
 network-in-spec =
@@ -160,8 +141,5 @@ network-in-spec =
     unless-requires-2
     unless-requires-3
     unless-requires-4
-    provider-there-requires
-    u32-at-requires-4
-    number-if-requires
     network-if-requires
     returns-2)

@@ -9,53 +9,40 @@ no-text-requires : tie.Need-no-text-requires
 no-text-requires c κs = search needs
 
 returns : tie.Need-returns
-returns c = text-absent _ _ _ _ _ _ (c .before .if1 .taken) (c .no-text .ensures)
+returns c = text-absent _ _ _ _ _ (c .before .if1 .taken) (c .no-text .ensures)
 
 no-text-requires-2 : tie.Need-no-text-requires-2
 no-text-requires-2 c κs = search needs
 
 returns-2 : tie.Need-returns-2
-returns-2 c = text-low _ _ _ _ _ _ (c .before .before .if1 .left) (omega arith) (c .no-text2 .ensures)
+returns-2 c = text-low _ _ _ _ _ (c .before .before .if1 .left) (omega arith) (c .no-text2 .ensures)
 
-zero-from-requires : tie.Need-zero-from-requires
-zero-from-requires c κs = search needs
-
-enum-known-n : tie.Need-enum-known-n
-enum-known-n c = search needs
-
-enum-told : tie.Need-enum-told
-enum-told c = search needs
+zero-at-requires : tie.Need-zero-at-requires
+zero-at-requires c κs = search needs
 
 no-text-requires-3 : tie.Need-no-text-requires-3
 no-text-requires-3 c κs = search needs
 
 returns-3 : tie.Need-returns-3
 returns-3 c =
-    let after-zero-from = c .before .before .before in
-    text-open _ _ _ _ _ _ (after-zero-from .before .before .if1 .left) (omega arith) (after-zero-from .zero-from .ensures .is) (c .before .enum-told .given .1)
-    (c .no-text3 .ensures)
+    let after-zero-at = c .before .before in
+    text-open _ _ _ _ _ (after-zero-at .before .before .if1 .left) (omega arith) (after-zero-at .zero-at .ensures) (omega arith) (c .no-text3 .ensures)
+
+sub-len : tie.Need-sub-len
+sub-len c =
+    omega (arith, text-inside _ _ _ (c .before .zero-at .ensures) (omega arith))
 
 bytes-of-requires : tie.Need-bytes-of-requires
-bytes-of-requires c κs = omega (arith, text-inside _ _ _ (c .before .before .before .zero-from .ensures .is) (c .before .n .given .1))
+bytes-of-requires c κs = search needs
 
-bytes-of-requires-2 : tie.Need-bytes-of-requires-2
-bytes-of-requires-2 c κs = search needs
-
-add-t12 : tie.Need-add-t12
-add-t12 c =
-    let after-n = c .before .before .before in
-    omega (arith, text-inside _ _ _ (after-n .before .before .zero-from .ensures .is) (after-n .n .given .1))
-
-add-t14 : tie.Need-add-t14
-add-t14 c =
-    let after-n = c .before .before .before in
-    omega (arith, text-inside _ _ _ (after-n .before .before .zero-from .ensures .is) (after-n .n .given .1))
+add-t10 : tie.Need-add-t10
+add-t10 c =
+    omega (arith, text-inside _ _ _ (c .before .before .zero-at .ensures) (omega arith))
 
 returns-4 : tie.Need-returns-4
 returns-4 c =
-    let after-n = c .before .before .before in
-    text-ends _ _ _ _ _ _ (after-n .before .before .before .before .if1 .left) (omega arith) (after-n .before .before .zero-from .ensures .is) (omega arith)
-    (after-n .n .given .1) (c .before .bytes-of .ensures) (c .bytes-of2 .ensures)
+    let after-zero-at = c .before .before in
+    text-ends _ _ _ _ _ (after-zero-at .before .before .if1 .left) (omega arith) (after-zero-at .zero-at .ensures) (omega arith) (omega arith) (omega arith) (c .bytes-of .ensures)
 
 pub text-at-spec : {M : Type 1} → statement M
 text-at-spec =
@@ -65,13 +52,10 @@ text-at-spec =
     returns
     no-text-requires-2
     returns-2
-    zero-from-requires
-    enum-known-n
-    enum-told
+    zero-at-requires
     no-text-requires-3
     returns-3
+    sub-len
     bytes-of-requires
-    bytes-of-requires-2
-    add-t12
-    add-t14
+    add-t10
     returns-4)

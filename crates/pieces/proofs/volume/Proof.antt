@@ -12,7 +12,7 @@ no-volume-requires : tie.Need-no-volume-requires
 no-volume-requires c κs = search needs
 
 returns : tie.Need-returns
-returns c = struct-absent volumeKind _ _ _ _ (c .before .if1 .taken) (c .no-volume .ensures)
+returns c = struct-absent volumeKind _ _ _ (c .before .if1 .taken) (c .no-volume .ensures)
 
 u32-at-requires : tie.Need-u32-at-requires
 u32-at-requires c κs = search needs
@@ -47,9 +47,6 @@ part-v-end c =
     let after-end-of = c .before .before .before in
     omega (arith, ended _ _ _ _ _ (after-end-of .end-of .ensures .is) (c .before .e .given .1))
 
-add-volume-in : tie.Need-add-volume-in
-add-volume-in c = search needs
-
 volume-in-requires : tie.Need-volume-in-requires
 volume-in-requires c κs =
     let after-e = c .before .before in
@@ -66,17 +63,17 @@ add-no-volume c =
     let after-e = after-volume-in .before .before .before in
     let after-end-of = after-e .before .before in
     let w = ended _ _ _ _ _ (after-end-of .end-of .ensures .is) (after-e .e .given .1) in
-    let b = bad-small volumeKind _ _ (after-volume-in .volume-in .ensures .is) (c .before .wrong2 .given .1) in
+    let b = bad-small volumeKind _ (after-volume-in .volume-in .ensures .is) (c .before .wrong2 .given .1) in
     omega (arith, after-end-of .before .before .before .before .pre .1)
 
 no-volume-requires-3 : tie.Need-no-volume-requires-3
 no-volume-requires-3 c κs = search needs
 
-enum-known-volume : tie.Need-enum-known-volume
-enum-known-volume c = search needs
+enum-known-label : tie.Need-enum-known-label
+enum-known-label c = search needs
 
-sub-t21 : tie.Need-sub-t21
-sub-t21 c =
+sub-t20 : tie.Need-sub-t20
+sub-t20 c =
     let after-v = c .before .before .before .before in
     let after-e = after-v .before .before in
     let after-end-of = after-e .before .before in
@@ -88,7 +85,7 @@ returns-2 c =
     let after-end-of = after-wrong .before .before in
     let after-u32-at = after-end-of .before in
     let after-if1 = after-u32-at .before in
-    struct-lost volumeKind _ _ _ _ (after-if1 .if1 .left) (after-u32-at .u32-at .ensures) (after-end-of .end-of .ensures .is) (after-wrong .wrong .given .1) (c .no-volume2 .ensures)
+    struct-lost volumeKind _ _ _ (after-if1 .if1 .left) (after-u32-at .u32-at .ensures) (after-end-of .end-of .ensures .is) (after-wrong .wrong .given .1) (c .no-volume2 .ensures)
 
 returns-3 : tie.Need-returns-3
 returns-3 c =
@@ -98,7 +95,7 @@ returns-3 c =
     let after-end-of = after-e .before .before in
     let after-u32-at = after-end-of .before in
     let after-if1 = after-u32-at .before in
-    struct-bad volumeKind _ _ _ _ (after-if1 .if1 .left) (after-u32-at .u32-at .ensures) (after-end-of .end-of .ensures .is) (after-e .e .given .1)
+    struct-bad volumeKind _ _ _ (after-if1 .if1 .left) (after-u32-at .u32-at .ensures) (after-end-of .end-of .ensures .is) (after-e .e .given .1)
     (after-volume-in .volume-in .ensures .is) (after-wrong2 .wrong2 .given .1) refl (c .no-volume3 .ensures)
 
 returns-4 : tie.Need-returns-4
@@ -108,8 +105,8 @@ returns-4 c =
     let after-end-of = after-e .before .before in
     let after-u32-at = after-end-of .before in
     let after-if1 = after-u32-at .before in
-    struct-good volumeKind _ _ _ _ (after-if1 .if1 .left) (after-u32-at .u32-at .ensures) (after-end-of .end-of .ensures .is) (after-e .e .given .1)
-    (after-volume-in .volume-in .ensures .is) (after-if1 .before .before .pre .1) (c .before .volume .given .1)
+    struct-good volumeKind _ _ _ (after-if1 .if1 .left) (after-u32-at .u32-at .ensures) (after-end-of .end-of .ensures .is) (after-e .e .given .1)
+    (after-volume-in .volume-in .ensures .is) (after-if1 .before .before .pre .1) (c .before .label .given .1)
 
 pub volume-spec : {M : Type 1} → statement M
 volume-spec =
@@ -126,13 +123,12 @@ volume-spec =
     sub-v
     part-v-start
     part-v-end
-    add-volume-in
     volume-in-requires
     enum-known-wrong-2
     add-no-volume
     no-volume-requires-3
-    enum-known-volume
-    sub-t21
+    enum-known-label
+    sub-t20
     returns-2
     returns-3
     returns-4)

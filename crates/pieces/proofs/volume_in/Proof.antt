@@ -12,7 +12,7 @@ u32-at-requires : tie.Need-u32-at-requires
 u32-at-requires c κs = search needs
 
 returns : tie.Need-returns
-returns c = volume-drive _ _ (c .before .u32-at .ensures) (omega arith)
+returns c = volume-drive _ (c .before .u32-at .ensures) (omega arith)
 
 u32-at-requires-2 : tie.Need-u32-at-requires-2
 u32-at-requires-2 c κs = search needs
@@ -24,7 +24,7 @@ returns-2 : tie.Need-returns-2
 returns-2 c =
     let after-u32-at2 = c .before .before in
     let after-u32-at = after-u32-at2 .before .before in
-    volume-cut _ _ (after-u32-at .u32-at .ensures) (omega arith) (ap (λ (n : ℕ). eqb n 0x14) (after-u32-at2 .u32-at2 .ensures)) (c .before .uncut .ensures) (c .if2 .taken)
+    volume-cut _ (after-u32-at .u32-at .ensures) (omega arith) (ap (λ (n : ℕ). eqb n 0x14) (after-u32-at2 .u32-at2 .ensures)) (c .before .uncut .ensures) (c .if2 .taken)
 
 label-field-requires : tie.Need-label-field-requires
 label-field-requires c κs = search needs
@@ -55,19 +55,12 @@ returns-3 c =
     let after-uncut = after-if2 .before in
     let after-u32-at2 = after-uncut .before in
     let after-u32-at = after-u32-at2 .before .before in
-    volume-open _ _ (after-u32-at .u32-at .ensures) (omega arith) (ap (λ (n : ℕ). eqb n 0x14) (after-u32-at2 .u32-at2 .ensures)) (after-uncut .uncut .ensures)
+    volume-open _ (after-u32-at .u32-at .ensures) (omega arith) (ap (λ (n : ℕ). eqb n 0x14) (after-u32-at2 .u32-at2 .ensures)) (after-uncut .uncut .ensures)
     (after-if2 .if2 .left) (after-label-least .label-least .ensures) (after-label-field .label-field .ensures) (after-u32-at3 .u32-at3 .ensures) (after-text-at .text-at .ensures .0) (c .if3 .taken)
-
-u32-at-requires-4 : tie.Need-u32-at-requires-4
-u32-at-requires-4 c κs = search needs
-
-label-of-requires : tie.Need-label-of-requires
-label-of-requires c κs = search needs
 
 returns-4 : tie.Need-returns-4
 returns-4 c =
-    let after-if3 = c .before .before .before in
-    let after-text-at = after-if3 .before .before in
+    let after-text-at = c .before .before in
     let after-u32-at3 = after-text-at .before in
     let after-label-least = after-u32-at3 .before in
     let after-label-field = after-label-least .before in
@@ -75,9 +68,9 @@ returns-4 c =
     let after-uncut = after-if2 .before in
     let after-u32-at2 = after-uncut .before in
     let after-u32-at = after-u32-at2 .before .before in
-    volume-good _ _ (after-u32-at .u32-at .ensures) (omega arith) (ap (λ (n : ℕ). eqb n 0x14) (after-u32-at2 .u32-at2 .ensures)) (after-uncut .uncut .ensures)
+    volume-good _ (after-u32-at .u32-at .ensures) (omega arith) (ap (λ (n : ℕ). eqb n 0x14) (after-u32-at2 .u32-at2 .ensures)) (after-uncut .uncut .ensures)
     (after-if2 .if2 .left) (after-label-least .label-least .ensures) (after-label-field .label-field .ensures) (after-u32-at3 .u32-at3 .ensures) (after-text-at .text-at .ensures .0)
-    (after-if3 .if3 .left) (c .before .u32-at4 .ensures) (c .label-of .ensures)
+    (c .if3 .left)
 
 pub volume-in-spec : {M : Type 1} → statement M
 volume-in-spec =
@@ -94,6 +87,4 @@ volume-in-spec =
     cast-text-at
     text-at-requires
     returns-3
-    u32-at-requires-4
-    label-of-requires
     returns-4)

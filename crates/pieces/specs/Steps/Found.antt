@@ -3,20 +3,20 @@ use Prim.Native.Nat.{ℕ, _+_, _≤_}
 use mathlib.Core.Path.{_≡_}
 use mathlib.Core.List.{List, [], _∷_}
 use mathlib.Core.Bool.{Bool, true, false, cond}
-use lib.ListN.{drop}
+use lib.ListN.{take, drop}
 use lib.Dec.{leb, eqb}
 use Rattle.octets.specs.Numbers.{u32At}
 use Rattle.format.specs.declared.Place.{Place}
-use Rattle.format.specs.declared.Volume.{Volume}
 use Rattle.format.specs.declared.Network.{Network}
 use Rattle.format.specs.declared.Fault.the-variants.{Piece as PIECE}
 use Rattle.format.specs.Tests.{Test, _else_at_, all, noPlace}
 use Rattle.format.specs.Numbers.{numberOf}
-use Rattle.format.specs.Pieces.{Piece, textPiece, textPlace, structTests, testsOf, span, pieceTests}
+use Rattle.format.specs.Pieces.{Piece, textLength, textPiece, structTests, testsOf, span}
 use Rattle.format.specs.Steps.Wrong.{wrong}
-use Rattle.format.specs.Volume.{volumePiece, volumeAt, volumeRules, volumeFields, noVolume}
-use Rattle.format.specs.Network.{networkRules, networkPiece, networkFields, networkAt, noNetwork}
+use Rattle.format.specs.Volume.{volumeSize, volumePiece, labelUnicode, labelOffset, volumeRules}
+use Rattle.format.specs.Network.{networkSize, networkRules, networkPiece, networkFields}
 use Rattle.pieces.specs.declared.Text.{Text}
+use Rattle.pieces.specs.declared.NetworkTexts.{NetworkTexts}
 use Rattle.pieces.specs.declared.VolumeFound.{VolumeFound}
 use Rattle.pieces.specs.declared.NetworkFound.{NetworkFound}
 use Rattle.pieces.specs.declared.StructEnd.{StructEnd}
@@ -50,26 +50,54 @@ pieceWrong head x = wrong (testsOf head x)
 abbrev pub pieceFound : {A R : Type 0} → (ℕ → Place → A → R) → ℕ → Piece → A → A → R
 pieceFound make head x a d = make (pieceWrong head x) (foundSpan head x) (cond (pieceOk head x) a d)
 
-abbrev pub makeText : Bool → Place → Place → Text
-makeText ok x b = record { ok = ok; span = x; body = b }
+abbrev pub makeText : Bool → Place → ℕ → Text
+makeText ok x n = record { ok = ok; span = x; len = n }
 
-abbrev pub makeVolume : ℕ → Place → Volume → VolumeFound
-makeVolume i x v = record { wrong = i; span = x; volume = v }
+abbrev pub makeVolume : ℕ → Place → ℕ → VolumeFound
+makeVolume i x n = record { wrong = i; span = x; label = n }
 
-abbrev pub makeNetwork : ℕ → Place → Network → NetworkFound
-makeNetwork i x n = record { wrong = i; span = x; network = n }
+abbrev pub makeNetwork : ℕ → Place → NetworkTexts → NetworkFound
+makeNetwork i x n = record { wrong = i; span = x; texts = n }
+
+-- how many bytes the body of a string has; none where it is absent
+abbrev pub bodyLength : Bool → Bool → List ℕ → ℕ → ℕ
+bodyLength present unicode l o = cond present (textLength unicode (drop o l)) 0
 
 -- the string at the offset o: whether it passes its tests is the same whichever field leads there
-unfoldable pub textFound : Bool → Bool → List ℕ → ℕ → ℕ → ℕ → Text
-textFound present unicode l start head o =
+unfoldable pub textFound : Bool → Bool → List ℕ → ℕ → ℕ → Text
+textFound present unicode l head o =
     makeText (pieceOk head (textPiece present unicode l 0 o)) (foundSpan head (textPiece present unicode l 0 o))
-    (cond (pieceOk head (textPiece present unicode l 0 o)) (textPlace present unicode start l o) noPlace)
+    (cond (pieceOk head (textPiece present unicode l 0 o)) (bodyLength present unicode l o) 0)
 
-unfoldable pub volumeFound : Bool → List ℕ → ℕ → ℕ → VolumeFound
-volumeFound present l start head = pieceFound makeVolume head (volumePiece present l 12 (u32At l 12)) (volumeAt present start l (u32At l 12)) noVolume
+-- of VolumeID's own bytes v
+abbrev pub labelLength : List ℕ → ℕ
+labelLength v = textLength (labelUnicode v) (drop (labelOffset v) v)
 
-unfoldable pub networkFound : Bool → List ℕ → ℕ → ℕ → NetworkFound
-networkFound present l start head = pieceFound makeNetwork head (networkPiece present l 20 (u32At l 20)) (networkAt present start l (u32At l 20)) noNetwork
+-- of VolumeID at the offset o
+abbrev pub labelBytes : Bool → List ℕ → ℕ → ℕ
+labelBytes present l o = cond present (labelLength (take (volumeSize (drop o l)) (drop o l))) 0
+
+unfoldable pub volumeFound : Bool → List ℕ → ℕ → VolumeFound
+volumeFound present l head = pieceFound makeVolume head (volumePiece present l 12 (u32At l 12)) (labelBytes present l (u32At l 12)) 0
+
+-- the lengths of a network link's bodies, in the order of the slots
+abbrev pub networkLengths : Network → List ℕ
+networkLengths n = n .net .len ∷ n .device .len ∷ n .«net_unicode» .len ∷ n .«device_unicode» .len ∷ []
+
+abbrev pub noTexts : NetworkTexts
+noTexts = record { net = 0; device = 0; «net_unicode» = 0; «device_unicode» = 0 }
+
+-- the lengths of what the network link's own bytes v say
+abbrev pub networkTextsIn : List ℕ → NetworkTexts
+networkTextsIn v =
+    let n = networkFields 0 v in
+    record { net = n .net .len; device = n .device .len; «net_unicode» = n .«net_unicode» .len; «device_unicode» = n .«device_unicode» .len }
+
+abbrev pub networkTexts : Bool → List ℕ → ℕ → NetworkTexts
+networkTexts present l o = cond present (networkTextsIn (take (networkSize (drop o l)) (drop o l))) noTexts
+
+unfoldable pub networkFound : Bool → List ℕ → ℕ → NetworkFound
+networkFound present l head = pieceFound makeNetwork head (networkPiece present l 20 (u32At l 20)) (networkTexts present l (u32At l 20)) noTexts
 
 -- ---- structures
 
@@ -81,14 +109,14 @@ frameTests l head least i o = leb head o else PIECE at i ∷ structTests i o lea
 unfoldable pub endAt : List ℕ → ℕ → ℕ → ℕ → ℕ → StructEnd
 endAt l head least i o = cond (all (frameTests l head least i o)) (At (o + u32At (drop o l) 0)) (Outside (wrong (frameTests l head least i o)))
 
-unfoldable pub volumeIn : ℕ → List ℕ → VolumeRead
-volumeIn p v = cond (all (volumeRules v)) (GoodVolume (volumeFields p v)) (BadVolume (wrong (volumeRules v)))
+unfoldable pub volumeIn : List ℕ → VolumeRead
+volumeIn v = cond (all (volumeRules v)) (GoodVolume (labelLength v)) (BadVolume (wrong (volumeRules v)))
 
-abbrev pub networkIf : ℕ → Network → NetworkRead
+abbrev pub networkIf : ℕ → NetworkTexts → NetworkRead
 networkIf i n = cond (eqb i 0) (GoodNetwork n) (BadNetwork i)
 
-unfoldable pub networkIn : ℕ → List ℕ → NetworkRead
-networkIn p v = cond (all (networkRules v)) (GoodNetwork (networkFields p v)) (BadNetwork (wrong (networkRules v)))
+unfoldable pub networkIn : List ℕ → NetworkRead
+networkIn v = cond (all (networkRules v)) (GoodNetwork (networkTextsIn v)) (BadNetwork (wrong (networkRules v)))
 
 -- ---- numbers and values of the answers
 
@@ -102,12 +130,12 @@ endValue (At e) = e
 endValue (Outside i) = i
 
 unfoldable pub volumeNumber : VolumeRead → ℕ
-volumeNumber (GoodVolume v) = 0
+volumeNumber (GoodVolume n) = 0
 volumeNumber (BadVolume i) = numberOf PIECE
 
 -- the field at fault, of these two
 unfoldable pub volumeValue : VolumeRead → ℕ
-volumeValue (GoodVolume v) = 0
+volumeValue (GoodVolume n) = 0
 volumeValue (BadVolume i) = i
 
 unfoldable pub networkNumber : NetworkRead → ℕ
@@ -128,8 +156,8 @@ abbrev pub EndAnswer : List ℕ → ℕ → ℕ → ℕ → ℕ → StructEnd �
 EndAnswer l head least i o r =
     PieceAnswers endNumber endValue (all (frameTests l head least i o)) (o + u32At (drop o l) 0) (wrong (frameTests l head least i o)) (endAt l head least i o) r
 
-abbrev pub VolumeAnswer : ℕ → List ℕ → VolumeRead → Type 0
-VolumeAnswer p v r = PieceAnswers volumeNumber volumeValue (all (volumeRules v)) 0 (wrong (volumeRules v)) (volumeIn p v) r
+abbrev pub VolumeAnswer : List ℕ → VolumeRead → Type 0
+VolumeAnswer v r = PieceAnswers volumeNumber volumeValue (all (volumeRules v)) 0 (wrong (volumeRules v)) (volumeIn v) r
 
-abbrev pub NetworkAnswer : ℕ → List ℕ → NetworkRead → Type 0
-NetworkAnswer p v r = PieceAnswers networkNumber networkValue (all (networkRules v)) 0 (wrong (networkRules v)) (networkIn p v) r
+abbrev pub NetworkAnswer : List ℕ → NetworkRead → Type 0
+NetworkAnswer v r = PieceAnswers networkNumber networkValue (all (networkRules v)) 0 (wrong (networkRules v)) (networkIn v) r

@@ -1,15 +1,19 @@
--- Equal readings have equal verdicts.
-use Rattle.format.specs.declared.Reading.{Reading}
-use mathlib.Core.Path.{ap}
+-- The outline's verdict is that of reading.
+use Rattle.reader.proofs.OutlineLaws.{told-verdict, read-numbered}
 use borrow.Author.Needs.{needs}
 use Rattle.reader.proofs.check.Statement.{statement}
 use Rattle.reader.proofs.check.Tie as tie
 
-read-requires : tie.Need-read-requires
-read-requires c κs = search needs
+outline-of-requires : tie.Need-outline-of-requires
+outline-of-requires c κs = search needs
+
+verdict-of-requires : tie.Need-verdict-of-requires
+verdict-of-requires c κs = search needs
 
 returns : tie.Need-returns
-returns c = (ap (λ (x : Reading). x .verdict) (c .read .ensures .0), c .read .ensures .1)
+returns c =
+    let e = told-verdict (c .before .outline-of .ensures .1 .1 .1) (c .verdict-of .ensures) in
+    (e, read-numbered _ _ e)
 
 pub check-spec : {M : Type 1} → statement M
-check-spec = tie.close (tie.spec read-requires returns)
+check-spec = tie.close (tie.spec outline-of-requires verdict-of-requires returns)

@@ -12,7 +12,10 @@ outline-off-requires : tie.Need-outline-off-requires
 outline-off-requires c κs = search needs
 
 returns : tie.Need-returns
-returns c = outline-long _ _ (omega arith) (rw (c .before .spot-at .ensures) at (c .outline-off .ensures))
+returns c =
+    let after-spot-at = c .before in
+    let start = after-spot-at .before .before .before in
+    outline-long _ _ (omega arith) (rw (after-spot-at .spot-at .ensures) at (c .outline-off .ensures)) (start .pre .0) (start .pre .1)
 
 header-requires : tie.Need-header-requires
 header-requires c κs = search needs
@@ -31,11 +34,15 @@ outline-off-requires-2 c κs = search needs
 
 returns-2 : tie.Need-returns-2
 returns-2 c =
-    outline-got _ _ (omega arith) (c .before .before .before .before .header .ensures .is) (c .before .before .h .given .1) (c .outline-from .ensures)
+    let at-header = c .before .before .before .before in
+    outline-got _ _ (omega arith) (at-header .before .before .header .ensures .is) (at-header .h .given .1) (c .outline-from .ensures)
 
 returns-3 : tie.Need-returns-3
 returns-3 c =
-    outline-refused _ _ (omega arith) (c .before .before .before .before .header .ensures .is) (c .before .before .f .given .1) (c .outline-off2 .ensures)
+    let at-header = c .before .before in
+    let after-header = at-header .before .before in
+    let start = after-header .before .before .before in
+    outline-refused _ _ (omega arith) (after-header .header .ensures .is) (at-header .f .given .1) (c .outline-off2 .ensures) (start .pre .0) (start .pre .1)
 
 pub outline-of-spec : {M : Type 1} → statement M
 outline-of-spec =

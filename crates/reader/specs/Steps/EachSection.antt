@@ -14,17 +14,38 @@ use Rattle.format.specs.Tests.{noPlace}
 use Rattle.format.specs.Presence.{itemsThere, infoThere, nameBit, relativeBit, workdirBit, argumentsBit, iconBit, stringThere, stringsUnicode}
 use Rattle.format.specs.Info.{noInfo, linkOf, infoPlaces}
 use Rattle.single.specs.Steps.Taken.{stringAt, itemsAt}
-use Rattle.blocks.specs.Steps.Walk.{noFirsts, blocksRead}
+use Rattle.blocks.specs.Steps.Walk.{noFirsts, blocksAt, blocksFirsts}
 use Rattle.info.specs.declared.InfoTaken.{InfoTaken}
 use Rattle.info.specs.declared.InfoTaken.the-variants.{Got as GotInfo, Refused as RefusedInfo}
-use Rattle.info.specs.Steps.Taken.{infoAt}
+use Rattle.info.specs.Steps.Taken.{infoAt, infoHeld}
 use Rattle.reader.specs.declared.Next.{Next}
 use Rattle.reader.specs.declared.Next.the-variants.{On, Off}
-use Rattle.reader.specs.declared.Step.{Step}
-use Rattle.reader.specs.declared.InfoStep.{InfoStep}
 use Rattle.reader.specs.declared.SectionEnds.{SectionEnds}
-use Rattle.reader.specs.declared.BlocksStep.{BlocksStep}
-use Rattle.reader.specs.declared.Outline.{Outline}
+use Rattle.reader.specs.declared.StringsTaken.{StringsTaken}
+use Rattle.reader.specs.declared.StringsTaken.the-variants.{Got as GotStrings, Refused as RefusedStrings}
+
+-- how a section goes on, and what it holds; nothing where it is absent or refused
+pub record Step : Type 0 where
+  pub next : Next
+  pub held : Place
+
+pub record InfoStep : Type 0 where
+  pub next : Next
+  pub held : Info
+
+-- the blocks, with where each known signature first stands
+pub record BlocksStep : Type 0 where
+  pub next : Next
+  pub held : Place
+  pub firsts : List ℕ
+
+-- all of them: the record of what was read, what LinkInfo says, and where each section after the header ends
+pub record Walk : Type 0 where
+  pub next : Next
+  pub held : Record
+  pub info : Info
+  pub ends : SectionEnds
+  pub firsts : List ℕ
 
 abbrev pub step : Next → Place → Step
 step next b = record { next = next; held = b }
@@ -70,13 +91,12 @@ unfoldable pub stringStep : List ℕ → Bool → ℕ → Bool → Next → Step
 unfolding stringOn
 stringStep s present k unicode next = onwards next (stringOn s present k unicode)
 
-unfoldable pub settledInfo : InfoTaken → InfoStep
-settledInfo (GotInfo i c) = stepInfo (On c) i
-settledInfo (RefusedInfo f p) = stepInfo (Off f p) noInfo
+abbrev pub nextInfo : InfoTaken → Next
+nextInfo (GotInfo c) = On c
+nextInfo (RefusedInfo f p) = Off f p
 
 unfoldable pub infoOn : Profile → List ℕ → Bool → Cursor → InfoStep
-unfolding settledInfo
-infoOn profile s present c = cond present (settledInfo (infoAt profile s (c .at))) (stepInfo (On c) noInfo)
+infoOn profile s present c = cond present (stepInfo (nextInfo (infoAt profile s (c .at))) (infoHeld profile s (c .at))) (stepInfo (On c) noInfo)
 
 unfoldable pub infoStep : Profile → List ℕ → Bool → Next → InfoStep
 unfolding infoOn
@@ -89,7 +109,7 @@ settledBlocks (Refused f p) row = stepBlocks (Off f p) noPlace noFirsts
 
 unfoldable pub blocksOn : List ℕ → Cursor → BlocksStep
 unfolding settledBlocks
-blocksOn s c = let r = blocksRead s (c .at) in settledBlocks (r .taken) (r .firsts)
+blocksOn s c = settledBlocks (blocksAt s (c .at)) (blocksFirsts s (c .at))
 
 unfoldable pub blocksStep : List ℕ → Next → BlocksStep
 unfolding blocksOn
@@ -115,10 +135,26 @@ endsOf items info name relative workdir arguments icon = record {
 unfoldable pub recordFrom : Header → Place → Info → List Place → Place → Record
 recordFrom h items info strings blocks = record { header = h; link = linkOf info; places = items ∷ infoPlaces info ++ (strings ++ blocks ∷ info .further ∷ []) }
 
+-- the five strings, up to the first that is refused
+abbrev pub onString : Next → (Cursor → StringsTaken) → StringsTaken
+onString (On c) g = g c
+onString (Off f p) g = RefusedStrings f p
+
+unfoldable pub stringsFrom : List ℕ → ℕ → Cursor → StringsTaken
+unfolding stringOn
+stringsFrom s f c =
+    let u = stringsUnicode f in
+    onString (stringOn s (stringThere nameBit f) (nameBit + 1) u c .next)
+    (λ name. onString (stringOn s (stringThere relativeBit f) (relativeBit + 1) u name .next)
+    (λ relative. onString (stringOn s (stringThere workdirBit f) (workdirBit + 1) u relative .next)
+    (λ workdir. onString (stringOn s (stringThere argumentsBit f) (argumentsBit + 1) u workdir .next)
+    (λ arguments. onString (stringOn s (stringThere iconBit f) (iconBit + 1) u arguments .next)
+    (λ icon. GotStrings (record { name = name .at; relative = relative .at; workdir = workdir .at; arguments = arguments .at; icon = icon .at }))))))
+
 -- the sections after the header
-unfoldable pub outlineFrom : Profile → List ℕ → Header → Cursor → Outline
+unfoldable pub walkFrom : Profile → List ℕ → Header → Cursor → Walk
 unfolding itemsStep stringStep infoStep blocksStep endsOf recordFrom
-outlineFrom profile s h c =
+walkFrom profile s h c =
     let f = h .flags in
     let u = stringsUnicode f in
     let items = itemsStep s (itemsThere f) (On c) in
@@ -133,6 +169,7 @@ outlineFrom profile s h c =
       next = blocks .next;
       held =
           recordFrom h (items .held) (info .held) (name .held ∷ relative .held ∷ workdir .held ∷ arguments .held ∷ icon .held ∷ []) (blocks .held);
+      info = info .held;
       ends = endsOf (items .next) (info .next) (name .next) (relative .next) (workdir .next) (arguments .next) (icon .next);
       firsts = blocks .firsts;
     }

@@ -3,10 +3,10 @@ use Rattle.shelving.proofs.CallLaws.{first-shelf}
 use native.Mathlib.Omega.{arith}
 use mathlib.Core.Path.{sym, ap, _∙_}
 use lib.ListN.{length}
-use Rattle.shelving.specs.Steps.Apart.{span, tableLengths}
-use Rattle.shelving.proofs.ApartLaws.{span-none}
-use Rattle.shelving.proofs.TableLaws.{shelf-right, lengths-sum, lengths-count}
-use Rattle.shelving.proofs.PutLaws.{front-put}
+use Rattle.shelves.specs.Steps.Apart.{span, tableLengths}
+use Rattle.shelves.proofs.ApartLaws.{span-none}
+use Rattle.shelves.proofs.TableLaws.{shelf-right, lengths-sum, lengths-count}
+use Rattle.shelves.proofs.PutLaws.{front-put}
 use borrow.Author.Needs.{needs}
 use Rattle.shelving.proofs.first_on_shelf.Statement.{statement}
 use Rattle.shelving.proofs.first_on_shelf.Tie as tie

@@ -1,6 +1,6 @@
 -- One law for each way out.
 use native.Mathlib.Omega.{arith}
-use Rattle.shelving.proofs.TableLaws.{shelf-right}
+use Rattle.shelves.proofs.TableLaws.{shelf-right}
 use Rattle.shelving.proofs.CallLaws.{wrong, right, told, check-wrong, check-bad, check-good}
 use borrow.Author.Needs.{needs}
 use Rattle.shelving.proofs.shelf_check.Statement.{statement}

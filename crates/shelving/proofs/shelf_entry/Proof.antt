@@ -1,7 +1,7 @@
 -- One law for each way out.
 use native.Mathlib.Omega.{arith}
 use mathlib.Core.Path.{_∙_}
-use Rattle.shelving.proofs.TableLaws.{shelf-right}
+use Rattle.shelves.proofs.TableLaws.{shelf-right}
 use Rattle.shelving.proofs.CallLaws.{wrong, right, entry-told, entry-wrong, entry-off, entry-bad, entry-good}
 use borrow.Author.Needs.{needs}
 use Rattle.shelving.proofs.shelf_entry.Statement.{statement}

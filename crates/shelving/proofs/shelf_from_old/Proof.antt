@@ -1,12 +1,12 @@
 -- One law for each way out; the lengths of the old form stand in front of the array.
 use native.Mathlib.Omega.{arith}
 use mathlib.Core.Path.{sym, ap, _∙_}
-use Prim.Native.Nat.{_-_, _≤_}
+use Prim.Native.Nat.{_≤_}
 use lib.ListN.{length}
-use Rattle.shelving.specs.Steps.Apart.{oldLengths}
-use Rattle.shelving.proofs.ApartLaws.{span-four}
+use Rattle.shelves.specs.Steps.Apart.{oldLengths}
+use Rattle.shelves.proofs.ApartLaws.{span-four}
 use Rattle.shelving.proofs.FileLaws.{from-told, from-wrong, from-fits, from-count, from-span, from-entries, from-filed}
-use Rattle.shelving.proofs.PutLaws.{front-put}
+use Rattle.shelves.proofs.PutLaws.{front-put}
 use borrow.Author.Needs.{needs}
 use Rattle.shelving.proofs.shelf_from_old.Statement.{statement}
 use Rattle.shelving.proofs.shelf_from_old.Tie as tie

@@ -1,9 +1,10 @@
 -- One law for each way out; the row lies in the shelf, so that its part is its bytes.
 use native.Mathlib.Omega.{arith}
 use mathlib.Core.Path.{ap, _∙_}
-use Rattle.shelving.specs.Shelf.{shelfCount, acceptedEntry}
+use Rattle.shelves.specs.Table.{shelfCount}
+use Rattle.shelving.specs.Shelf.{acceptedEntry}
 use Prim.Native.Nat.{_<_}
-use Rattle.shelving.proofs.TableLaws.{shelf-right, row-shown}
+use Rattle.shelves.proofs.TableLaws.{shelf-right, row-shown}
 use Rattle.shelving.proofs.CallLaws.{wrong, right, one-told, one-wrong, one-off, one-bad, one-good}
 use borrow.Author.Needs.{needs}
 use Rattle.shelving.proofs.shelf_one.Statement.{statement}

@@ -2,11 +2,11 @@
 use native.Mathlib.Omega.{arith}
 use mathlib.Core.Path.{sym, ap, _∙_}
 use lib.ListN.{length}
-use Rattle.shelving.specs.Steps.Apart.{tableLengths}
-use Rattle.shelving.proofs.TableLaws.{shelf-right, lengths-count}
+use Rattle.shelves.specs.Steps.Apart.{tableLengths}
+use Rattle.shelves.proofs.TableLaws.{shelf-right, lengths-count}
 use Rattle.shelving.proofs.FileLaws.{to-told, to-wrong, to-filed}
 use Rattle.shelving.proofs.CallLaws.{wrong, right}
-use Rattle.shelving.proofs.PutLaws.{front-put}
+use Rattle.shelves.proofs.PutLaws.{front-put}
 use borrow.Author.Needs.{needs}
 use Rattle.shelving.proofs.shelf_to_old.Statement.{statement}
 use Rattle.shelving.proofs.shelf_to_old.Tie as tie

@@ -1,6 +1,6 @@
 -- One law for each way out; entries that are good are small, so that no sum wraps.
 use native.Mathlib.Omega.{arith}
-use Rattle.shelving.proofs.ApartLaws.{small-sum}
+use Rattle.shelves.proofs.ApartLaws.{small-sum}
 use Rattle.shelving.proofs.FileLaws.{shelve-bad, shelve-small, shelve-room, shelve-fits, shelve-made}
 use borrow.Author.Needs.{needs}
 use Rattle.shelving.proofs.shelve.Statement.{statement}

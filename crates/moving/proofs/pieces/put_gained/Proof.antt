@@ -1,5 +1,6 @@
 -- The translation, and one zero unit.
-use Rattle.moving.proofs.PieceLaws.{body-long, put-ended, put-absent}
+use Rattle.moves.proofs.BodyMoves.{body-long}
+use Rattle.moving.proofs.PieceLaws.{put-ended, put-absent}
 use Rattle.octets.proofs.WroteLaws.{kept}
 use native.Mathlib.Omega.{arith}
 use borrow.Author.Tests.{not-true, not-false}

@@ -1,12 +1,13 @@
 -- Each part has room where the whole has.
-use Rattle.moving.proofs.PieceLaws.{row-inside, slot-inside}
+use Rattle.moving.proofs.PieceLaws.{row-inside}
+use Rattle.moves.proofs.BodyMoves.{slot-inside}
 use Rattle.moving.specs.Steps.Pieces.{movedInfo, infoSize}
 use Rattle.format.specs.Bodies.{furtherSlot}
 use Rattle.canonical.proofs.FitsLaws.{volume-few, network-few}
 use Rattle.octets.proofs.WroteLaws.{wrote-none, kept, join, reword}
 use native.Mathlib.Omega.{arith}
 use borrow.Author.Tests.{not-true, not-false}
-use mathlib.Core.Path.{_≡_, refl, sym, ap, _∙_}
+use mathlib.Core.Path.{refl, sym}
 use borrow.Author.Needs.{needs}
 use Rattle.moving.proofs.pieces.put_info.Statement.{statement}
 use Rattle.moving.proofs.pieces.put_info.Tie as tie

@@ -1,14 +1,13 @@
 -- What was put up to slot k.
-use Rattle.moving.proofs.PieceLaws.{slot-inside}
+use Rattle.moves.proofs.BodyMoves.{slot-inside}
 use Rattle.moving.specs.Steps.Pieces.{movedSlot, movedSize, movedRow, movedStrings, stringsSize}
 use Rattle.canonical.proofs.SlotLaws.{bytesTo, sizeTo, none-put, more-put, room-next}
 use Rattle.octets.proofs.WroteLaws.{wrote-none, kept}
 use Rattle.octets.specs.Steps.Puts.{Wrote}
-use lib.ListN.{getD}
 use native.Mathlib.Omega.{arith}
-use Prim.Native.Nat.{_+_, _-_, _≤_}
+use Prim.Native.Nat.{_-_, _≤_}
 use mathlib.Core.Logic.{⊎-elim}
-use mathlib.Core.Path.{_≡_, refl, sym, ap, _∙_}
+use mathlib.Core.Path.{_≡_}
 use Rattle.moving.proofs.pieces.put_strings.Statement.{statement}
 use Rattle.moving.proofs.pieces.put_strings.Tie as tie
 

@@ -1,7 +1,8 @@
 -- Gained, or as they stand.
-use Rattle.moving.proofs.PieceLaws.{slot-inside, row-inside}
+use Rattle.moves.proofs.BodyMoves.{slot-inside}
+use Rattle.moving.proofs.PieceLaws.{row-inside}
 use Rattle.moving.specs.Steps.Pieces.{unicodeTexts, unicodeSize}
-use Rattle.octets.proofs.WroteLaws.{kept, join, reword}
+use Rattle.octets.proofs.WroteLaws.{kept, join}
 use native.Mathlib.Omega.{arith}
 use borrow.Author.Tests.{not-true, not-false}
 use borrow.Author.Needs.{needs}

@@ -6,9 +6,11 @@ use native.Mathlib.Omega.{arith}
 use Prim.Native.Nat.{_+_, _-_, _≤_}
 use lib.ListN.{length, drop}
 use Rattle.octets.specs.Steps.Puts.{part}
-use Rattle.shelving.specs.Steps.Apart.{apart, span, firstBad}
+use Rattle.shelves.specs.Steps.Apart.{apart, span}
+use Rattle.shelving.specs.Steps.Filing.{firstBad}
 use Rattle.shelving.specs.Shelf.{acceptedEntry}
-use Rattle.shelving.proofs.ApartLaws.{first-inside, first-stop, first-on, first-none}
+use Rattle.shelves.proofs.ApartLaws.{first-inside}
+use Rattle.shelving.proofs.EntryLaws.{first-stop, first-on, first-none}
 use Rattle.shelving.proofs.entries.first_bad.Statement.{statement}
 use Rattle.shelving.proofs.entries.first_bad.Tie as tie
 

@@ -1,0 +1,4 @@
+pub mod BodyMoves
+pub mod TestLaws
+pub mod RecordLaws
+pub mod OneOutcome

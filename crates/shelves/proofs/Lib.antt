@@ -1,0 +1,5 @@
+pub mod PutLaws
+pub mod ApartLaws
+pub mod TableLaws
+pub mod OldLaws
+pub mod OneOutcome
