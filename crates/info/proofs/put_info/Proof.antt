@@ -119,7 +119,7 @@ put-long-requires c κs =
     let y : Bool = after-network-there .network-there .result in
     let h : after-if2 .if2 .f ≡ cond y (withNetwork m i) m
     = ⊎-elim (λ v. taken m (v .0 .taken) (v .5 ∙ v .2 .ensures)) (λ v. passed (withNetwork m i) (v .0 .left) (v .1)) (after-if2 .if2 .came) in
-    (start .pre .0, (after-u32-at .u32-at .ensures, (after-if3 .if3 .taken, (local-known _ (after-u32-at2 .u32-at2 .ensures) (after-local-there .local-there .ensures), place-keeps _ _ _ (after-put-place .put-place .ensures) ∙ network-keeps y m i h ∙ local-keeps x f i g ∙ simp length-set size))))
+    (start .pre .0, (after-u32-at .u32-at .ensures, (omega (arith, after-if3 .if3 .taken), (local-known _ (after-u32-at2 .u32-at2 .ensures) (after-local-there .local-there .ensures), place-keeps _ _ _ (after-put-place .put-place .ensures) ∙ network-keeps y m i h ∙ local-keeps x f i g ∙ simp length-set size))))
 
 same-length : tie.Need-same-length
 same-length c =
@@ -169,7 +169,7 @@ returns c =
     let h : after-if2 .if2 .f ≡ cond y (withNetwork m i) m
     = ⊎-elim (λ v. taken m (v .0 .taken) (v .5 ∙ v .2 .ensures)) (λ v. passed (withNetwork m i) (v .0 .left) (v .1)) (after-if2 .if2 .came) in
     info-put _ _ (start .args .f .now) (start .pre .1) (after-u32-at2 .u32-at2 .ensures) (after-local-there .local-there .ensures) (after-network-there .network-there .ensures) g h
-    (suffix-said _ _ _ (start .pre .0) (after-u32-at3 .u32-at3 .ensures) (after-body-at .body-at .ensures)) (after-put-place .put-place .ensures) (taken (after-put-place .put-place .last .0) (is-long _ _ _ (start .pre .0) (after-u32-at .u32-at .ensures) (after-if3 .if3 .taken)) (after-put-long .put-long .ensures))
+    (suffix-said _ _ _ (start .pre .0) (after-u32-at3 .u32-at3 .ensures) (after-body-at .body-at .ensures)) (after-put-place .put-place .ensures) (taken (after-put-place .put-place .last .0) (is-long _ _ _ (start .pre .0) (after-u32-at .u32-at .ensures) (omega (arith, after-if3 .if3 .taken))) (after-put-long .put-long .ensures))
 
 same-length-2 : tie.Need-same-length-2
 same-length-2 c =
@@ -215,7 +215,7 @@ returns-2 c =
     let h : after-if2 .if2 .f ≡ cond y (withNetwork m i) m
     = ⊎-elim (λ v. taken m (v .0 .taken) (v .5 ∙ v .2 .ensures)) (λ v. passed (withNetwork m i) (v .0 .left) (v .1)) (after-if2 .if2 .came) in
     info-put _ _ (start .args .f .now) (start .pre .1) (after-u32-at2 .u32-at2 .ensures) (after-local-there .local-there .ensures) (after-network-there .network-there .ensures) g h
-    (suffix-said _ _ _ (start .pre .0) (after-u32-at3 .u32-at3 .ensures) (after-body-at .body-at .ensures)) (after-put-place .put-place .ensures) (passed (withLong (after-put-place .put-place .last .0) i) (is-short _ _ _ (start .pre .0) (after-u32-at .u32-at .ensures) (c .if3 .left)) refl)
+    (suffix-said _ _ _ (start .pre .0) (after-u32-at3 .u32-at3 .ensures) (after-body-at .body-at .ensures)) (after-put-place .put-place .ensures) (passed (withLong (after-put-place .put-place .last .0) i) (is-short _ _ _ (start .pre .0) (after-u32-at .u32-at .ensures) (omega (arith, c .if3 .left))) refl)
 
 pub put-info-spec : {M : Type 1} → statement M
 put-info-spec =
