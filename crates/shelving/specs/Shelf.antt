@@ -1,4 +1,4 @@
--- FORMAT: Shelf layout, Shelf tests, Shelf fetching. A shelf as it is read: the tests of its count and table, then those of its entries.
+-- FORMAT: Shelf tests, Shelf fetching. A shelf as it is read: the tests of its count and table, then those of its entries.
 use Prim.Native.Nat.{ℕ, _+_}
 use mathlib.Core.List.{List, [], _∷_, _++_}
 use mathlib.Core.Bool.{Bool, true, false}
