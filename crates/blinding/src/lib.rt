@@ -1,4 +1,6 @@
 // Where a shortcut can name its driver without its key telling it (FORMAT: Blind spots).
+#![tactic(auto)]
+
 ghost use Rattle.std.specs.Prelude.{◌≡◌, ◌+◌, ◌≤◌, cond, length};
 ghost use Rattle.format.specs.Numbers.{Numbered};
 ghost use Rattle.format.specs.Pieces.{text_length};

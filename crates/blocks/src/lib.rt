@@ -1,4 +1,6 @@
 // Blocks (FORMAT: Blocks): what stands where one is due, and the walks over them up to the terminal block.
+#![tactic(auto)]
+
 ghost use Rattle.std.specs.Prelude.{◌≡◌, true, ◌+◌, ◌≤◌, length};
 ghost use Rattle.format.specs.Tests.{spot_at};
 ghost use Rattle.format.specs.Blocks.{slot_of, size_fits, path_tests, inside_tests};
@@ -10,7 +12,7 @@ use format::{Fault, Place, Spot, Taken, spot_at, unless};
 use octets::Cursor;
 
 // A block of so many bytes, with the slot of its signature; or the terminal block; or neither.
-#[derive(Drop)]
+#[derive(Clone, Copy)]
 pub enum BlockStep {
     Block(usize, usize),
     Terminal,

@@ -1,4 +1,6 @@
 // Puts the canonical bytes of a record into a lent buffer (FORMAT: Canonical form). A function that puts answers the place after what it put.
+#![tactic(auto)]
+
 pub mod heads;
 pub mod numbers;
 pub mod texts;

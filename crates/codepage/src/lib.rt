@@ -1,4 +1,6 @@
 // The published table windows-1252 both ways, and texts translated by it (FORMAT: Code page).
+#![tactic(auto)]
+
 pub mod texts;
 
 ghost use Rattle.std.specs.Prelude.{◌≡◌};

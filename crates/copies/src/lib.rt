@@ -1,5 +1,7 @@
 // Copies into a lent buffer: many bytes in one store each, so that a copy goes by sixteen bytes at a time. Where the last
 // span would pass the end it stands back, and puts some bytes a second time.
+#![tactic(auto)]
+
 ghost use Rattle.std.specs.Prelude.{◌≡◌, ◌+◌, ◌*◌, ◌/◌, ◌≤◌, ◌<◌, length, take};
 ghost use Rattle.octets.specs.Parts.{put};
 ghost use Rattle.octets.specs.Steps.Puts.{part};

@@ -1,4 +1,6 @@
 // The record as 51 numbers, in the order of specs/Fields.
+#![tactic(auto)]
+
 ghost use Rattle.std.specs.Prelude.{◌≡◌, true, ◌<◌, length, replicate};
 ghost use Rattle.fields.specs.Steps.Putting.{with_place};
 ghost use Rattle.fields.specs.Fields.{field_count, header_numbers, info_numbers, are_record, slot_at, header_from, link_from, places_from, record_from};

@@ -1,4 +1,6 @@
 // The record of a shortcut, and the answers that calls give.
+#![tactic(auto)]
+
 ghost use Rattle.std.specs.Prelude.{◌≡◌, cond, ◌+◌, ◌<◌, ◌^◌};
 ghost use Rattle.format.specs.Numbers.{number_of};
 ghost use Rattle.format.specs.Tests.{section as section_from, spot_at, bit, one_or_0};
@@ -12,14 +14,14 @@ ghost use Rattle.format.specs.Steps.Shape.{shape_of};
 use octets::Cursor;
 
 // Where a body stands in the body buffer, and how many bytes it has.
-#[derive(Drop)]
+#[derive(Clone, Copy)]
 pub struct Place {
     pub at: usize,
     pub len: usize,
 }
 
 // The nine header fields that vary.
-#[derive(Drop)]
+#[derive(Clone, Copy)]
 pub struct Header {
     pub flags: u32,
     pub attributes: u32,
@@ -35,20 +37,20 @@ pub struct Header {
 // ---- what LinkInfo's reader answers
 
 // A label has a kind, and with either kind a place.
-#[derive(Drop)]
+#[derive(Clone, Copy)]
 pub enum Label {
     Byte(Place),
     Unicode(Place),
 }
 
-#[derive(Drop)]
+#[derive(Clone, Copy)]
 pub struct Volume {
     pub drive: u32,
     pub serial: u32,
     pub label: Label,
 }
 
-#[derive(Drop)]
+#[derive(Clone, Copy)]
 pub struct Network {
     pub flags: u32,
     pub provider: u32,
@@ -59,7 +61,7 @@ pub struct Network {
     pub device_unicode: Place,
 }
 
-#[derive(Drop)]
+#[derive(Clone, Copy)]
 pub struct Info {
     pub flags: u32,
     pub long: bool,
@@ -73,7 +75,7 @@ pub struct Info {
 }
 
 // LinkInfo's numbers and kinds.
-#[derive(Drop)]
+#[derive(Clone, Copy)]
 pub struct Link {
     pub flags: u32,
     pub long: bool,
@@ -86,7 +88,7 @@ pub struct Link {
 }
 
 // The places stand in one row, each body's in a slot of its own.
-#[derive(Drop)]
+#[derive(Clone, Copy)]
 pub struct Record {
     pub header: Header,
     pub link: Link,
@@ -126,14 +128,14 @@ pub const BLOCKS: usize = 15;
 pub const FURTHER: usize = 16;
 
 // Of each slot: whether its body is there, and whether its characters have two bytes each.
-#[derive(Drop)]
+#[derive(Clone, Copy)]
 pub struct Shape {
     pub there: [bool; 17],
     pub wide: [bool; 17],
 }
 
 // A row of a store's list: a storage (kind 0), or a value named by number (1) or by string (2).
-#[derive(Drop)]
+#[derive(Clone, Copy)]
 pub struct StoreRow {
     pub kind: u64,
     pub number: u64,
@@ -142,14 +144,14 @@ pub struct StoreRow {
 }
 
 // The rules that a call goes by: as they stand, or with what shortcuts of Windows 95 are forgiven.
-#[derive(Drop)]
+#[derive(Clone, Copy)]
 pub enum Profile {
     Strict,
     NinetyFive,
 }
 
 // Why a call refuses: the names of the table of numbers.
-#[derive(Drop)]
+#[derive(Clone, Copy)]
 pub enum Fault {
     Long,
     Cut,
@@ -173,14 +175,14 @@ pub enum Fault {
 }
 
 // Accepted with the length, or refused with the fault and its position.
-#[derive(Drop)]
+#[derive(Clone, Copy)]
 pub enum Verdict {
     Accepted(usize),
     Refused(Fault, usize),
 }
 
 // Where a refusal stands: the number of the section at fault as in the listing, its first byte, and the first byte of the field found wrong.
-#[derive(Drop)]
+#[derive(Clone, Copy)]
 pub struct Spot {
     pub section: u32,
     pub start: usize,
@@ -188,14 +190,14 @@ pub struct Spot {
 }
 
 // A section of one body: the body and the cursor after the section, or why it is refused and where.
-#[derive(Drop)]
+#[derive(Clone, Copy)]
 pub enum Taken {
     Got(Place, Cursor),
     Refused(Fault, Spot),
 }
 
 // The verdict on a shortcut beside the section at fault: its number in the listing and its first byte; zeros where it is accepted.
-#[derive(Drop)]
+#[derive(Clone, Copy)]
 pub struct Faulted {
     pub verdict: Verdict,
     pub section: u32,
@@ -203,14 +205,14 @@ pub struct Faulted {
 }
 
 // What reading answers: the record stands beside the verdict, all zeros where that is a refusal.
-#[derive(Drop)]
+#[derive(Clone, Copy)]
 pub struct Reading {
     pub verdict: Verdict,
     pub held: Record,
 }
 
 // What can be kept of a shortcut: the number it was refused with, how many of its first bytes, and whether a zero terminal goes behind them.
-#[derive(Drop)]
+#[derive(Clone, Copy)]
 pub struct Rescue {
     pub can: bool,
     pub number: u8,
@@ -219,7 +221,7 @@ pub struct Rescue {
 }
 
 // What salvage answers: its verdict, the number that the shortcut was refused with, and how many of its bytes are kept and dropped.
-#[derive(Drop)]
+#[derive(Clone, Copy)]
 pub struct Salvaged {
     pub verdict: Verdict,
     pub number: u8,

@@ -1,4 +1,6 @@
 // The header, and the window shown (FORMAT: Header).
+#![tactic(auto)]
+
 ghost use Rattle.std.specs.Prelude.{◌≡◌, ◌≤◌, ◌/◌, ◌^◌, length, eqb};
 ghost use Rattle.format.specs.Header.{header_size_ok, identifier_ok, flags_ok, clear_from, attributes_ok, zeros_from_66, head_tests, header_fields, window_shown};
 ghost use Rattle.format.specs.Hotkey.{low_byte_ok, high_byte_ok, hotkey_ok};
@@ -9,7 +11,7 @@ use format::{Fault, Header, Profile, Spot, spot_at, unless};
 use octets::Cursor;
 
 // The header and the cursor after it, or why it is refused and where.
-#[derive(Drop)]
+#[derive(Clone, Copy)]
 pub enum HeaderTaken {
     Got(Header, Cursor),
     Refused(Fault, Spot),

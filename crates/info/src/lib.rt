@@ -1,4 +1,6 @@
 // LinkInfo, read from its own part of the file (FORMAT: LinkInfo).
+#![tactic(auto)]
+
 ghost use Rattle.std.specs.Prelude.{◌≡◌, true, cond, ◌||◌, ◌≤◌, ◌<◌, length, replicate};
 ghost use Rattle.format.specs.Info.{head_ok, info_head, has_local, has_network, info_pieces, info_head_tests, info_fields};
 ghost use Rattle.format.specs.Pieces.{piece_tests};
@@ -16,7 +18,7 @@ use pieces::{
 };
 
 // The cursor after LinkInfo, or why it is refused and where.
-#[derive(Drop)]
+#[derive(Clone, Copy)]
 pub enum InfoTaken {
     Got(Cursor),
     Refused(Fault, Spot),

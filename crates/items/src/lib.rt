@@ -1,4 +1,6 @@
 // Item lists (FORMAT: Item list walk).
+#![tactic(auto)]
+
 ghost use Rattle.std.specs.Prelude.{◌≡◌, ◌≤◌};
 ghost use Rattle.format.specs.declared.Fault.TheVariants.{Items};
 ghost use Rattle.format.specs.Items.{item_tests};

@@ -1,4 +1,6 @@
 // The cache key of the shortcut on standard input, as hex; where it is refused, the line that the listing has.
+#![tactic(auto)]
+
 fn main() {
     if lines::wrong_words() {
         return;

@@ -1,4 +1,6 @@
 // The cache key of a shortcut, into a lent buffer.
+#![tactic(auto)]
+
 ghost use Rattle.std.specs.Prelude.{◌≡◌, ◌+◌, ◌≤◌, length};
 ghost use Rattle.octets.specs.Numbers.{little};
 ghost use Rattle.octets.specs.Steps.Puts.{Wrote};
@@ -16,13 +18,13 @@ use reader::{Next, SectionEnds};
 use target::Texts;
 
 // One of the four parts: whether it is there, and where its texts stand.
-#[derive(Drop)]
+#[derive(Clone, Copy)]
 struct KeyPart {
     there: bool,
     texts: Texts,
 }
 
-#[derive(Drop)]
+#[derive(Clone, Copy)]
 struct KeyParts {
     unicode: bool,
     target: KeyPart,

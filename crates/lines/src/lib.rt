@@ -1,4 +1,6 @@
 // What the programs write: each text is put into a lent buffer piece by piece, and the pieces are written as they are.
+#![tactic(auto)]
+
 mod rows;
 mod showing;
 
@@ -14,7 +16,7 @@ use format::{Fault, Profile, Verdict};
 use reader::Next;
 
 // So many bytes of the text are still to be passed over; so many of the buffer are filled.
-#[derive(Drop)]
+#[derive(Clone, Copy)]
 pub(crate) struct Window {
     pub skip: usize,
     pub at: usize,

@@ -1,4 +1,5 @@
 // Lists one shortcut, read from standard input.
+#![tactic(auto)]
 
 fn main() {
     if lines::wrong_words() {

@@ -1,4 +1,6 @@
 // A shortcut of byte strings moved to one of Unicode, and home again (FORMAT: Moving). `unicode` tells the way.
+#![tactic(auto)]
+
 pub mod pieces;
 
 ghost use Rattle.std.specs.Prelude.{◌≡◌, true, length};

@@ -1,4 +1,6 @@
 // Bytes: numbers at a place, the cursor, scans for a zero, parts, and numbers put into a lent buffer.
+#![tactic(auto)]
+
 mod zeros;
 
 ghost use Rattle.std.specs.Prelude.{◌≡◌, true, false, ◌+◌, ◌≤◌, ◌<◌, length};
@@ -12,27 +14,27 @@ ghost use Rattle.octets.specs.Steps.Puts.{part};
 use crate::zeros::{skip_bytes, skip_units};
 
 // Where reading stands. It goes by value and comes back with each answer.
-#[derive(Drop)]
+#[derive(Clone, Copy)]
 pub struct Cursor {
     pub at: usize,
 }
 
 // A number and the next cursor; or the bytes end before the number does, and the cursor stays.
-#[derive(Drop)]
+#[derive(Clone, Copy)]
 pub enum Took {
     Number(u32, Cursor),
     Cut(Cursor),
 }
 
 // The next cursor; or the bytes end before it, and the cursor stays.
-#[derive(Drop)]
+#[derive(Clone, Copy)]
 pub enum Skipped {
     To(Cursor),
     Cut(Cursor),
 }
 
 // How many characters stand before the first zero one; or none is zero.
-#[derive(Drop)]
+#[derive(Clone, Copy)]
 pub enum Zero {
     After(usize),
     Nowhere,

@@ -1,4 +1,6 @@
 // A path block put into a record, and the shortcut that the record is then written as (FORMAT: Path block call).
+#![tactic(auto)]
+
 ghost use Rattle.std.specs.Prelude.{◌≡◌, cond, ◌+◌, ◌-◌, ◌≤◌, length};
 ghost use Rattle.octets.specs.Numbers.{little};
 ghost use Rattle.octets.specs.Parts.{put};

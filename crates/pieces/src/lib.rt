@@ -1,4 +1,6 @@
 // The pieces that LinkInfo's offsets lead to: strings, VolumeID and the network link, each read from its own part of the file (FORMAT: LinkInfo pieces, LinkInfo overlaps, VolumeID fields, Network link fields).
+#![tactic(auto)]
+
 ghost use Rattle.std.specs.Prelude.{◌≡◌, true, cond, eqb, [], ◌∷◌, ◌+◌, ◌≤◌, length, take, drop};
 ghost use Rattle.octets.specs.Characters.{bytes_of};
 ghost use Rattle.format.specs.Tests.{place, no_place};
@@ -14,7 +16,7 @@ use octets::{Cursor, Skipped, Took};
 
 // A string that an offset leads to: whether it passes its tests, the bytes that it takes, and how many of them are its body. Zeros where it is absent or fails.
 // Who calls knows which field leads there: given the field to answer with, each string cost six instructions more.
-#[derive(Drop)]
+#[derive(Clone, Copy)]
 pub struct Text {
     pub ok: bool,
     pub span: Place,
@@ -22,7 +24,7 @@ pub struct Text {
 }
 
 // How many bytes the bodies of a network link's strings have.
-#[derive(Drop)]
+#[derive(Clone, Copy)]
 pub struct NetworkTexts {
     pub net: usize,
     pub device: usize,
@@ -31,14 +33,14 @@ pub struct NetworkTexts {
 }
 
 // Of these, wrong is the first field at fault, counted from LinkInfo's start; 0 is none. Then the bytes taken, and the lengths of bodies.
-#[derive(Drop)]
+#[derive(Clone, Copy)]
 pub struct VolumeFound {
     pub wrong: usize,
     pub span: Place,
     pub label: usize,
 }
 
-#[derive(Drop)]
+#[derive(Clone, Copy)]
 pub struct NetworkFound {
     pub wrong: usize,
     pub span: Place,
@@ -46,20 +48,20 @@ pub struct NetworkFound {
 }
 
 // Where a structure ends, in the part that holds it; or the field, offset or size, that is wrong about that.
-#[derive(Drop)]
+#[derive(Clone, Copy)]
 pub enum StructEnd {
     At(usize),
     Outside(usize),
 }
 
 // How many bytes the label of a VolumeID has, or the first field that breaks a rule, counted from VolumeID's own start.
-#[derive(Drop)]
+#[derive(Clone, Copy)]
 pub enum VolumeRead {
     Good(usize),
     Bad(usize),
 }
 
-#[derive(Drop)]
+#[derive(Clone, Copy)]
 pub enum NetworkRead {
     Good(NetworkTexts),
     Bad(usize),

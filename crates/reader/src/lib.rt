@@ -1,4 +1,6 @@
 // Reading a shortcut in two phases: its sections one after another, up to the first that is refused; and of an accepted one its record, by where its sections end and how long its texts are.
+#![tactic(auto)]
+
 ghost use Rattle.std.specs.Prelude.{◌≡◌, true, cond, ◌||◌, ◌+◌, ◌-◌, ◌≤◌, length, replicate};
 ghost use Rattle.format.specs.Tests.{place, no_place};
 ghost use Rattle.format.specs.Numbers.{Numbered};
@@ -21,14 +23,14 @@ use info::InfoTaken;
 use octets::Cursor;
 
 // Going on from the cursor, or refused with a fault at a position.
-#[derive(Drop)]
+#[derive(Clone, Copy)]
 pub enum Next {
     On(Cursor),
     Off(Fault, Spot),
 }
 
 // Where each section after the header ends.
-#[derive(Drop)]
+#[derive(Clone, Copy)]
 pub struct SectionEnds {
     pub items: usize,
     pub info: usize,
@@ -40,14 +42,14 @@ pub struct SectionEnds {
 }
 
 // How a shortcut was gone through, and where its sections end; zeros beside a refusal.
-#[derive(Drop)]
+#[derive(Clone, Copy)]
 pub struct Outline {
     pub next: Next,
     pub ends: SectionEnds,
 }
 
 // Where the strings end, or why one is refused and where.
-#[derive(Drop)]
+#[derive(Clone, Copy)]
 struct StringEnds {
     name: usize,
     relative: usize,
@@ -56,7 +58,7 @@ struct StringEnds {
     icon: usize,
 }
 
-#[derive(Drop)]
+#[derive(Clone, Copy)]
 enum StringsTaken {
     Got(StringEnds),
     Refused(Fault, Spot),

@@ -1,4 +1,6 @@
 // Writes the canonical form of one shortcut from standard input, or the listing's refusal line.
+#![tactic(auto)]
+
 use format::Verdict;
 
 fn main() {

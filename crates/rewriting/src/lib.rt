@@ -1,4 +1,6 @@
 // The canonical form of a shortcut: read, then written again.
+#![tactic(auto)]
+
 ghost use Rattle.std.specs.Prelude.{◌≡◌, length};
 ghost use Rattle.format.specs.Numbers.{Numbered};
 ghost use Rattle.rewriting.specs.Rewrite.{rewriting, rewrite_answer, rewrite_output};

@@ -1,4 +1,6 @@
 // Of a damaged shortcut the beginning that still reads, written with a terminal behind it (FORMAT: Salvage).
+#![tactic(auto)]
+
 ghost use Rattle.std.specs.Prelude.{◌≡◌, cond, ◌+◌, ◌≤◌, length};
 ghost use Rattle.octets.specs.Parts.{put};
 ghost use Rattle.format.specs.Numbers.{Numbered};

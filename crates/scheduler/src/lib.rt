@@ -1,4 +1,6 @@
 // What the scheduler calls (FORMAT: The C answers): a number for each answer, its number and its value in one.
+#![tactic(auto)]
+
 ghost use Rattle.std.specs.Prelude.{◌≡◌, ◌≤◌};
 ghost use Rattle.format.specs.Numbers.{answer_value};
 ghost use Rattle.format.specs.Shortcut.{faulted, reading};

@@ -1,4 +1,6 @@
 // The shelf file: testing one, fetching from it, building it, and moving to it from the old form and back (FORMAT: The shelf).
+#![tactic(auto)]
+
 mod entries;
 
 ghost use Rattle.std.specs.Prelude.{◌≡◌, true, length};
@@ -16,7 +18,7 @@ use format::{Fault, Place, Verdict};
 use shelves::{making, old, table};
 
 // The verdict on a shelf and a number, and where the entry stands; the empty place beside a refusal.
-#[derive(Drop)]
+#[derive(Clone, Copy)]
 pub struct Fetched {
     pub verdict: Verdict,
     pub place: Place,

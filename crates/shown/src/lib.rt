@@ -1,4 +1,6 @@
 // A section asked for by name, shown as the caller's own bytes.
+#![tactic(auto)]
+
 ghost use Rattle.std.specs.Prelude.{◌≡◌, ◌-◌};
 ghost use Rattle.format.specs.Listing.{section_place, section_bytes};
 ghost use Rattle.reader.specs.Steps.Finish.{outline_is, walk_of};

@@ -1,4 +1,6 @@
 // Sections that are one body: a string, and the item list (FORMAT: Strings, Item list).
+#![tactic(auto)]
+
 ghost use Rattle.std.specs.Prelude.{◌≡◌};
 ghost use Rattle.octets.specs.Characters.{bytes_of};
 ghost use Rattle.single.specs.Steps.Taken.{StringAnswer, ItemsAnswer};

@@ -1,5 +1,7 @@
 // How many bytes each body has in the shortest form, with those beside it, and the heads before them (FORMAT: Canonical length): computed once for a write.
 // A length greater than the most that a shortcut has counts as one more than that, so that no sum can wrap.
+#![tactic(auto)]
+
 ghost use Rattle.std.specs.Prelude.{◌≡◌, cond, ◌+◌, ◌≤◌};
 ghost use Rattle.format.specs.Volume.{label_least};
 ghost use Rattle.format.specs.Network.{network_head};

@@ -1,4 +1,6 @@
 // The property store of a block (FORMAT: Property store): storages, and the values in each.
+#![tactic(auto)]
+
 ghost use Rattle.std.specs.Prelude.{◌≡◌, ◌+◌, ◌≤◌, ◌<◌, ◌^◌, length, take, drop};
 ghost use Rattle.format.specs.Store.{name_length, is_named, value_tests, values_tests, storage_tests, store_tests};
 ghost use Rattle.format.specs.Steps.Wrong.{wrong};
@@ -7,7 +9,7 @@ ghost use Rattle.storages.specs.Steps.Parts.{part_step};
 use format::unless;
 
 // A storage or a value of so many bytes; or the zero size that ends them; or neither.
-#[derive(Drop)]
+#[derive(Clone, Copy)]
 enum PartStep {
     Part(usize),
     End,

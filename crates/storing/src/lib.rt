@@ -1,4 +1,6 @@
 // The property store of a shortcut: its list, its names and values shown (FORMAT: Store list), and a store from a list (FORMAT: Store writing).
+#![tactic(auto)]
+
 mod rows;
 
 ghost use Rattle.std.specs.Prelude.{◌≡◌, length};
@@ -13,7 +15,7 @@ use reader::Next;
 use stores::{making, tests};
 
 // The verdict on a shortcut, and where the block stands that holds its store; the empty place where there is none.
-#[derive(Drop)]
+#[derive(Clone, Copy)]
 struct Stored {
     verdict: Verdict,
     block: Place,

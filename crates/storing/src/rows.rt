@@ -17,7 +17,7 @@ pub const NO_ROW: StoreRow = StoreRow {
 };
 
 // Where the next size stands, and where the storage at hand ends; with no storage at hand the two are one place.
-#[derive(Drop)]
+#[derive(Clone, Copy)]
 struct StoreCursor {
     at: usize,
     end: usize,
@@ -25,7 +25,7 @@ struct StoreCursor {
 }
 
 // The row that stands at a cursor, and the cursor after it; or no row is left.
-#[derive(Drop)]
+#[derive(Clone, Copy)]
 enum NextRow {
     Row(StoreRow, StoreCursor),
     End,

@@ -1,4 +1,6 @@
 // The target text of a shortcut, into a lent buffer.
+#![tactic(auto)]
+
 ghost use Rattle.std.specs.Prelude.{◌≡◌, true, ◌+◌, ◌≤◌, length};
 ghost use Rattle.octets.specs.Parts.{put};
 ghost use Rattle.format.specs.Numbers.{Numbered};
@@ -12,7 +14,7 @@ use format::{Fault, Place, Profile, Record, Verdict};
 use reader::SectionEnds;
 
 // The two texts, and how many separators stand between them.
-#[derive(Drop)]
+#[derive(Clone, Copy)]
 pub struct Texts {
     pub first: Place,
     pub separators: usize,

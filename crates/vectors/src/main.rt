@@ -1,4 +1,6 @@
 // Lists and keys shortcuts that stand one after another on standard input, each after its length in four bytes; an accepted one is also rewritten.
+#![tactic(auto)]
+
 use format::{Profile, Verdict};
 
 // The listing and the key; then, of an accepted one, the listing of its canonical form and the form's bytes.

@@ -1,4 +1,6 @@
 // Whether a record can be written (FORMAT: Writing tests): the bodies' places, the rules of each section, and the length of the whole.
+#![tactic(auto)]
+
 ghost use Rattle.std.specs.Prelude.{◌≡◌, true, not, ◌||◌, cond, ◌+◌, ◌-◌, ◌/◌, ◌%◌, ◌≤◌, length, get_or, eqb, leb};
 ghost use Rattle.format.specs.Tests.{no_place};
 ghost use Rattle.format.specs.Bodies.{blocks_slot, placed};

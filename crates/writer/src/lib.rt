@@ -1,4 +1,6 @@
 // Writes a record and the bytes of its bodies as the shortest shortcut that reads as the record.
+#![tactic(auto)]
+
 ghost use Rattle.std.specs.Prelude.{◌≡◌, length};
 ghost use Rattle.format.specs.Numbers.{Numbered};
 ghost use Rattle.format.specs.Shortcut.{verdict_of};
