@@ -1,0 +1,13 @@
+-- The search from i answers as the search from the start.
+use Rattle.octets.specs.Steps.Scans.{zero_place}
+use lib.ListN.{length}
+use mathlib.Core.Bool.{true}
+use mathlib.Core.Path.{◌≡◌, refl}
+use Prim.Native.Nat.{◌-◌}
+use Rattle.octets.proofs.zero_unit.Given as goal
+
+abbrev pub invariant-loop-i : goal.invariant-loop-i
+invariant-loop-i l = zero_place true l.s l.i ≡ zero_place true l.s l.from
+
+abbrev pub decreases-loop-i : goal.decreases-loop-i
+decreases-loop-i l = length l.s - l.i
