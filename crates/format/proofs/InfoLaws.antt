@@ -1,5 +1,5 @@
 -- The laws of LinkInfo.
-use mathlib.Core.Path.{◌≡◌, refl, sym, ◌∙◌}
+use mathlib.Core.Path.{◌≡◌, refl, sym, ap, subst, ◌∙◌}
 use mathlib.Core.List.{List, [], ◌∷◌, ◌++◌, map}
 use mathlib.Core.Bool.{Bool, true, false, not, ◌&&◌, ◌||◌, cond}
 use Prim.Native.Nat.{ℕ, ◌+◌, ◌-◌, ◌≤◌}
@@ -14,7 +14,7 @@ use Rattle.format.specs.declared.Profile.{Profile}
 use Rattle.format.specs.declared.Profile.TheVariants.{Strict, NinetyFive}
 use Rattle.format.specs.declared.Fault.TheVariants.{Info as INFO}
 use Rattle.format.specs.Tests.{◌else◌at◌}
-use Rattle.format.specs.Pieces.{absent_zero, text_size, text_tests, text_piece, span}
+use Rattle.format.specs.Pieces.{Piece, absent_zero, text_size, text_tests, text_piece, tests_of, span}
 use Rattle.format.specs.Volume.{volume_piece, volume_tests}
 use Rattle.format.specs.Network.{network_piece, network_tests}
 use Rattle.format.specs.Info.{info_size, info_head, long_head, info_flags, has_local, has_network, info_pieces, leftover_ok, info_head_tests, info_rules, has_local_unicode}
@@ -357,6 +357,10 @@ module _ (profile : Profile) (i : InfoContents) (v : InfoV i) (m : length (info_
   info_judged : Pass (info_rules profile (info_bytes i))
   info_judged =
       let b : List ℕ = info_bytes i in
+      -- the piece of the written flags and offset is that of the bytes
+      let network_is : network_piece (network_there i.flags) b 20 (cond (network_there i.flags) (network_start i) 0) ≡ network_piece (has_network b) b 20 (u32_at b 20) =
+      sym (ap (λ (f : ℕ). network_piece (network_there f) b 20 (u32_at b 20)) at8 ∙ ap (network_piece (network_there i.flags) b 20) at20)
+      in
       Pass-join (info_head_tests profile b) (info_piece_tests b)
       (info_head_passes profile b (record {
         head = rw (is_long, at4) (head_good i.further i.long (length b) can.further (omega (arith, length_info i)));
@@ -370,7 +374,7 @@ module _ (profile : Profile) (i : InfoContents) (v : InfoV i) (m : length (info_
       (info_pieces_Pass b (record {
         volume = rw (at4, at8, at12) b₁.good;
         local = rw (at4, at8, at16) b₂.good;
-        network = rw (at4, at8, at20) b₃.good;
+        network = rw at4 (subst (λ (p : Piece). Pass (tests_of (volume_start i) p)) network_is b₃.good);
         suffix = rw (at4, at24) b₄.good;
         local_unicode = rw (is_long, at4, at8) b₅.good;
         suffix_unicode = rw (is_long, at4) b₆.good;

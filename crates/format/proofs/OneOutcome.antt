@@ -2,114 +2,142 @@
 use mathlib.Core.Path.{sym, ◌∙◌}
 use Rattle.octets.proofs.Outcomes.{OneAnswer}
 use Rattle.format.proofs.number_of as number_of_lem
+use Rattle.format.specs.contracts.number_of as number_of_lem_contract
 use Rattle.format.proofs.bit_0
+use Rattle.format.specs.contracts.bit_0 as bit_0_contract
 use Rattle.format.proofs.bit_1
+use Rattle.format.specs.contracts.bit_1 as bit_1_contract
 use Rattle.format.proofs.items_there
+use Rattle.format.specs.contracts.items_there as items_there_contract
 use Rattle.format.proofs.info_there
+use Rattle.format.specs.contracts.info_there as info_there_contract
 use Rattle.format.proofs.name_there
+use Rattle.format.specs.contracts.name_there as name_there_contract
 use Rattle.format.proofs.relative_there
+use Rattle.format.specs.contracts.relative_there as relative_there_contract
 use Rattle.format.proofs.workdir_there
+use Rattle.format.specs.contracts.workdir_there as workdir_there_contract
 use Rattle.format.proofs.arguments_there
+use Rattle.format.specs.contracts.arguments_there as arguments_there_contract
 use Rattle.format.proofs.icon_there
+use Rattle.format.specs.contracts.icon_there as icon_there_contract
 use Rattle.format.proofs.strings_unicode
+use Rattle.format.specs.contracts.strings_unicode as strings_unicode_contract
 use Rattle.format.proofs.local_there
+use Rattle.format.specs.contracts.local_there as local_there_contract
 use Rattle.format.proofs.network_there
+use Rattle.format.specs.contracts.network_there as network_there_contract
 use Rattle.format.proofs.local_unicode_there
+use Rattle.format.specs.contracts.local_unicode_there as local_unicode_there_contract
 use Rattle.format.proofs.device_there
+use Rattle.format.specs.contracts.device_there as device_there_contract
 use Rattle.format.proofs.provider_there
+use Rattle.format.specs.contracts.provider_there as provider_there_contract
 use Rattle.format.proofs.device_unicode_there
+use Rattle.format.specs.contracts.device_unicode_there as device_unicode_there_contract
 use Rattle.format.proofs.shape_of
+use Rattle.format.specs.contracts.shape_of as shape_of_contract
 use Rattle.format.proofs.number_if
+use Rattle.format.specs.contracts.number_if as number_if_contract
 use Rattle.format.proofs.one_or_0
+use Rattle.format.specs.contracts.one_or_0 as one_or_0_contract
 use Rattle.format.proofs.signed
+use Rattle.format.specs.contracts.signed as signed_contract
 use Rattle.format.proofs.bits_of
+use Rattle.format.specs.contracts.bits_of as bits_of_contract
 use Rattle.format.proofs.label_of
+use Rattle.format.specs.contracts.label_of as label_of_contract
 use Rattle.format.proofs.label_unicode
+use Rattle.format.specs.contracts.label_unicode as label_unicode_contract
 use Rattle.format.proofs.label_place
+use Rattle.format.specs.contracts.label_place as label_place_contract
 use Rattle.format.proofs.spot_at
+use Rattle.format.specs.contracts.spot_at as spot_at_contract
 use Rattle.format.proofs.unless
+use Rattle.format.specs.contracts.unless as unless_contract
 use Rattle.format.proofs.first
+use Rattle.format.specs.contracts.first as first_contract
 
-pub number_of_one_outcome : OneAnswer number_of_lem.ended number_of_lem.Reads.Post
+pub number_of_one_outcome : OneAnswer number_of_lem_contract.ended number_of_lem.Reads.Post
 number_of_one_outcome κs a r q s t p o = p ∙ sym o
 
-pub bit_0_one_outcome : OneAnswer bit_0.ended bit_0.Reads.Post
+pub bit_0_one_outcome : OneAnswer bit_0_contract.ended bit_0.Reads.Post
 bit_0_one_outcome κs a r q s t p o = p ∙ sym o
 
-pub bit_1_one_outcome : OneAnswer bit_1.ended bit_1.Reads.Post
+pub bit_1_one_outcome : OneAnswer bit_1_contract.ended bit_1.Reads.Post
 bit_1_one_outcome κs a r q s t p o = p ∙ sym o
 
-pub items_there_one_outcome : OneAnswer items_there.ended items_there.Reads.Post
+pub items_there_one_outcome : OneAnswer items_there_contract.ended items_there.Reads.Post
 items_there_one_outcome κs a r q s t p o = p ∙ sym o
 
-pub info_there_one_outcome : OneAnswer info_there.ended info_there.Reads.Post
+pub info_there_one_outcome : OneAnswer info_there_contract.ended info_there.Reads.Post
 info_there_one_outcome κs a r q s t p o = p ∙ sym o
 
-pub name_there_one_outcome : OneAnswer name_there.ended name_there.Reads.Post
+pub name_there_one_outcome : OneAnswer name_there_contract.ended name_there.Reads.Post
 name_there_one_outcome κs a r q s t p o = p ∙ sym o
 
-pub relative_there_one_outcome : OneAnswer relative_there.ended relative_there.Reads.Post
+pub relative_there_one_outcome : OneAnswer relative_there_contract.ended relative_there.Reads.Post
 relative_there_one_outcome κs a r q s t p o = p ∙ sym o
 
-pub workdir_there_one_outcome : OneAnswer workdir_there.ended workdir_there.Reads.Post
+pub workdir_there_one_outcome : OneAnswer workdir_there_contract.ended workdir_there.Reads.Post
 workdir_there_one_outcome κs a r q s t p o = p ∙ sym o
 
-pub arguments_there_one_outcome : OneAnswer arguments_there.ended arguments_there.Reads.Post
+pub arguments_there_one_outcome : OneAnswer arguments_there_contract.ended arguments_there.Reads.Post
 arguments_there_one_outcome κs a r q s t p o = p ∙ sym o
 
-pub icon_there_one_outcome : OneAnswer icon_there.ended icon_there.Reads.Post
+pub icon_there_one_outcome : OneAnswer icon_there_contract.ended icon_there.Reads.Post
 icon_there_one_outcome κs a r q s t p o = p ∙ sym o
 
-pub strings_unicode_one_outcome : OneAnswer strings_unicode.ended strings_unicode.Reads.Post
+pub strings_unicode_one_outcome : OneAnswer strings_unicode_contract.ended strings_unicode.Reads.Post
 strings_unicode_one_outcome κs a r q s t p o = p ∙ sym o
 
-pub local_there_one_outcome : OneAnswer local_there.ended local_there.Reads.Post
+pub local_there_one_outcome : OneAnswer local_there_contract.ended local_there.Reads.Post
 local_there_one_outcome κs a r q s t p o = p ∙ sym o
 
-pub network_there_one_outcome : OneAnswer network_there.ended network_there.Reads.Post
+pub network_there_one_outcome : OneAnswer network_there_contract.ended network_there.Reads.Post
 network_there_one_outcome κs a r q s t p o = p ∙ sym o
 
-pub local_unicode_there_one_outcome : OneAnswer local_unicode_there.ended local_unicode_there.Reads.Post
+pub local_unicode_there_one_outcome : OneAnswer local_unicode_there_contract.ended local_unicode_there.Reads.Post
 local_unicode_there_one_outcome κs a r q s t p o = p ∙ sym o
 
-pub device_there_one_outcome : OneAnswer device_there.ended device_there.Reads.Post
+pub device_there_one_outcome : OneAnswer device_there_contract.ended device_there.Reads.Post
 device_there_one_outcome κs a r q s t p o = p ∙ sym o
 
-pub provider_there_one_outcome : OneAnswer provider_there.ended provider_there.Reads.Post
+pub provider_there_one_outcome : OneAnswer provider_there_contract.ended provider_there.Reads.Post
 provider_there_one_outcome κs a r q s t p o = p ∙ sym o
 
-pub device_unicode_there_one_outcome : OneAnswer device_unicode_there.ended device_unicode_there.Reads.Post
+pub device_unicode_there_one_outcome : OneAnswer device_unicode_there_contract.ended device_unicode_there.Reads.Post
 device_unicode_there_one_outcome κs a r q s t p o = p ∙ sym o
 
-pub shape_of_one_outcome : OneAnswer shape_of.ended shape_of.Reads.Post
+pub shape_of_one_outcome : OneAnswer shape_of_contract.ended shape_of.Reads.Post
 shape_of_one_outcome κs a r q s t p o = p ∙ sym o
 
-pub number_if_one_outcome : OneAnswer number_if.ended number_if.Reads.Post
+pub number_if_one_outcome : OneAnswer number_if_contract.ended number_if.Reads.Post
 number_if_one_outcome κs a r q s t p o = p ∙ sym o
 
-pub one_or_0_one_outcome : OneAnswer one_or_0.ended one_or_0.Reads.Post
+pub one_or_0_one_outcome : OneAnswer one_or_0_contract.ended one_or_0.Reads.Post
 one_or_0_one_outcome κs a r q s t p o = p ∙ sym o
 
-pub signed_one_outcome : OneAnswer signed.ended signed.Reads.Post
+pub signed_one_outcome : OneAnswer signed_contract.ended signed.Reads.Post
 signed_one_outcome κs a r q s t p o = p ∙ sym o
 
-pub bits_of_one_outcome : OneAnswer bits_of.ended bits_of.Reads.Post
+pub bits_of_one_outcome : OneAnswer bits_of_contract.ended bits_of.Reads.Post
 bits_of_one_outcome κs a r q s t p o = p ∙ sym o
 
-pub label_of_one_outcome : OneAnswer label_of.ended label_of.Reads.Post
+pub label_of_one_outcome : OneAnswer label_of_contract.ended label_of.Reads.Post
 label_of_one_outcome κs a r q s t p o = p ∙ sym o
 
-pub label_unicode_one_outcome : OneAnswer label_unicode.ended label_unicode.Reads.Post
+pub label_unicode_one_outcome : OneAnswer label_unicode_contract.ended label_unicode.Reads.Post
 label_unicode_one_outcome κs a r q s t p o = p ∙ sym o
 
-pub label_place_one_outcome : OneAnswer label_place.ended label_place.Reads.Post
+pub label_place_one_outcome : OneAnswer label_place_contract.ended label_place.Reads.Post
 label_place_one_outcome κs a r q s t p o = p ∙ sym o
 
-pub spot_at_one_outcome : OneAnswer spot_at.ended spot_at.Reads.Post
+pub spot_at_one_outcome : OneAnswer spot_at_contract.ended spot_at.Reads.Post
 spot_at_one_outcome κs a r q s t p o = p ∙ sym o
 
-pub unless_one_outcome : OneAnswer unless.ended unless.Reads.Post
+pub unless_one_outcome : OneAnswer unless_contract.ended unless.Reads.Post
 unless_one_outcome κs a r q s t p o = p ∙ sym o
 
-pub first_one_outcome : OneAnswer first.ended first.Reads.Post
+pub first_one_outcome : OneAnswer first_contract.ended first.Reads.Post
 first_one_outcome κs a r q s t p o = p ∙ sym o
