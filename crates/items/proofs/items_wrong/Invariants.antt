@@ -1,0 +1,14 @@
+-- At p the answer is that of the whole list, and p passes the end by one item at most, which starts its size before p.
+use Prim.Native.Nat.{ℕ, ◌≤◌, ◌+◌, ◌-◌}
+use lib.ListN.{length}
+use Rattle.format.specs.declared.Fault.TheVariants.{Items as ITEMS}
+use Rattle.format.specs.Items.{item_tests}
+use Rattle.format.specs.Steps.Wrong.{wrong}
+use Rattle.items.proofs.Laws.{Come, Come-start, none_due, items_end, items_lack, items_stop, items_more}
+use Rattle.items.proofs.items_wrong.Given as goal
+
+abbrev pub invariant-loop-p : goal.invariant-loop-p
+invariant-loop-p l = (l.p ≤ length l.l + 65535) × ((l.size ≤ l.p) × Come l.l l.at (l.p - l.size) l.p (wrong (item_tests ITEMS l.at 0 l.l)))
+
+abbrev pub decreases-loop-p : goal.decreases-loop-p
+decreases-loop-p l = length l.l + 65536 - l.p
