@@ -16,7 +16,7 @@ use Rattle.format.specs.declared.Place.{Place}
 use Rattle.format.specs.declared.Link.{Link}
 use Rattle.format.specs.declared.Info.{Info}
 use Rattle.format.specs.Tests.{Test, ◌else◌at◌, got, section, no_place}
-use Rattle.format.specs.Pieces.{text_piece, text_place, span, tests_of}
+use Rattle.format.specs.Pieces.{Piece, text_piece, text_place, span, tests_of}
 use Rattle.format.specs.Volume.{volume_at, volume_piece, label_place}
 use Rattle.format.specs.Network.{network_piece}
 use Rattle.format.specs.Info.{info_size, info_head, long_head, head_ok, info_flags, has_local, has_network, has_local_unicode, info_pieces, leftover_ok, info_head_tests, info_rules, further_place, info_fields, info, link_of, info_places}
@@ -296,7 +296,7 @@ info_read profile k b p l g =
       pieces = record {
         volume = rw (hd, f, o12) volume.passes;
         local = rw (hd, f, o16) local.passes;
-        network = rw (hd, f, o20) network.passes;
+        network = rw hd (subst (λ (q : Piece). Pass (tests_of g.head q)) (sym (ap (λ (n : ℕ). network_piece (is_set 1 n) l 20 (u32_at l 20)) f ∙ ap (network_piece ne l 20) o20)) network.passes);
         suffix = rw (hd, o24) suffix.passes;
         local_unicode = rw (e, hd, f) local_u.0.passes;
         suffix_unicode = rw (e, hd) suffix_u.passes;
@@ -351,7 +351,7 @@ section_read profile k b p x r g =
     let z : info_size s ≡ length x = number_same 4 (length x) s x 0 (take_at x r (length x) refl ∙ sym (take-length x)) (omega arith) ∙ y.size in
     let t : take (info_size s) s ≡ x = take_at x r (info_size s) (sym z) in
     let c : Pass (info_tests profile s)
-    = (le-leb 4 (length s) (omega arith), (le-leb 0x1C (info_size s) (omega arith), (le-leb (info_size s) (length s) (omega arith), rw t (Pass-join (info_head_tests profile x) (info_piece_tests x) (info_head_passes profile x y.head) (info_pieces_Pass x y.pieces))))) in
+    = (le-leb 4 (length s) (omega arith), (le-leb 0x1C (info_size s) (omega arith), (le-leb (info_size s) (length s) (omega arith), subst (λ (l : List ℕ). Pass (info_rules profile l)) (sym t) (Pass-join (info_head_tests profile x) (info_piece_tests x) (info_head_passes profile x y.head) (info_pieces_Pass x y.pieces))))) in
     let q = y.places in (
       pass (section 2 p) (info_tests profile s) (got (info_fields p (take (info_size s) s)) (info_size s)) c ∙ rw (t, z),
       record {

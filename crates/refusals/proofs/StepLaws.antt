@@ -153,6 +153,10 @@ Cuts-string k u = Cuts-counted k (λ n. 2 + bytes_of u n) (λ l. []) (λ p n. pl
 
 -- ---- LinkInfo
 
+-- what three tests that hold leave of a list
+first_three : {A : Type 0} (w : Site) (x y z : Test) (ts : List Test) (r : Outcome A) → x.holds ≡ true → y.holds ≡ true → z.holds ≡ true → tests w (x ∷ y ∷ z ∷ ts) r ≡ tests w ts r
+first_three w x y z ts r a b c = rw (a, b, c)
+
 pub Cuts-info : (profile : Profile) → Cuts (info profile) (λ b. size_or_field 0x1C (u32_at b 0))
 Cuts-info profile = record {
   short = λ p b h.
@@ -179,15 +183,15 @@ Cuts-info profile = record {
       (λ l.
       let g : info_size b ≤ length b = rw (le-ltb (info_size b) 0x1C l) at h in
       let u : info_size c ≡ info_size b = number_same 4 4 c b 0 (Begins-take 4 b c e (omega arith)) (omega arith) in
-      rw (
-        u,
-        le-leb 4 (length b) (omega arith),
-        le-leb 4 (length c) (omega arith),
-        le-leb 0x1C (info_size b) l,
-        le-leb (info_size b) (length b) g,
-        le-leb (info_size b) (length c) (omega arith),
-        Begins-take (info_size b) b c e g,
-      ))
+      let c_low : 0x1C ≤ info_size c = omega (arith, u, l) in
+      let c_fits : info_size c ≤ length c = omega (arith, u, g, m) in
+      first_three (section 2 p) _ _ _ (info_rules profile (take (info_size c) c)) (got (info_fields p (take (info_size c) c)) (info_size c))
+      (le-leb 4 (length c) (omega arith)) (le-leb 0x1C (info_size c) c_low) (le-leb (info_size c) (length c) c_fits)
+      ∙ ap (λ (n : ℕ). tests (section 2 p) (info_rules profile (take n c)) (got (info_fields p (take n c)) n)) u
+      ∙ ap (λ (x : List ℕ). tests (section 2 p) (info_rules profile x) (got (info_fields p x) (info_size b))) (Begins-take (info_size b) b c e g)
+      ∙ sym
+      (first_three (section 2 p) _ _ _ (info_rules profile (take (info_size b) b)) (got (info_fields p (take (info_size b) b)) (info_size b))
+      (le-leb 4 (length b) (omega arith)) (le-leb 0x1C (info_size b) l) (le-leb (info_size b) (length b) g)))
       (λ l.
       let g : 4 ≤ length b = rw (lt-ltb (info_size b) 0x1C l) at h in
       let u : info_size c ≡ info_size b = number_same 4 4 c b 0 (Begins-take 4 b c e g) (omega arith) in
