@@ -1,5 +1,5 @@
 -- The walk: how far it has come, and what stands there.
-use mathlib.Core.Path.{◌≡◌, refl, sym, ap, ◌∙◌}
+use mathlib.Core.Path.{◌≡◌, refl, sym, ap, subst, ◌∙◌}
 use mathlib.Core.List.{List, [], ◌∷◌, ◌++◌, append_assoc, append-nil}
 use mathlib.Core.Bool.{Bool, true, false, cond}
 use Prim.Native.Nat.{ℕ, ◌+◌, ◌-◌, ◌≤◌, ◌<◌}
@@ -81,7 +81,7 @@ after_more ls n (refused f q) = refl
 walked_more : (s : List ℕ) (a p : ℕ) (ls row : List ℕ) {n : ℕ} → BlocksTo s row a ls p → block_step p (drop p s) ≡ got a_block n → is_free (noted_all s a ls row) (slot_at (drop p s)) ≡ true
     → BlocksTo s row a (ls ++ n ∷ []) (p + n)
 unfolding noted_all
-walked_more s a p [] row {n} w h f = (rw w h, (rw w f, rw w))
+walked_more s a p [] row {n} w h f = (subst (λ (q : ℕ). block_step q (drop q s) ≡ got a_block n) (sym w) h, (rw w f, rw w))
 walked_more s a p (m ∷ ms) row w h f = (w.0, (w.1.0, walked_more s (a + m) p ms (noted row (slot_at (drop a s)) (field_of a)) w.1.1 h f))
 
 noted_more : (s : List ℕ) (a n : ℕ) (ls row : List ℕ) → noted_all s a (ls ++ n ∷ []) row ≡ noted (noted_all s a ls row) (slot_at (drop (a + sum ls) s)) (field_of (a + sum ls))
@@ -122,8 +122,8 @@ Passed-more s a p {row} {next} {n} {k} P z h f e =
 walked_once : (s : List ℕ) (a p q : ℕ) (ls ms row : List ℕ) → BlocksTo s row a ls p → NoMore s p (noted_all s a ls row) → BlocksTo s row a ms q → NoMore s q (noted_all s a ms row) → ls ≡ ms
 unfolding noted_all
 walked_once s a p q [] [] row v f w g = refl
-walked_once s a p q [] (m ∷ ms) row v f w g = clash w.1.0 (rw (← v) at (f m (rw (← v) w.0)))
-walked_once s a p q (n ∷ ns) [] row v f w g = clash v.1.0 (rw (← w) at (g n (rw (← w) v.0)))
+walked_once s a p q [] (m ∷ ms) row v f w g = clash w.1.0 (rw (← v) at (f m (subst (λ (x : ℕ). block_step x (drop x s) ≡ got a_block m) v w.0)))
+walked_once s a p q (n ∷ ns) [] row v f w g = clash v.1.0 (rw (← w) at (g n (subst (λ (x : ℕ). block_step x (drop x s) ≡ got a_block n) w v.0)))
 walked_once s a p q (n ∷ ns) (m ∷ ms) row v f w g =
     let e : n ≡ m = cc (v.0, w.0) in
     rw e (ap (λ (l : List ℕ). m ∷ l) (walked_once s (a + m) p q ns ms (noted row (slot_at (drop a s)) (field_of a)) (rw e at v.1.1) (rw e at f) w.1.1 g))

@@ -321,7 +321,7 @@ lay profile s w texts small long F held lengths last =
         least = omega (arith, (told z).least);
         small = omega arith;
         head = rw own at (told z).head;
-        pieces = rw own at (told z).pieces;
+        pieces = subst (λ (n : ℕ). all (piece_tests (info_head (take n (drop e.items s))) (info_pieces (take n (drop e.items s)))) ≡ true) own (told z).pieces;
         lengths = lengths ∙ ap lengths_in F.held ∙ info_lengths _ _ _ _ _ ∙ ap text_lengths (rw own at (told z).is);
       };
       said = λ z. rw own at (told z).is;

@@ -1,5 +1,5 @@
 -- The next row: what stands at a cursor, and what is left after it.
-use mathlib.Core.Path.{◌≡◌, refl, sym, ap, ◌∙◌}
+use mathlib.Core.Path.{◌≡◌, refl, sym, ap, subst, ◌∙◌}
 use mathlib.Core.List.{List, [], ◌∷◌, ◌++◌, append_assoc, append-nil}
 use mathlib.Core.Bool.{Bool, true, false, ◌||◌}
 use Prim.Native.Nat.{ℕ, zero, suc, ◌+◌, ◌-◌, ◌^◌, ◌≤◌, ◌<◌}
@@ -35,6 +35,16 @@ zero_is = refl
 per_none : {A : Type 0} (give : ℕ → List ℕ → List A) (i : ℕ) → per_part give i 0 [] ≡ []
 unfolding per_part
 per_none give i = refl
+
+-- the rows of a storage of m bytes v at i with r after it, by where its parts stand
+rows_of_storage : (i m : ℕ) (v r : List ℕ) {w t x : List ℕ} {j k e : ℕ} → drop 24 v ≡ w → identifier_of v ≡ x → r ≡ t → i + 8 ≡ j → i + 24 ≡ k → i + m ≡ e
+    → storage_rows i v ++ per_part storage_rows (i + m) 0 r ≡ storage_row (place j 16) ∷ (per_part (give_value (is_named x)) k 0 w ++ store_rows e t)
+unfolding store_rows
+rows_of_storage i m v r d n o a b f = rw (d, n, o, a, b, f)
+
+values_of_storage : (v : List ℕ) {w x : List ℕ} → drop 24 v ≡ w → identifier_of v ≡ x → all (values_tests (is_named (identifier_of v)) 0 (drop 24 v)) ≡ true → all (values_tests (is_named x) 0 w) ≡ true
+values_of_storage v {w} {x} d n h =
+    subst (λ (y : List ℕ). all (values_tests (is_named y) 0 w) ≡ true) n (subst (λ (z : List ℕ). all (values_tests (is_named (identifier_of v)) 0 z) ≡ true) d h)
 
 module _ (l : List ℕ) (base : ℕ) (c : StoreCursor) (R : Right l c) where
   left_long : length (values_left l c) ≡ c.end - c.at
@@ -177,11 +187,11 @@ module _ (l : List ℕ) (base : ℕ) (c : StoreCursor) (R : Right l c) where
       (record {
         low = low;
         fits = omega (arith, length-drop c.end l, R.inside);
-        rows = rw (d, i, r, a, b, f) at p;
+        rows = p ∙ rows_of_storage (base + c.end) m v (drop m (drop c.end l)) d i r a b f;
         right = record {
           order = omega arith;
           inside = omega (arith, length-drop c.end l, R.inside);
-          values = λ y. rw (d, i) at (values_anywhere (is_named (identifier_of v)) 0 (0 + 24) (drop 24 v) ∙ Pass-all (values_tests (is_named (identifier_of v)) (0 + 24) (drop 24 v)) o.1);
+          values = λ y. values_of_storage v d i (values_anywhere (is_named (identifier_of v)) 0 (0 + 24) (drop 24 v) ∙ Pass-all (values_tests (is_named (identifier_of v)) (0 + 24) (drop 24 v)) o.1);
           store = rw r at (store_anywhere 0 (0 + m) (drop m (drop c.end l)) ∙ Pass-all (store_tests (0 + m) (drop m (drop c.end l))) q);
         };
       }))
