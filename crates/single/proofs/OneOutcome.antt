@@ -2,10 +2,12 @@
 use mathlib.Core.Path.{sym, ◌∙◌}
 use Rattle.octets.proofs.Outcomes.{OneAnswer}
 use Rattle.single.proofs.string
+use Rattle.single.specs.contracts.string as string_contract
 use Rattle.single.proofs.items
+use Rattle.single.specs.contracts.items as items_contract
 
-pub string_one_outcome : OneAnswer string.ended string.Reads.Post
+pub string_one_outcome : OneAnswer string_contract.ended string.Reads.Post
 string_one_outcome κs a r q s t p o = p.is ∙ sym o.is
 
-pub items_one_outcome : OneAnswer items.ended items.Reads.Post
+pub items_one_outcome : OneAnswer items_contract.ended items.Reads.Post
 items_one_outcome κs a r q s t p o = p.is ∙ sym o.is

@@ -2,30 +2,37 @@
 use mathlib.Core.Path.{sym, ◌∙◌}
 use Rattle.octets.proofs.Outcomes.{OneAnswer}
 use Rattle.sizes.proofs.sizes_of
+use Rattle.sizes.specs.contracts.sizes_of as sizes_of_contract
 use Rattle.sizes.proofs.label_start
+use Rattle.sizes.specs.contracts.label_start as label_start_contract
 use Rattle.sizes.proofs.network_head
+use Rattle.sizes.specs.contracts.network_head as network_head_contract
 use Rattle.sizes.proofs.info_head
+use Rattle.sizes.specs.contracts.info_head as info_head_contract
 use Rattle.sizes.proofs.volume_part
+use Rattle.sizes.specs.contracts.volume_part as volume_part_contract
 use Rattle.sizes.proofs.network_part
+use Rattle.sizes.specs.contracts.network_part as network_part_contract
 use Rattle.sizes.proofs.end_of as end_of_lem
+use Rattle.sizes.specs.contracts.end_of as end_of_lem_contract
 
-pub sizes_of_one_outcome : OneAnswer sizes_of.ended sizes_of.Reads.Post
+pub sizes_of_one_outcome : OneAnswer sizes_of_contract.ended sizes_of.Reads.Post
 sizes_of_one_outcome κs a r q s t p o = p ∙ sym o
 
-pub label_start_one_outcome : OneAnswer label_start.ended label_start.Reads.Post
+pub label_start_one_outcome : OneAnswer label_start_contract.ended label_start.Reads.Post
 label_start_one_outcome κs a r q s t p o = p ∙ sym o
 
-pub network_head_one_outcome : OneAnswer network_head.ended network_head.Reads.Post
+pub network_head_one_outcome : OneAnswer network_head_contract.ended network_head.Reads.Post
 network_head_one_outcome κs a r q s t p o = p ∙ sym o
 
-pub info_head_one_outcome : OneAnswer info_head.ended info_head.Reads.Post
+pub info_head_one_outcome : OneAnswer info_head_contract.ended info_head.Reads.Post
 info_head_one_outcome κs a r q s t p o = p ∙ sym o
 
-pub volume_part_one_outcome : OneAnswer volume_part.ended volume_part.Reads.Post
+pub volume_part_one_outcome : OneAnswer volume_part_contract.ended volume_part.Reads.Post
 volume_part_one_outcome κs a r q s t p o = p ∙ sym o
 
-pub network_part_one_outcome : OneAnswer network_part.ended network_part.Reads.Post
+pub network_part_one_outcome : OneAnswer network_part_contract.ended network_part.Reads.Post
 network_part_one_outcome κs a r q s t p o = p ∙ sym o
 
-pub end_of_one_outcome : OneAnswer end_of_lem.ended end_of_lem.Reads.Post
+pub end_of_one_outcome : OneAnswer end_of_lem_contract.ended end_of_lem.Reads.Post
 end_of_one_outcome κs a r q s t p o = p ∙ sym o

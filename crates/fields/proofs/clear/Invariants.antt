@@ -1,0 +1,12 @@
+-- After i steps the first i numbers are 0; the length is kept by itself, so that each store is seen to be in range.
+use Rattle.fields.proofs.Laws.{cleared, cleared_none, cleared_more, cleared_whole}
+use lib.ListN.{length, length-set}
+use mathlib.Core.Path.{◌≡◌, refl}
+use Prim.Native.Nat.{◌≤◌, ◌-◌}
+use Rattle.fields.proofs.clear.Given as goal
+
+abbrev pub invariant-loop-i : goal.invariant-loop-i
+invariant-loop-i l = (l.i ≤ length l.initial.f) × (length l.f ≡ length l.initial.f) × (l.f ≡ cleared l.initial.f l.i)
+
+abbrev pub decreases-loop-i : goal.decreases-loop-i
+decreases-loop-i l = length l.initial.f - l.i
