@@ -14,6 +14,7 @@ use crate::rows::{show_blocks, show_sections};
 use crate::showing::{show, show_decimal, show_hex};
 use format::{Fault, Profile, Verdict};
 use reader::Next;
+use std::env::{Env, FillError};
 
 // So many bytes of the text are still to be passed over; so many of the buffer are filled.
 #[derive(Clone, Copy)]
@@ -127,27 +128,34 @@ pub fn key_line(s: &[u8], profile: Profile) {
 
 // ---- the program's arguments
 
-fn says_95() -> bool {
+fn says_95(rt: &impl Env) -> bool {
     let mut word = [0u8; 3];
-    let n = os::arg(1, &mut word);
+    let Ok(n) = rt.arg(1, &mut word) else {
+        return false;
+    };
     (n == 2) & (word[0] == b'9') & (word[1] == b'5')
 }
 
 // Strict, unless the program's first argument is 95.
-pub fn profile_asked() -> Profile {
-    if says_95() {
+pub fn profile_asked(rt: &impl Env) -> Profile {
+    if says_95(rt) {
         return Profile::NinetyFive;
     }
     Profile::Strict
 }
 
+// One that is longer than the word is there too.
+fn has_argument(rt: &impl Env, number: usize) -> bool {
+    let mut word = [0u8; 3];
+    !matches!(rt.arg(number, &mut word), Err(FillError::NotPresent))
+}
+
 // Whether there are other arguments than 95 alone: then it says so, and writes the refusal that C answers.
-pub fn wrong_words() -> bool {
-    let count = os::arg_count();
-    if count < 2 {
+pub fn wrong_words(rt: &impl Env) -> bool {
+    if !has_argument(rt, 1) {
         return false;
     }
-    if (count == 2) & says_95() {
+    if !has_argument(rt, 2) & says_95(rt) {
         return false;
     }
     io::write_all(2, b"the only argument is 95, for shortcuts of Windows 95\n");

@@ -3,15 +3,15 @@
 
 use format::Verdict;
 
-fn main() {
-    if lines::wrong_words() {
+fn main(rt: HostRuntime) {
+    if lines::wrong_words(&rt) {
         return;
     }
     // One byte more than a shortcut may have: what lies beyond it is not looked at.
     let mut room = [0u8; 65537];
     let n = io::read_full(0, &mut room);
     let mut out = [0u8; 65536];
-    let v = rewriting::rewrite(&room[..n], &mut out, lines::profile_asked());
+    let v = rewriting::rewrite(&room[..n], &mut out, lines::profile_asked(&rt));
     match v {
         Verdict::Accepted(m) => {
             io::write_all(1, octets::part(&out, 0, m));

@@ -43,10 +43,10 @@ fn each(room: &mut [u8], profile: Profile) {
     }
 }
 
-fn main() {
-    if lines::wrong_words() {
+fn main(rt: HostRuntime) {
+    if lines::wrong_words(&rt) {
         return;
     }
     let mut room = [0u8; 70000];
-    each(&mut room, lines::profile_asked());
+    each(&mut room, lines::profile_asked(&rt));
 }
