@@ -3,8 +3,8 @@ use mathlib.Core.Path.{sym, ◌∙◌}
 use Rattle.octets.proofs.Outcomes.{OneOutcome}
 use Rattle.moving.proofs.to_unicode
 use Rattle.moving.proofs.to_bytes
-use Rattle.moving.proofs.pieces.put_strings
-use Rattle.moving.proofs.pieces.put_info
+use Rattle.moving.proofs.texts.put_strings
+use Rattle.moving.proofs.texts.put_info
 
 pub to_unicode_one_outcome : OneOutcome to_unicode.ended (λ κs s. s.1.0.now) to_unicode.Reads.Post
 to_unicode_one_outcome κs a r q s t p o = (p.0 ∙ sym o.0, p.1.0 ∙ sym o.1.0)

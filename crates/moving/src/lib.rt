@@ -1,7 +1,7 @@
 // A shortcut of byte strings moved to one of Unicode, and home again (FORMAT: Moving). `unicode` tells the way.
 #![tactic(auto)]
 
-pub mod pieces;
+pub mod texts;
 
 ghost use Rattle.std.specs.Prelude.{◌≡◌, true, length};
 ghost use Rattle.octets.specs.Steps.Puts.{Wrote};
@@ -15,7 +15,7 @@ ghost use Rattle.format.specs.Steps.Shape.{shape_of};
 ghost use Rattle.moves.specs.Steps.Moves.{maps, head_fits, moved, call, moved_record, Going, ReadFrom};
 ghost use Rattle.moving.specs.Steps.Pieces.{moved_flat};
 
-use crate::pieces::{put_info, put_strings};
+use crate::texts::{put_info, put_strings};
 use format::{Fault, Place, Profile, Record, Shape, Verdict};
 use moves::records;
 use moves::tests::maps;

@@ -8,8 +8,8 @@ use native.Mathlib.Omega.{arith}
 use Prim.Native.Nat.{◌-◌, ◌≤◌}
 use mathlib.Core.Logic.{⊎_elim}
 use mathlib.Core.Path.{◌≡◌}
-use Rattle.moving.proofs.pieces.put_strings.Statement.{statement}
-use Rattle.moving.proofs.pieces.put_strings.Tie as tie
+use Rattle.moving.proofs.texts.put_strings.Statement.{statement}
+use Rattle.moving.proofs.texts.put_strings.Tie as tie
 
 abbrev invariant-loop : tie.invariant-loop
 invariant-loop out₀ at d unicode row there p₀ k₀ out p k =

@@ -6,8 +6,8 @@ use Rattle.octets.proofs.WroteLaws.{kept, join}
 use native.Mathlib.Omega.{arith}
 use borrow.Author.Tests.{not-true, not-false}
 use borrow.Author.Rules.{rules}
-use Rattle.moving.proofs.pieces.put_unicode_texts.Statement.{statement}
-use Rattle.moving.proofs.pieces.put_unicode_texts.Tie as tie
+use Rattle.moving.proofs.texts.put_unicode_texts.Statement.{statement}
+use Rattle.moving.proofs.texts.put_unicode_texts.Tie as tie
 
 put-slots-requires : tie.Need-put-slots-requires
 unfolding unicode_size

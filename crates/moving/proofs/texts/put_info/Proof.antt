@@ -9,8 +9,8 @@ use native.Mathlib.Omega.{arith}
 use borrow.Author.Tests.{not-true, not-false}
 use mathlib.Core.Path.{refl, sym}
 use borrow.Author.Rules.{rules}
-use Rattle.moving.proofs.pieces.put_info.Statement.{statement}
-use Rattle.moving.proofs.pieces.put_info.Tie as tie
+use Rattle.moving.proofs.texts.put_info.Statement.{statement}
+use Rattle.moving.proofs.texts.put_info.Tie as tie
 
 returns : tie.Need-returns
 returns c =

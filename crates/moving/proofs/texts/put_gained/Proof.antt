@@ -5,8 +5,8 @@ use Rattle.octets.proofs.WroteLaws.{kept}
 use native.Mathlib.Omega.{arith}
 use borrow.Author.Tests.{not-true, not-false}
 use borrow.Author.Rules.{rules}
-use Rattle.moving.proofs.pieces.put_gained.Statement.{statement}
-use Rattle.moving.proofs.pieces.put_gained.Tie as tie
+use Rattle.moving.proofs.texts.put_gained.Statement.{statement}
+use Rattle.moving.proofs.texts.put_gained.Tie as tie
 
 returns : tie.Need-returns
 returns c =
