@@ -47,8 +47,7 @@ fn profile_of(n: u32) -> Profile
     Profile::NinetyFive
 }
 
-#[unsafe(no_mangle)]
-pub extern "C" fn herringnet_check(s: &[u8], profile: u32) -> u64
+pub fn herringnet_check(s: &[u8], profile: u32) -> u64
     ensures { result ≡ under_profile profile (λ p. code_of (reading p s.now).verdict) PROFILE }
 {
     if 1 < profile {
@@ -58,8 +57,7 @@ pub extern "C" fn herringnet_check(s: &[u8], profile: u32) -> u64
     code_of(v)
 }
 
-#[unsafe(no_mangle)]
-pub extern "C" fn herringnet_fault(s: &[u8], profile: u32) -> u64
+pub fn herringnet_fault(s: &[u8], profile: u32) -> u64
     ensures { result ≡ under_profile profile (λ p. fault_code (faulted p s.now)) PROFILE }
 {
     if 1 < profile {
@@ -74,8 +72,7 @@ pub extern "C" fn herringnet_fault(s: &[u8], profile: u32) -> u64
     format::number_of(f) as u64 + 256 * (p as u64 + 65537 * spot)
 }
 
-#[unsafe(no_mangle)]
-pub extern "C" fn herringnet_target(s: &[u8], out: &mut [u8], profile: u32) -> u64
+pub fn herringnet_target(s: &[u8], out: &mut [u8], profile: u32) -> u64
     ensures answer { result ≡ under_profile profile (λ p. code_of (target_answer p s.now out.old)) PROFILE }
     ensures output { out.new ≡ under_profile profile (λ p. target_output p s.now out.old) out.old }
 {
@@ -86,8 +83,7 @@ pub extern "C" fn herringnet_target(s: &[u8], out: &mut [u8], profile: u32) -> u
     code_of(v)
 }
 
-#[unsafe(no_mangle)]
-pub extern "C" fn herringnet_key(s: &[u8], out: &mut [u8], profile: u32) -> u64
+pub fn herringnet_key(s: &[u8], out: &mut [u8], profile: u32) -> u64
     ensures answer { result ≡ under_profile profile (λ p. code_of (key_answer p s.now out.old)) PROFILE }
     ensures output { out.new ≡ under_profile profile (λ p. key_output p s.now out.old) out.old }
 {
@@ -98,8 +94,7 @@ pub extern "C" fn herringnet_key(s: &[u8], out: &mut [u8], profile: u32) -> u64
     code_of(v)
 }
 
-#[unsafe(no_mangle)]
-pub extern "C" fn herringnet_key_blind(s: &[u8], profile: u32) -> u64
+pub fn herringnet_key_blind(s: &[u8], profile: u32) -> u64
     ensures { result ≡ under_profile profile (λ p. code_of (key_blind_answer p s.now)) PROFILE }
 {
     if 1 < profile {
@@ -109,8 +104,7 @@ pub extern "C" fn herringnet_key_blind(s: &[u8], profile: u32) -> u64
     code_of(v)
 }
 
-#[unsafe(no_mangle)]
-pub extern "C" fn herringnet_to_unicode(s: &[u8], out: &mut [u8], profile: u32) -> u64
+pub fn herringnet_to_unicode(s: &[u8], out: &mut [u8], profile: u32) -> u64
     ensures answer { result ≡ under_profile profile (λ p. code_of (to_unicode_answer p s.now out.old)) PROFILE }
     ensures output { out.new ≡ under_profile profile (λ p. to_unicode_output p s.now out.old) out.old }
 {
@@ -121,8 +115,7 @@ pub extern "C" fn herringnet_to_unicode(s: &[u8], out: &mut [u8], profile: u32) 
     code_of(v)
 }
 
-#[unsafe(no_mangle)]
-pub extern "C" fn herringnet_to_bytes(s: &[u8], out: &mut [u8], profile: u32) -> u64
+pub fn herringnet_to_bytes(s: &[u8], out: &mut [u8], profile: u32) -> u64
     ensures answer { result ≡ under_profile profile (λ p. code_of (to_bytes_answer p s.now out.old)) PROFILE }
     ensures output { out.new ≡ under_profile profile (λ p. to_bytes_output p s.now out.old) out.old }
 {
@@ -133,8 +126,7 @@ pub extern "C" fn herringnet_to_bytes(s: &[u8], out: &mut [u8], profile: u32) ->
     code_of(v)
 }
 
-#[unsafe(no_mangle)]
-pub extern "C" fn herringnet_section(s: &[u8], name: u32, block: usize, profile: u32) -> u64
+pub fn herringnet_section(s: &[u8], name: u32, block: usize, profile: u32) -> u64
     ensures { result ≡ under_profile profile (λ p. section_code (section_place p s.now name block)) PROFILE }
 {
     if 1 < profile {
@@ -144,8 +136,7 @@ pub extern "C" fn herringnet_section(s: &[u8], name: u32, block: usize, profile:
     256 * (b.at as u64 + 65537 * (b.len as u64))
 }
 
-#[unsafe(no_mangle)]
-pub extern "C" fn herringnet_read(s: &[u8], f: &mut [u64], profile: u32) -> u64
+pub fn herringnet_read(s: &[u8], f: &mut [u64], profile: u32) -> u64
     ensures answer { result ≡ under_profile profile (λ p. read_code p s.now f.old) PROFILE }
     ensures output { f.new ≡ under_profile profile (λ p. read_fields p s.now f.old) f.old }
 {
@@ -170,8 +161,7 @@ pub extern "C" fn herringnet_read(s: &[u8], f: &mut [u64], profile: u32) -> u64
     }
 }
 
-#[unsafe(no_mangle)]
-pub extern "C" fn herringnet_write(f: &[u64], d: &[u8], out: &mut [u8], profile: u32) -> u64
+pub fn herringnet_write(f: &[u64], d: &[u8], out: &mut [u8], profile: u32) -> u64
     ensures answer { result ≡ under_profile profile (λ p. write_code p f.now d.now out.old) PROFILE }
     ensures output { out.new ≡ under_profile profile (λ p. written_fields p f.now d.now out.old) out.old }
     ensures least { profile ≤ 1 → EndsOf (profile_of profile) f.now d.now out.old result out.new }
@@ -190,8 +180,7 @@ pub extern "C" fn herringnet_write(f: &[u64], d: &[u8], out: &mut [u8], profile:
     code_of(v)
 }
 
-#[unsafe(no_mangle)]
-pub extern "C" fn herringnet_store_list(s: &[u8], rows: &mut [u64], profile: u32) -> u64
+pub fn herringnet_store_list(s: &[u8], rows: &mut [u64], profile: u32) -> u64
     ensures answer { result ≡ under_profile profile (λ p. code_of (store_list_answer p s.now rows.old)) PROFILE }
     ensures output { rows.new ≡ under_profile profile (λ p. store_list_output p s.now rows.old) rows.old }
 {
@@ -202,8 +191,7 @@ pub extern "C" fn herringnet_store_list(s: &[u8], rows: &mut [u64], profile: u32
     code_of(v)
 }
 
-#[unsafe(no_mangle)]
-pub extern "C" fn herringnet_store_write(rows: &[u64], d: &[u8], out: &mut [u8]) -> u64
+pub fn herringnet_store_write(rows: &[u64], d: &[u8], out: &mut [u8]) -> u64
     ensures answer { result ≡ store_write_code rows.now d.now out.old }
     ensures output { out.new ≡ store_written_rows rows.now d.now out.old }
     ensures only { StoreEndsOf rows.now d.now out.old result out.new }
@@ -215,8 +203,7 @@ pub extern "C" fn herringnet_store_write(rows: &[u64], d: &[u8], out: &mut [u8])
     code_of(v)
 }
 
-#[unsafe(no_mangle)]
-pub extern "C" fn herringnet_path_block(
+pub fn herringnet_path_block(
     f: &[u64],
     d: &[u8],
     signature: u32,
@@ -243,8 +230,7 @@ pub extern "C" fn herringnet_path_block(
     code_of(v)
 }
 
-#[unsafe(no_mangle)]
-pub extern "C" fn herringnet_shelf_check(s: &[u8]) -> u64
+pub fn herringnet_shelf_check(s: &[u8]) -> u64
     ensures { result ≡ code_of (shelf_answer s.now) }
 {
     let v = shelving::shelf_check(s);
@@ -262,24 +248,21 @@ fn fetch_code(g: Fetched) -> u64
     256 * (g.place.len as u64 + 65537 * (g.place.at as u64))
 }
 
-#[unsafe(no_mangle)]
-pub extern "C" fn herringnet_shelf_entry(s: &[u8], number: usize) -> u64
+pub fn herringnet_shelf_entry(s: &[u8], number: usize) -> u64
     ensures { result ≡ fetch_code (entry_answer s.now number) }
 {
     let g = shelving::shelf_entry(s, number);
     fetch_code(g)
 }
 
-#[unsafe(no_mangle)]
-pub extern "C" fn herringnet_shelf_one(s: &[u8], number: usize) -> u64
+pub fn herringnet_shelf_one(s: &[u8], number: usize) -> u64
     ensures { result ≡ fetch_code (one_answer s.now number) }
 {
     let g = shelving::shelf_one(s, number);
     fetch_code(g)
 }
 
-#[unsafe(no_mangle)]
-pub extern "C" fn herringnet_shelf_build(lengths: &[u64], bodies: &[u8], out: &mut [u8]) -> u64
+pub fn herringnet_shelf_build(lengths: &[u64], bodies: &[u8], out: &mut [u8]) -> u64
     ensures answer { result ≡ code_of (build_answer lengths.now bodies.now out.old) }
     ensures output { out.new ≡ build_output lengths.now bodies.now out.old }
 {
@@ -287,8 +270,7 @@ pub extern "C" fn herringnet_shelf_build(lengths: &[u64], bodies: &[u8], out: &m
     code_of(v)
 }
 
-#[unsafe(no_mangle)]
-pub extern "C" fn herringnet_shelf_from_old(old: &[u8], out: &mut [u8]) -> u64
+pub fn herringnet_shelf_from_old(old: &[u8], out: &mut [u8]) -> u64
     ensures answer { result ≡ code_of (from_old_answer old.now out.old) }
     ensures output { out.new ≡ from_old_output old.now out.old }
 {
@@ -296,8 +278,7 @@ pub extern "C" fn herringnet_shelf_from_old(old: &[u8], out: &mut [u8]) -> u64
     code_of(v)
 }
 
-#[unsafe(no_mangle)]
-pub extern "C" fn herringnet_shelf_to_old(s: &[u8], out: &mut [u8]) -> u64
+pub fn herringnet_shelf_to_old(s: &[u8], out: &mut [u8]) -> u64
     ensures answer { result ≡ code_of (to_old_answer s.now out.old) }
     ensures output { out.new ≡ to_old_output s.now out.old }
 {
@@ -305,8 +286,7 @@ pub extern "C" fn herringnet_shelf_to_old(s: &[u8], out: &mut [u8]) -> u64
     code_of(v)
 }
 
-#[unsafe(no_mangle)]
-pub extern "C" fn herringnet_salvage(s: &[u8], out: &mut [u8]) -> u64
+pub fn herringnet_salvage(s: &[u8], out: &mut [u8]) -> u64
     ensures answer { result ≡ salvage_code (salvage_answer s.now out.old) }
     ensures output { out.new ≡ salvage_output s.now out.old }
     ensures saved { SalvageCodeEnds s.now out.old result out.new }
