@@ -130,8 +130,9 @@ fn pieces_wrong(l: &[u8], texts: &mut [u32; 9]) -> usize
         return 16;
     }
     let c = network(format::network_there(flags), l, head);
-    if c.wrong != 0 {
-        return c.wrong;
+    let link_wrong = c.wrong;
+    if link_wrong != 0 {
+        return link_wrong;
     }
     later_wrong(l, head, a, b, c, texts)
 }

@@ -18,9 +18,9 @@ pub network-c-requires : goal.network-c-requires
 network-c-requires c =
     (c.requires.in_bounds.0, c.requires.in_bounds.1.0)
 
-pub returns-then-c-ne0 : goal.returns-then-c-ne0
-returns-then-c-ne0 c =
-    record { field = network_fails _ c.requires.in_bounds.1.1 (volume_as _ c.u32_at-head.ensures c.u32_at-flags.ensures c.local_there-there.ensures c.volume-a.ensures.0) c.if-a-ne0.false (local_as _ c.u32_at-head.ensures c.u32_at-flags.ensures c.local_there-there.ensures c.u32_at.ensures c.text_at-b.ensures.0) (not-false _ c.if-not-b.false) (network_as _ c.u32_at-head.ensures c.u32_at-flags.ensures c.network_there.ensures c.network-c.ensures.0) c.if-c-ne0.true; lengths = row_kept _ _ c.if-c-ne0.true }
+pub returns-then-link_wrong-ne0 : goal.returns-then-link_wrong-ne0
+returns-then-link_wrong-ne0 c =
+    record { field = network_fails _ c.requires.in_bounds.1.1 (volume_as _ c.u32_at-head.ensures c.u32_at-flags.ensures c.local_there-there.ensures c.volume-a.ensures.0) c.if-a-ne0.false (local_as _ c.u32_at-head.ensures c.u32_at-flags.ensures c.local_there-there.ensures c.u32_at.ensures c.text_at-b.ensures.0) (not-false _ c.if-not-b.false) (network_as _ c.u32_at-head.ensures c.u32_at-flags.ensures c.network_there.ensures c.network-c.ensures.0) c.if-link_wrong-ne0.true; lengths = row_kept _ _ c.if-link_wrong-ne0.true }
 
 pub later_wrong-requires : goal.later_wrong-requires
 later_wrong-requires c =
@@ -32,7 +32,7 @@ later_wrong-requires c =
       local_right = not-false _ c.if-not-b.false;
       local_end = c.text_at-b.ensures.1;
       network = (network_as _ c.u32_at-head.ensures c.u32_at-flags.ensures c.network_there.ensures c.network-c.ensures.0);
-      network_right = c.if-c-ne0.false;
+      network_right = c.if-link_wrong-ne0.false;
       network_end = c.network-c.ensures.1;
     } in
     record { in_bounds = (c.requires.in_bounds.0, (c.requires.in_bounds.1.0, (c.requires.in_bounds.1.1, (c.u32_at-head.ensures, E)))); row = c.requires.row }
