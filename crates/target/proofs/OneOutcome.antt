@@ -2,26 +2,32 @@
 use mathlib.Core.Path.{refl, sym, ◌∙◌}
 use Rattle.octets.proofs.Outcomes.{OneAnswer, OneOutcome}
 use Rattle.target.proofs.targeted
+use Rattle.target.specs.contracts.targeted as targeted_contract
 use Rattle.target.proofs.has_target
+use Rattle.target.specs.contracts.has_target as has_target_contract
 use Rattle.target.proofs.texts_of
+use Rattle.target.specs.contracts.texts_of as texts_of_contract
 use Rattle.target.proofs.texts_in
+use Rattle.target.specs.contracts.texts_in as texts_in_contract
 use Rattle.target.proofs.put_texts
+use Rattle.target.specs.contracts.put_texts as put_texts_contract
 use Rattle.target.proofs.target
+use Rattle.target.specs.contracts.target as target_contract
 
-pub targeted_one_outcome : OneAnswer targeted.ended targeted.Reads.Post
+pub targeted_one_outcome : OneAnswer targeted_contract.ended targeted.Reads.Post
 targeted_one_outcome κs a r q s t p o = p ∙ sym o
 
-pub has_target_one_outcome : OneAnswer has_target.ended has_target.Reads.Post
+pub has_target_one_outcome : OneAnswer has_target_contract.ended has_target.Reads.Post
 has_target_one_outcome κs a r q s t p o = p ∙ sym o
 
-pub texts_of_one_outcome : OneAnswer texts_of.ended texts_of.Reads.Post
+pub texts_of_one_outcome : OneAnswer texts_of_contract.ended texts_of.Reads.Post
 texts_of_one_outcome κs a r q s t p o = p ∙ sym o
 
-pub texts_in_one_outcome : OneAnswer texts_in.ended texts_in.Reads.Post
+pub texts_in_one_outcome : OneAnswer texts_in_contract.ended texts_in.Reads.Post
 texts_in_one_outcome κs a r q s t p o = p ∙ sym o
 
-pub put_texts_one_outcome : OneOutcome put_texts.ended (λ κs s. s.1.1.1.0.now) put_texts.Reads.Post
+pub put_texts_one_outcome : OneOutcome put_texts_contract.ended (λ κs s. s.1.1.1.0.now) put_texts.Reads.Post
 put_texts_one_outcome κs a r q s t p o = (refl, p ∙ sym o)
 
-pub target_one_outcome : OneOutcome target.ended (λ κs s. s.1.0.now) target.Reads.Post
+pub target_one_outcome : OneOutcome target_contract.ended (λ κs s. s.1.0.now) target.Reads.Post
 target_one_outcome κs a r q s t p o = (p.0 ∙ sym o.0, p.1.0 ∙ sym o.1.0)

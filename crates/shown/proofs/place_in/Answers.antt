@@ -5,14 +5,9 @@ use Rattle.shown.proofs.place_in.Goals as goal
 use Rattle.shown.proofs.place_in.Goals.{After-e-1}
 
 -- The places of all other names come after the flags were read.
-abbrev entry : tie.After-e → tie.Start
-entry c =
-    let After-on = c.before.before.before in
-    After-on.before.before.before
-
-every-row : (c : After-e-1) → AllRows (entry c).args.profile (entry c).args.s.now c.u32_at-f.result (entry c).args.o.ends
+every-row : (c : After-e-1) → AllRows c.args.profile c.args.s.now c.u32_at-f.result c.args.o.ends
 every-row c =
-    on_rows _ _ (entry c).requires c.in-On.is c.u32_at-f.ensures
+    on_rows _ _ c.requires c.in-On.is c.u32_at-f.ensures
 
 pub returns-in_default : goal.returns-in_default
 returns-in_default c =
