@@ -2,18 +2,22 @@
 use mathlib.Core.Path.{sym, ◌∙◌}
 use Rattle.octets.proofs.Outcomes.{OneAnswer, OneOutcome}
 use Rattle.moves.proofs.records.gains
+use Rattle.moves.specs.contracts.records.gains as gains_contract
 use Rattle.moves.proofs.records.moved
+use Rattle.moves.specs.contracts.records.moved as moved_contract
 use Rattle.moves.proofs.tests.maps
+use Rattle.moves.specs.contracts.tests.maps as maps_contract
 use Rattle.moves.proofs.strings.put_string
+use Rattle.moves.specs.contracts.strings.put_string as put_string_contract
 
-pub gains_one_outcome : OneAnswer gains.ended gains.Reads.Post
+pub gains_one_outcome : OneAnswer gains_contract.ended gains.Reads.Post
 gains_one_outcome κs a r q s t p o = p ∙ sym o
 
-pub moved_one_outcome : OneAnswer moved.ended moved.Reads.Post
+pub moved_one_outcome : OneAnswer moved_contract.ended moved.Reads.Post
 moved_one_outcome κs a r q s t p o = p ∙ sym o
 
-pub maps_one_outcome : OneAnswer maps.ended maps.Reads.Post
+pub maps_one_outcome : OneAnswer maps_contract.ended maps.Reads.Post
 maps_one_outcome κs a r q s t p o = p ∙ sym o
 
-pub put_string_one_outcome : OneOutcome put_string.ended (λ κs s. s.0.now) put_string.Reads.Post
+pub put_string_one_outcome : OneOutcome put_string_contract.ended (λ κs s. s.0.now) put_string.Reads.Post
 put_string_one_outcome κs a r q s t p o = (p.next ∙ sym o.next, p.content ∙ sym o.content)

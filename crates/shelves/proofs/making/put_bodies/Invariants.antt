@@ -1,0 +1,15 @@
+-- The bodies put and those left are all bodies, end to end.
+use mathlib.Core.Path.{ap, ◌∙◌}
+use Prim.Native.Nat.{◌+◌, ◌-◌, ◌≤◌}
+use lib.ListN.{length, take, drop, get_or, length-append, length-drop}
+use Rattle.format.specs.Writing.{end_to_end}
+use Rattle.shelves.specs.Steps.Apart.{apart, span}
+use Rattle.shelves.proofs.PutLaws.{Putting, Putting-none, Putting-more, putting_all, putting_room, putting_kept}
+use Rattle.shelves.proofs.making.put_bodies.Given as goal
+
+abbrev pub invariant-loop-k : goal.invariant-loop-k
+invariant-loop-k l =
+    (l.k ≤ length l.lengths) × ((l.from + span l.gap (drop l.k l.lengths) ≤ length l.d) × Putting l.initial.out l.start (end_to_end (apart l.gap l.lengths l.d)) (end_to_end (apart l.gap (drop l.k l.lengths) (drop l.from l.d))) l.out l.at)
+
+abbrev pub decreases-loop-k : goal.decreases-loop-k
+decreases-loop-k l = length l.lengths - l.k

@@ -1,0 +1,15 @@
+-- The rows put and those of the lengths left are the whole table; no start passes four bytes.
+use mathlib.Core.Path.{◌≡◌, refl, ap, ◌∙◌}
+use Prim.Native.Nat.{◌+◌, ◌-◌, ◌≤◌}
+use lib.ListN.{length, drop, length-append}
+use Rattle.format.specs.Shortcut.{sum}
+use Rattle.shelves.specs.Table.{table_bytes, bodies_start}
+use Rattle.shelves.proofs.PutLaws.{Putting, Putting-none, Putting-more, putting_all, putting_room, putting_kept}
+use Rattle.shelves.proofs.making.put_table.Given as goal
+
+abbrev pub invariant-loop-k : goal.invariant-loop-k
+invariant-loop-k l =
+    (l.k ≤ length l.lengths) × ((l.start + sum (drop l.k l.lengths) ≡ bodies_start (length l.lengths) + sum l.lengths) × Putting l.initial.out l.initial.at (table_bytes (bodies_start (length l.lengths)) l.lengths) (table_bytes l.start (drop l.k l.lengths)) l.out l.at)
+
+abbrev pub decreases-loop-k : goal.decreases-loop-k
+decreases-loop-k l = length l.lengths - l.k
