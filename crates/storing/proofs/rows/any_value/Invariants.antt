@@ -1,0 +1,14 @@
+-- The rows passed are storages; a cursor passes a byte at least with each.
+use mathlib.Core.Path.{◌≡◌, ap, ◌∙◌}
+use Prim.Native.Nat.{◌-◌}
+use lib.ListN.{length}
+use Rattle.storing.specs.Steps.Rows.{rows_left, Right}
+use Rattle.format.specs.StoreList.{store_rows}
+use Rattle.format.specs.Blind.{has_values}
+use Rattle.storing.proofs.rows.any_value.Given as goal
+
+abbrev pub invariant-loop-r : goal.invariant-loop-r
+invariant-loop-r l = Right l.l l.c × (has_values (rows_left l.l l.base l.c) ≡ has_values (store_rows l.base l.l))
+
+abbrev pub decreases-loop-r : goal.decreases-loop-r
+decreases-loop-r l = length l.l - l.c.at
