@@ -40,7 +40,8 @@ per_none give i = refl
 rows_of_storage : (i m : ℕ) (v r : List ℕ) {w t x : List ℕ} {j k e : ℕ} → drop 24 v ≡ w → identifier_of v ≡ x → r ≡ t → i + 8 ≡ j → i + 24 ≡ k → i + m ≡ e
     → storage_rows i v ++ per_part storage_rows (i + m) 0 r ≡ storage_row (place j 16) ∷ (per_part (give_value (is_named x)) k 0 w ++ store_rows e t)
 unfolding store_rows
-rows_of_storage i m v r d n o a b f = rw (d, n, o, a, b, f)
+rows_of_storage i m v r d n o a b f =
+    ap (λ (y : List ℕ). storage_row (place (i + 8) 16) ∷ (per_part (give_value (is_named y)) (i + 24) 0 (drop 24 v) ++ per_part storage_rows (i + m) 0 r)) n ∙ rw (d, o, a, b, f)
 
 values_of_storage : (v : List ℕ) {w x : List ℕ} → drop 24 v ≡ w → identifier_of v ≡ x → all (values_tests (is_named (identifier_of v)) 0 (drop 24 v)) ≡ true → all (values_tests (is_named x) 0 w) ≡ true
 values_of_storage v {w} {x} d n h =
