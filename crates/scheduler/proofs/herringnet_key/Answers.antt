@@ -1,0 +1,19 @@
+-- The key's length is bounded, so its code fits, and what was put is the key's own output.
+use borrow.Author.Tests.{lt-leb, le-leb}
+use native.Mathlib.Omega.{arith}
+use Rattle.scheduler.proofs.PositionLaws.{key_small}
+use Rattle.scheduler.proofs.herringnet_key.Goals as goal
+
+pub returns-then-profile-gt1 : goal.returns-then-profile-gt1
+returns-then-profile-gt1 c =
+    record { answer = rw (lt-leb c.args.profile 1 (omega arith)); output = rw (lt-leb c.args.profile 1 (omega arith)) }
+
+pub code_of-requires : goal.code_of-requires
+code_of-requires c =
+    rw c.key-v.ensures.answer (key_small c.profile_of.result _ _ (record { at = λ i. omega (arith, c.shared_slice_known-1.given i) }))
+
+pub returns : goal.returns
+returns c =
+    let small = le-leb c.args.profile 1 (omega arith) in
+    let given = c.profile_of.ensures in
+    record { answer = rw (small, ← given, ← c.key-v.ensures.answer) c.code_of.ensures; output = rw (small, ← given) c.key-v.ensures.output }

@@ -1,0 +1,10 @@
+-- No shelf is longer than the longest, so the code of its length fits.
+use Rattle.shelving.proofs.SmallLaws.{build_small}
+use Rattle.scheduler.proofs.herringnet_shelf_build.Goals as goal
+
+pub code_of-requires : goal.code_of-requires
+code_of-requires c = rw c.shelf_build-v.ensures.answer (build_small _ _ _)
+
+pub returns : goal.returns
+returns c =
+    record { answer = rw (← c.shelf_build-v.ensures.answer) c.code_of.ensures; output = c.shelf_build-v.ensures.output }

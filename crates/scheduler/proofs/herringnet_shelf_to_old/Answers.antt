@@ -1,0 +1,10 @@
+-- No old form of a shelf is longer than the longest shelf, so the code of its length fits.
+use Rattle.shelving.proofs.SmallLaws.{to_small}
+use Rattle.scheduler.proofs.herringnet_shelf_to_old.Goals as goal
+
+pub code_of-requires : goal.code_of-requires
+code_of-requires c = rw c.shelf_to_old-v.ensures.answer (to_small _ _)
+
+pub returns : goal.returns
+returns c =
+    record { answer = rw (← c.shelf_to_old-v.ensures.answer) c.code_of.ensures; output = c.shelf_to_old-v.ensures.output }
