@@ -24,7 +24,7 @@ use Rattle.format.specs.Steps.Wrong.{wrong, held_fault}
 use Rattle.format.specs.Shortcut.{most, sum}
 use Rattle.format.proofs.Bools.{clash}
 use Rattle.format.proofs.BlockLaws.{none_left, blocks_step}
-use Rattle.blocks.specs.Steps.Walk.{Sized, no_firsts, field_of, is_free, taken, noted, noted_all, BlocksTo, NoMore, after, Passed, blocks_taken, blocks_at, blocks_firsts, BlocksAnswer, read_to, stopped_at, wrong_block}
+use Rattle.blocks.specs.Steps.Walk.{Sized, no_firsts, field_of, is_free, noted, noted_all, BlocksTo, NoMore, after, Passed, blocks_taken, blocks_at, blocks_firsts, BlocksAnswer, read_to, stopped_at, wrong_block}
 use Rattle.blocks.proofs.StepLaws.{tail_part, holds_right, holds_wrong, longer, step_longer}
 use Rattle.blocks.proofs.FirstLaws.{firsts_more}
 use Rattle.blocks.proofs.SlotLaws.{none_taken, free_more, wide_more, taken_stays}

@@ -6,19 +6,19 @@ use Prim.Native.Nat.{ℕ, zero, suc, ◌+◌, ◌*◌, ◌/◌, ◌%◌, ◌≤�
 use native.Mathlib.Omega.{arith}
 use native.Mathlib.Numerals.{add-one}
 use lib.ListN.{length, take, drop, get_or, set, drop_of_length-le}
-use lib.Seq.{drop-cons, take-suc, take-length, drop-length, drop-drop, get_or-drop}
-use lib.Dec.{eqb, ltb}
-use borrow.Author.Tests.{eqb-true, eqb-false, eq-eqb, ne_eqb, ltb-true, lt-ltb, le-ltb, not-true, not-false}
+use lib.Seq.{drop-cons, take-suc, take-length}
+use lib.Dec.{eqb}
+use borrow.Author.Tests.{eqb-true, eq-eqb, ne_eqb, lt-ltb, le-ltb, not-true}
 use Rattle.octets.specs.Numbers.{Bytes, number, number_at, u16_at, little, same_numbers}
 use Rattle.octets.specs.Characters.{units}
 use Rattle.octets.specs.Parts.{put}
 use Rattle.octets.specs.Steps.Puts.{Wrote}
 use Rattle.octets.proofs.NumberLaws.{number_drop}
-use Rattle.octets.proofs.WroteLaws.{Wrote-none, Wrote-number, Wrote-one, join, reword, kept}
+use Rattle.octets.proofs.WroteLaws.{Wrote-none, Wrote-number, Wrote-one, join, reword}
 use Rattle.format.specs.Writing.{every}
 use Rattle.format.specs.Codepage.{unassigned, no_byte, unit_of, assigned, byte_of, in_table, to_units, all_assigned, to_bytes, all_in_table, is_translation}
 use Rattle.format.proofs.Bools.{and-true, and_both, and_assoc, or-true, by_order, same_truth, clash}
-use Rattle.format.proofs.CodepageLaws.{unit_small, units_long, units_append, bytes_long, byte_most, same_equal}
+use Rattle.format.proofs.CodepageLaws.{unit_small, units_long, units_append, byte_most, same_equal}
 
 -- ---- the units of a text by their places
 

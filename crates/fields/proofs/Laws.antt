@@ -7,7 +7,6 @@ use native.Mathlib.Omega.{arith}
 use native.Mathlib.Nat.{zero-add, add-zero}
 use lib.ListN.{length, get_or, set, replicate, get_or-replicate, drop_of_length-le, length-set}
 use lib.Seq.{ext_get_or}
-use lib.Dec.{ltb}
 use lib.IntN.{ℤ}
 use borrow.Author.Tests.{ltb-true}
 use Rattle.octets.specs.Parts.{put}
@@ -19,7 +18,7 @@ use Rattle.format.specs.declared.Record.{Record}
 use Rattle.format.specs.Tests.{no_place}
 use Rattle.format.specs.Header.{signed}
 use Rattle.format.proofs.Bools.{and-true, every_out}
-use Rattle.fields.specs.Fields.{field_count, pairs, word_at, flag_at, header_numbers, info_numbers, are_record, header_from, link_from, slot_at, row_from, places_from, record_from}
+use Rattle.fields.specs.Fields.{field_count, pairs, word_at, header_numbers, info_numbers, are_record, header_from, link_from, slot_at, row_from, places_from, record_from}
 use Rattle.fields.specs.Steps.Putting.{with_place}
 
 module _ (f : List ℕ) where

@@ -16,7 +16,7 @@ use Rattle.format.specs.declared.Fault.TheVariants.{Long as LONG, Trail as TRAIL
 use Rattle.format.specs.declared.Verdict.{Verdict}
 use Rattle.format.specs.declared.Verdict.TheVariants.{Accepted, Refused}
 use Rattle.format.specs.declared.Spot.{Spot}
-use Rattle.format.specs.Tests.{Outcome, got, refused, ◌else◌at◌, tests, and_then, section, no_section, spot_at}
+use Rattle.format.specs.Tests.{Outcome, got, refused, ◌else◌at◌, tests, and_then, section, no_section}
 use Rattle.format.specs.Shortcut.{Sections, most, sections, shortcut, record_of, no_record, verdict_of, held_by, reading}
 use Rattle.format.specs.Bodies.{place_in, all_inside, placed}
 use Rattle.format.specs.Contents.{Contents, present, bodies_of, contents}

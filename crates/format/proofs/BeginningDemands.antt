@@ -1,13 +1,13 @@
 -- Beginnings, proved of the definitions: none of an accepted shortcut is accepted, whatever call is asked; what salvage saves of one; and none of a store is a store.
 use mathlib.Core.Path.{◌≡◌, refl, sym, ap, ◌∙◌}
 use mathlib.Core.List.{List, [], ◌∷◌, ◌++◌, append_assoc}
-use mathlib.Core.Bool.{Bool, true, false, ◌&&◌, cond}
+use mathlib.Core.Bool.{Bool, true, false}
 use Prim.Native.Nat.{ℕ, zero, suc, ◌+◌, ◌-◌, ◌≤◌, ◌<◌}
 use native.Mathlib.Omega.{arith}
 use native.Mathlib.Nat.{add-sub_of_le}
 use lib.ListN.{length, take, drop, length-take, length-drop}
 use lib.Seq.{length-take-le, take-take, take-length}
-use lib.Dec.{leb, eqb}
+use lib.Dec.{leb}
 use borrow.Author.Tests.{leb-true, le-leb}
 use Rattle.octets.specs.Numbers.{u32_at, number, number_at, little}
 use Rattle.octets.proofs.NumberLaws.{number_same, length-little}
@@ -17,13 +17,11 @@ use Rattle.format.specs.declared.Fault.TheVariants.{Cut as CUT, Lost as LOST}
 use Rattle.format.specs.declared.Record.{Record}
 use Rattle.format.specs.declared.Reading.{Reading}
 use Rattle.format.specs.declared.Rescue.{Rescue}
-use Rattle.format.specs.declared.Spot.{Spot}
-use Rattle.format.specs.declared.Verdict.{Verdict}
 use Rattle.format.specs.declared.Verdict.TheVariants.{Accepted, Refused}
 use Rattle.format.specs.Numbers.{number_of}
-use Rattle.format.specs.Tests.{Test, Outcome, got, refused}
+use Rattle.format.specs.Tests.{Test, got, refused}
 use Rattle.format.specs.Store.{part_tests, storage_tests, store_tests}
-use Rattle.format.specs.Shortcut.{most, Sections, blocks_of, sum, sections, shortcut, record_of, no_record, reading}
+use Rattle.format.specs.Shortcut.{most, Sections, blocks_of, sum, sections, shortcut, no_record, reading}
 use Rattle.format.specs.Bodies.{blocks_slot, place_in}
 use Rattle.format.specs.Writing.{output_of}
 use Rattle.format.specs.Listing.{Row, block_rows, listing}
@@ -33,7 +31,7 @@ use Rattle.format.specs.Key.{key, key_answer, key_output}
 use Rattle.format.specs.StoreList.{store_list, store_list_answer, store_list_output}
 use Rattle.format.specs.Moving.{to_unicode, to_unicode_answer, to_unicode_output, to_byte_strings, to_bytes_answer, to_bytes_output}
 use Rattle.format.specs.Salvage.{at_block, before, refused_by, rescue_of, rescue, rescued, salvaging, salvage_answer, salvage_output, Saved, Lost}
-use Rattle.format.specs.Beginnings.{Stopped, BeginningStopped, BeginningSaved}
+use Rattle.format.specs.Beginnings.{BeginningStopped, BeginningSaved}
 use Rattle.format.proofs.Bools.{by_order, and-true}
 use Rattle.format.proofs.Chains.{Pass, drop-take}
 use Rattle.format.proofs.StoreLaws.{parts_split}
@@ -43,7 +41,7 @@ use Rattle.format.proofs.AcceptedLaws.{Whole, Read, accepted_Read, shortcut-Whol
 use Rattle.format.proofs.Demands.{beginning_cut}
 use Rattle.format.proofs.SharedLaws.{sections-Shared}
 use Rattle.format.proofs.SalvageLaws.{front_rows, body_rows, rows_split, body_longer, sections_end}
-use Rattle.format.proofs.SalvageDemands.{rescue_is, Saves, rescue-Saves, fit, unfit_Lost, Lost-exactly, with_terminal}
+use Rattle.format.proofs.SalvageDemands.{rescue_is, rescue-Saves, fit, unfit_Lost, Lost-exactly, with_terminal}
 use Rattle.format.proofs.SalvageKeyDemands.{Saved-key}
 use Rattle.format.proofs.BeginningLaws.{sum-append, next_size, Hit, sections-Hit}
 

@@ -1,7 +1,6 @@
 -- A shortcut that is cut among its blocks: CUT is told of the block that the cut hit, or of the terminal.
 use mathlib.Core.Path.{◌≡◌, refl, sym, ap, ◌∙◌}
 use mathlib.Core.List.{List, [], ◌∷◌, ◌++◌}
-use mathlib.Core.Bool.{Bool, true, false, cond}
 use Prim.Native.Nat.{ℕ, zero, suc, ◌+◌, ◌-◌, ◌≤◌, ◌<◌}
 use native.Mathlib.Omega.{arith}
 use native.Mathlib.Nat.{add-sub_of_le}
@@ -13,10 +12,10 @@ use Rattle.format.specs.declared.Profile.{Profile}
 use Rattle.format.specs.declared.Fault.TheVariants.{Cut as CUT}
 use Rattle.format.specs.declared.Spot.{Spot}
 use Rattle.format.specs.declared.Header.{Header}
-use Rattle.format.specs.Tests.{◌else◌at◌, spot_at, Outcome, got, refused, Reader, chain, ◌then◌, no_place}
+use Rattle.format.specs.Tests.{spot_at, Outcome, got, refused, Reader, chain, ◌then◌, no_place}
 use Rattle.format.specs.Presence.{items_there, info_there, name_bit, relative_bit, workdir_bit, arguments_bit, icon_bit}
 use Rattle.format.specs.Info.{no_info}
-use Rattle.format.specs.Blocks.{slot_at, block_size, block_tests, block, terminal, once, blocks_after, blocks}
+use Rattle.format.specs.Blocks.{slot_at, block_size, block_tests, block, terminal, blocks_after, blocks}
 use Rattle.format.specs.Shortcut.{Section, Sections, found, tail, sections, sum, blocks_of}
 use Rattle.format.proofs.Bools.{by_order}
 use Rattle.format.proofs.Chains.{Pass, pass, no_value, chain_elim, drop-take}

@@ -11,9 +11,7 @@ use lib.Dec.{eqb}
 use borrow.Author.Tests.{leb-true, le-leb, lt-leb, lt-ltb, le-ltb, eqb-true, eq-eqb}
 use Rattle.octets.specs.Numbers.{Bytes, little}
 use Rattle.octets.proofs.NumberLaws.{Bytes-take, Bytes-append, Bytes-little, length-little, number_back, number_same}
-use Rattle.format.specs.declared.Fault.{Fault}
 use Rattle.format.specs.declared.Fault.TheVariants.{Cut as CUT, Block as BLOCK, Store as STORE}
-use Rattle.format.specs.declared.Spot.{Spot}
 use Rattle.format.specs.Tests.{Outcome, got, refused, Test, tests, Reader, and_then, Site, spot_at}
 use Rattle.format.specs.Items.{item_tests}
 use Rattle.format.specs.Store.{store_tests}

@@ -7,7 +7,7 @@ use native.Mathlib.Omega.{arith}
 use native.Mathlib.Nat.{add-zero, zero-add}
 use lib.ListN.{length, get_or, length-append, length-map, get_or-eq_default}
 use lib.Dec.{eqb, ltb}
-use borrow.Author.Tests.{ltb-true, lt-ltb, eqb-true, eq-eqb, eqb-false, ne_eqb, not-true}
+use borrow.Author.Tests.{ltb-true, lt-ltb, eqb-true, eq-eqb, ne_eqb}
 use Rattle.octets.specs.Numbers.{Bytes, little, same_numbers}
 use Rattle.octets.specs.Characters.{units, before_zero}
 use Rattle.octets.proofs.NumberLaws.{Bytes-nil, Bytes-cons, Bytes-tail, Bytes-append, Bytes-little, length-little}

@@ -1,11 +1,10 @@
 -- LinkInfo as it is put, head by head and slot by slot, is LinkInfo as it is written.
 use mathlib.Core.Path.{◌≡◌, refl, sym, ap, ◌∙◌}
-use mathlib.Core.List.{List, [], ◌∷◌, ◌++◌, append-nil, append_assoc}
+use mathlib.Core.List.{List, [], ◌++◌, append-nil, append_assoc}
 use mathlib.Core.Bool.{Bool, true, false, ◌&&◌, cond}
 use Prim.Native.Nat.{ℕ, ◌+◌, ◌<◌}
 use native.Mathlib.Omega.{arith}
 use lib.ListN.{length, get_or, length-append}
-use Rattle.octets.specs.Numbers.{little}
 use Rattle.octets.proofs.NumberLaws.{length-little}
 use Rattle.format.specs.declared.Link.{Link}
 use Rattle.format.specs.declared.Record.{Record}
@@ -15,8 +14,7 @@ use Rattle.format.specs.Volume.{label_least}
 use Rattle.format.specs.Network.{network_head}
 use Rattle.format.specs.Bodies.{text_kind, items_slot, string_slot, label_slot, local_slot, net_slot, device_slot, net_unicode_slot, device_unicode_slot, suffix_slot, local_unicode_slot, suffix_unicode_slot, further_slot, body_table, table_of, along, written_head}
 use Rattle.format.specs.Contents.{present_link, present, Contents, body_in, info_in, contents}
-use Rattle.format.specs.Writing.{end_to_end, if_there, text_bytes, two_fields, offset_field, label_fields, volume_bytes, network_bytes, network_length, info_bytes, canonical}
-use Rattle.format.specs.Steps.Lengths.{volume_part, network_part}
+use Rattle.format.specs.Writing.{if_there, text_bytes, label_fields, volume_bytes, network_bytes, info_bytes, canonical}
 use Rattle.format.specs.Steps.Shape.{shape_of, row_as, rows_from}
 use Rattle.format.specs.Steps.Flat.{row_bytes, slot_bytes, slots_bytes, bodies_bytes, volume_head_bytes, network_head_bytes, info_head_bytes, info_flat, flat_bytes, contents_flat}
 use Rattle.format.proofs.Bools.{choose_twice}

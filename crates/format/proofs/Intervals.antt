@@ -9,7 +9,6 @@ use lib.ListN.{length, length-map}
 use lib.Dec.{leb}
 use borrow.Author.Tests.{leb-true, le-leb, lt-leb}
 use Rattle.format.specs.declared.Place.{Place}
-use Rattle.format.specs.Tests.{place}
 use Rattle.format.specs.Pieces.{apart, apart_from, apart_tests}
 use Rattle.format.proofs.Bools.{and-true, and_both, or-true, or_left, or_right, by_order}
 use Rattle.format.proofs.Chains.{Pass}

@@ -17,7 +17,7 @@ use Rattle.format.specs.declared.Fault.{Fault}
 use Rattle.format.specs.declared.Fault.TheVariants.{Cut as CUT, Room as ROOM}
 use Rattle.format.specs.declared.Verdict.TheVariants.{Accepted, Refused}
 use Rattle.format.specs.declared.Spot.{Spot}
-use Rattle.format.specs.Tests.{Outcome, got, refused, bit, section, no_section, spot_at}
+use Rattle.format.specs.Tests.{Outcome, got, refused}
 use Rattle.format.proofs.AnswerLaws.{nowhere}
 use Rattle.format.specs.Presence.{workdir_bit, arguments_bit, string_there, strings_unicode}
 use Rattle.format.specs.Shortcut.{Sections, shortcut, verdict_of}

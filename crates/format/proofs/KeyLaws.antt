@@ -3,7 +3,7 @@ use mathlib.Core.Path.{◌≡◌, refl, sym, ap, ◌∙◌}
 use mathlib.Core.List.{List, [], ◌++◌, append-nil, append_assoc}
 use mathlib.Core.Logic.{◌↔◌}
 use mathlib.Core.Bool.{Bool, true, false}
-use Prim.Native.Nat.{ℕ, ◌+◌, ◌^◌, ◌≤◌, ◌<◌}
+use Prim.Native.Nat.{ℕ, ◌^◌, ◌≤◌, ◌<◌}
 use native.Mathlib.Omega.{arith}
 use lib.ListN.{length, take, drop, length-take, length-drop}
 use lib.Dec.{leb}
@@ -12,7 +12,7 @@ use Rattle.octets.specs.Numbers.{number, little}
 use Rattle.octets.proofs.NumberLaws.{length-little, number-little}
 use Rattle.octets.specs.Characters.{before_zero}
 use Rattle.format.specs.declared.Profile.{Profile}
-use Rattle.format.specs.Tests.{got, bit, one_or_0}
+use Rattle.format.specs.Tests.{got, one_or_0}
 use Rattle.format.specs.Presence.{workdir_bit, arguments_bit, string_there}
 use Rattle.format.specs.Blocks.{first_place}
 use Rattle.format.specs.Shortcut.{most, Sections, blocks_of, shortcut, record_of}

@@ -1,8 +1,8 @@
 -- LinkInfo by its slots: its numbers and its ten bodies can be written exactly if it can.
 use mathlib.Core.Path.{◌≡◌, refl, sym, ap}
-use mathlib.Core.List.{List, [], ◌∷◌}
+use mathlib.Core.List.{List, []}
 use mathlib.Core.Bool.{Bool, true, false, ◌&&◌, cond}
-use Prim.Native.Nat.{ℕ, ◌<◌, ◌^◌}
+use Prim.Native.Nat.{ℕ}
 use lib.Dec.{leb}
 use Rattle.octets.specs.Numbers.{Bytes}
 use Rattle.format.specs.declared.Link.{Link}

@@ -1,11 +1,11 @@
 -- A refusal at a block, or where the terminal is missing: what stands before it is read alike whatever follows, and a terminal put there ends it.
 use mathlib.Core.Path.{◌≡◌, refl, sym, ap, ◌∙◌, subst₂}
-use mathlib.Core.List.{List, [], ◌∷◌, ◌++◌}
+use mathlib.Core.List.{List, [], ◌∷◌}
 use mathlib.Core.Bool.{Bool, true, false, cond}
 use Prim.Native.Nat.{ℕ, zero, suc, ◌+◌, ◌-◌, ◌≤◌, ◌<◌}
 use native.Mathlib.Omega.{arith}
 use native.Mathlib.Nat.{add_assoc}
-use lib.ListN.{length, take, drop, length-drop, length-take}
+use lib.ListN.{length, take, drop, length-drop}
 use lib.Seq.{length-take-le, take-take, drop-drop}
 use lib.Dec.{leb, eqb}
 use borrow.Author.Tests.{leb-true, le-leb}
@@ -16,7 +16,6 @@ use Rattle.format.specs.declared.Profile.{Profile}
 use Rattle.format.specs.declared.Fault.{Fault}
 use Rattle.format.specs.declared.Fault.TheVariants.{Cut as CUT, Magic as MAGIC, Head as HEAD, Items as ITEMS, Info as INFO, Piece as PIECE, Block as BLOCK, Trail as TRAIL, Twice as TWICE, Store as STORE}
 use Rattle.format.specs.declared.Spot.{Spot}
-use Rattle.format.specs.declared.Place.{Place}
 use Rattle.format.specs.declared.Header.{Header}
 use Rattle.format.specs.Tests.{◌else◌at◌, Site, section, spot_at, Test, tests, Outcome, got, refused, Reader, and_then, chain, ◌then◌, place, no_place}
 use Rattle.format.specs.Presence.{items_there, info_there, name_bit, relative_bit, workdir_bit, arguments_bit, icon_bit, string_there, strings_unicode}
@@ -27,19 +26,19 @@ use Rattle.format.specs.Pieces.{struct_tests, piece_tests}
 use Rattle.format.specs.Volume.{volume_rules}
 use Rattle.format.specs.Network.{network_rules}
 use Rattle.format.specs.Info.{info_size, info_head, info_head_tests, info_pieces, info_rules, info_fields, info, no_info}
-use Rattle.format.specs.Blocks.{slot_of, slot_at, block_size, inside_tests, block_rules, block_tests, block, terminal, once, once_tests, blocks_after, blocks}
-use Rattle.format.specs.Shortcut.{Section, Sections, found, section_if, string_section, Tail, tail, sections, sum}
+use Rattle.format.specs.Blocks.{slot_of, slot_at, block_size, inside_tests, block_rules, block_tests, block, once, blocks_after, blocks}
+use Rattle.format.specs.Shortcut.{Section, found, section_if, string_section, tail, sections}
 use Rattle.format.specs.Steps.Wrong.{held_fault}
 use Rattle.format.proofs.Bools.{by_order}
-use Rattle.format.proofs.Chains.{Pass, pass, passed, got_elim, no_value, tests_elim, chain_elim, drop-take, Law}
+use Rattle.format.proofs.Chains.{Pass, pass, passed, got_elim, tests_elim, chain_elim, drop-take, Law}
 use Rattle.format.proofs.WrongLaws.{Faults}
 use Rattle.format.proofs.Sized.{sized_tests, sized_r, sized_holds}
-use Rattle.format.proofs.EachLaws.{Each, Each-append, Each-below, Each-items, Each-piece, PiecesIn, Each-text, Each-struct, Each-volume, Each-network}
+use Rattle.format.proofs.EachLaws.{Each, Each-append, Each-piece, PiecesIn, Each-text, Each-struct, Each-volume, Each-network}
 use Rattle.format.proofs.HeaderLaws.{header-Law}
 use Rattle.format.proofs.ItemsLaws.{item_Faults, items_value, items_Law}
 use Rattle.format.proofs.StringLaws.{string_Law}
 use Rattle.format.proofs.InfoLaws.{info_value, info_Law}
-use Rattle.format.proofs.BlockLaws.{inside_Faults, none_left, the_end, later, more, more_on, one_more, step_elim, blocks_Walked, blocks_same, ends_terminal, same_slot}
+use Rattle.format.proofs.BlockLaws.{inside_Faults, none_left, the_end, more, more_on, one_more, blocks_Walked, blocks_same, ends_terminal, same_slot}
 use Rattle.format.proofs.PlaceLaws.{found_elim}
 
 -- ---- refusals

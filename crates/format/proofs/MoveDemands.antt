@@ -14,16 +14,15 @@ use Rattle.format.specs.declared.Profile.{Profile}
 use Rattle.format.specs.declared.Link.{Link}
 use Rattle.format.specs.declared.Record.{Record}
 use Rattle.format.specs.declared.Fault.TheVariants.{Unwritable as UNWRITABLE, Room as ROOM, NoTarget as NOTARGET, NoMap as NOMAP}
-use Rattle.format.specs.declared.Verdict.{Verdict}
-use Rattle.format.specs.declared.Verdict.TheVariants.{Accepted, Refused}
+use Rattle.format.specs.declared.Verdict.TheVariants.{Accepted}
 use Rattle.format.specs.Tests.{Outcome, got, refused, ◌else◌at◌, no_section, tests}
 use Rattle.format.specs.Presence.{info_there, workdir_bit, arguments_bit, string_there, strings_unicode}
-use Rattle.format.specs.Shortcut.{most, record_of, shortcut, verdict_of}
+use Rattle.format.specs.Shortcut.{most, record_of, verdict_of}
 use Rattle.format.specs.Bodies.{local_slot, net_slot, suffix_slot, local_unicode_slot, string_slot}
 use Rattle.format.specs.Contents.{Contents, body_in, info_in, present, bodies_of, contents, Same}
 use Rattle.format.specs.Writing.{canonical, writable, output_of}
 use Rattle.format.specs.Target.{targeted, target}
-use Rattle.format.specs.Key.{Part, no_part, some_part, part_if, Key, key_in}
+use Rattle.format.specs.Key.{Part, part_if, key_in}
 use Rattle.format.specs.Demands.{Accepts, ReadsAs}
 use Rattle.format.specs.Codepage.{to_units, to_bytes}
 use Rattle.format.specs.Moving.{bodies_from, flags_of, maps_to_unicode, maps_to_bytes, in_unicode, in_bytes, moving, to_unicode, to_byte_strings, to_unicode_answer, to_unicode_output, to_bytes_answer, to_bytes_output, Stays, translated_part, KeyMoved, Moved, MovesToUnicode, MovesToBytes}

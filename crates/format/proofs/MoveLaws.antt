@@ -2,12 +2,12 @@
 use mathlib.Core.Path.{◌≡◌, refl, sym, ap, ◌∙◌}
 use mathlib.Core.List.{List, [], ◌∷◌, ◌++◌, map}
 use mathlib.Core.Bool.{Bool, true, false, not, ◌&&◌, ◌||◌, cond}
-use Prim.Native.Nat.{ℕ, ◌+◌, ◌-◌, ◌*◌, ◌/◌, ◌%◌, ◌^◌, ◌≤◌, ◌<◌}
+use Prim.Native.Nat.{ℕ, ◌+◌, ◌-◌, ◌*◌, ◌/◌, ◌%◌, ◌^◌, ◌<◌}
 use native.Mathlib.Omega.{arith}
 use native.Mathlib.Nat.{div-div-eq-div-mul}
 use lib.ListN.{length, length-map}
 use lib.Dec.{leb, ltb, eqb}
-use borrow.Author.Tests.{leb-true, ltb-true, lt-ltb, eqb-true, eq-eqb, eqb-false, not-true}
+use borrow.Author.Tests.{leb-true, eqb-true, eq-eqb, eqb-false, not-true}
 use Rattle.octets.specs.Numbers.{Bytes}
 use Rattle.octets.specs.Characters.{units, before_zero}
 use Rattle.octets.proofs.NumberLaws.{Bytes-nil}
@@ -19,10 +19,9 @@ use Rattle.format.specs.Header.{flags_ok}
 use Rattle.format.specs.Shortcut.{most}
 use Rattle.format.specs.Bodies.{local_slot, suffix_slot, local_unicode_slot, suffix_unicode_slot, string_slot, blocks_slot, further_slot}
 use Rattle.format.specs.Contents.{InfoContents, Contents, body_in, info_in}
-use Rattle.format.specs.Writing.{every, canonical, writable, writable_if, writable_text, writable_string, writable_further, writable_bodies}
+use Rattle.format.specs.Writing.{every, canonical, writable, writable_if, writable_text, writable_further, writable_bodies}
 use Rattle.format.specs.Codepage.{unit_of, to_units, all_assigned, to_bytes, all_in_table, is_translation}
 use Rattle.format.specs.Moving.{bodies_from, strings, flags_of, gains, maps_to_unicode, maps_to_bytes, with_flags, with_long, in_unicode, in_bytes}
-use Rattle.format.proofs.Ranges.{FitsHeader}
 use Rattle.format.proofs.Bools.{every_out, every_in, every_at, and-true, and_both, same_truth, clash, by_order}
 use Rattle.format.proofs.RowLaws.{slots_are}
 use Rattle.format.proofs.Chains.{no_true, IfThere, Ok-there, there_Ok}
@@ -30,7 +29,7 @@ use Rattle.format.proofs.Holds.{all_writable, header_writable, writable_header_l
 use Rattle.format.proofs.HeaderLaws.{HeaderV}
 use Rattle.format.proofs.PieceLaws.{TextV, plain}
 use Rattle.format.proofs.StringLaws.{StringV}
-use Rattle.format.proofs.InfoLaws.{InfoT, InfoV}
+use Rattle.format.proofs.InfoLaws.{InfoV}
 use Rattle.format.proofs.LinkLaws.{no_info_c}
 use Rattle.format.proofs.WholeLaws.{Valid, Valid-can}
 use Rattle.format.proofs.CodepageLaws.{units_long, units_Bytes, units_are, home, home_known, bytes_long, Bytes-Bytes, before_units, is_translation_lem}

@@ -15,7 +15,7 @@ use Rattle.format.specs.declared.Profile.{Profile}
 use Rattle.format.specs.declared.Place.{Place}
 use Rattle.format.specs.declared.Record.{Record}
 use Rattle.format.specs.Tests.{got, place}
-use Rattle.format.specs.Blocks.{slot_of, slot_at, block_size, known, is_among, once, blocks_after, blocks, first_place}
+use Rattle.format.specs.Blocks.{slot_of, slot_at, block_size, known, is_among, once, blocks_after, first_place}
 use Rattle.format.specs.Shortcut.{Section, Sections, blocks_of, shortcut}
 use Rattle.format.specs.Listing.{Row, row, block_rows, rows_of, listing}
 use Rattle.format.specs.Demands.{Accepts}

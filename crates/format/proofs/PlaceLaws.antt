@@ -13,9 +13,9 @@ use Rattle.octets.specs.Characters.{characters}
 use Rattle.octets.proofs.NumberLaws.{part_inside}
 use Rattle.octets.proofs.CharacterLaws.{before_le, characters_fit, bytes_of-le}
 use Rattle.format.specs.declared.Place.{Place}
-use Rattle.format.specs.Tests.{Outcome, got, refused, place, no_place, Test, tests, Reader, and_then, chain, ◌then◌, optional, Site, spot_at}
+use Rattle.format.specs.Tests.{Outcome, got, refused, no_place, Test, tests, Reader, and_then, chain, ◌then◌, optional, Site, spot_at}
 use Rattle.format.specs.Pieces.{text_length, text_place}
-use Rattle.format.specs.Shortcut.{Section, absent, found, section_if}
+use Rattle.format.specs.Shortcut.{Section, found, section_if}
 use Rattle.format.specs.Bodies.{all_inside}
 use Rattle.format.specs.Contents.{bytes_at}
 use Rattle.format.specs.Listing.{Row, row, EndToEnd}

@@ -6,11 +6,11 @@ use Rattle.octets.specs.Numbers.{number, number_at, little}
 use Rattle.octets.specs.Characters.{units, before_zero}
 use Rattle.format.specs.declared.Profile.TheVariants.{Strict}
 use Rattle.format.specs.declared.Fault.TheVariants.{Cut as CUT, Items as ITEMS, Piece as PIECE, Block as BLOCK, Trail as TRAIL}
-use Rattle.format.specs.Tests.{Outcome, refused, section, spot_at}
+use Rattle.format.specs.Tests.{refused, section, spot_at}
 use Rattle.format.specs.Header.{identifier_ok, signed}
 use Rattle.format.specs.Items.{item_tests}
 use Rattle.format.specs.Blocks.{slot_of, size_fits, inside_tests, blocks_from}
-use Rattle.format.specs.Shortcut.{Sections, sections, shortcut}
+use Rattle.format.specs.Shortcut.{sections, shortcut}
 use Rattle.format.specs.Positions.{section_end}
 use Rattle.format.specs.Probes.{zeros, header_of, Z}
 

@@ -2,7 +2,7 @@
 use mathlib.Core.Path.{◌≡◌, refl, sym, ◌∙◌}
 use mathlib.Core.List.{List, [], ◌∷◌}
 use mathlib.Core.Bool.{Bool, true, false, not, ◌&&◌}
-use Prim.Native.Nat.{ℕ, ◌+◌, ◌-◌, ◌/◌, ◌^◌}
+use Prim.Native.Nat.{ℕ, ◌+◌, ◌/◌, ◌^◌}
 use native.Mathlib.Omega.{arith}
 use lib.ListN.{length, take, drop}
 use lib.Dec.{leb, eqb}
@@ -25,7 +25,7 @@ use Rattle.format.specs.Listing.{listing}
 use Rattle.format.specs.StoreList.{store_list}
 use Rattle.format.specs.Bodies.{placed}
 use Rattle.format.specs.Contents.{Contents, contents}
-use Rattle.format.specs.Writing.{canonical, writable, writing}
+use Rattle.format.specs.Writing.{canonical, writable}
 use Rattle.format.specs.Demands.{Accepts}
 use Rattle.format.specs.PathWriting.{is_path, path_text, path_block, with_path, path_writing}
 use Rattle.format.specs.Moving.{maps_to_unicode, maps_to_bytes, in_unicode, in_bytes, moving, to_unicode, to_byte_strings}

@@ -2,14 +2,14 @@
 use mathlib.Core.Path.{◌≡◌, refl, sym, ap, ◌∙◌}
 use mathlib.Core.List.{List, [], ◌∷◌, ◌++◌, append-nil}
 use mathlib.Core.Logic.{◌↔◌}
-use mathlib.Core.Bool.{Bool, true, false, ◌&&◌, ◌||◌, cond}
-use Prim.Native.Nat.{ℕ, zero, suc, ◌+◌, ◌-◌, ◌≤◌, ◌<◌}
+use mathlib.Core.Bool.{Bool, true, false, ◌&&◌, cond}
+use Prim.Native.Nat.{ℕ, ◌+◌, ◌-◌, ◌≤◌, ◌<◌}
 use native.Mathlib.Omega.{arith}
 use native.Mathlib.Nat.{zero-add}
-use lib.ListN.{length, take, drop, replicate, length-append, length-take}
-use lib.Seq.{length-take-le, take-take, take_all, take_at, take-length, drop_at}
+use lib.ListN.{length, take, drop, length-append, length-take}
+use lib.Seq.{length-take-le, take-take, take_at, take-length, drop_at}
 use lib.Dec.{leb, eqb}
-use borrow.Author.Tests.{leb-true, leb-false, le-leb, lt-leb, eqb-true, eq-eqb, ne_eqb}
+use borrow.Author.Tests.{leb-true, leb-false, le-leb, lt-leb, eqb-true, ne_eqb}
 use Rattle.octets.specs.Numbers.{little}
 use Rattle.octets.specs.Parts.{put}
 use Rattle.octets.proofs.NumberLaws.{length-little}
@@ -19,13 +19,12 @@ use Rattle.format.specs.declared.Fault.TheVariants.{Long, Cut, Magic, Head, Item
 use Rattle.format.specs.declared.Spot.{Spot}
 use Rattle.format.specs.declared.Record.{Record}
 use Rattle.format.specs.declared.Rescue.{Rescue}
-use Rattle.format.specs.declared.Salvaged.{Salvaged}
 use Rattle.format.specs.declared.Verdict.{Verdict}
 use Rattle.format.specs.declared.Verdict.TheVariants.{Accepted, Refused}
 use Rattle.format.specs.Numbers.{number_of, answer_number}
 use Rattle.format.specs.Tests.{◌else◌at◌, section, no_section, spot_at, tests, Outcome, got, refused, and_then}
-use Rattle.format.specs.Blocks.{block_size, is_among}
-use Rattle.format.specs.Shortcut.{most, Sections, sections, shortcut, record_of, verdict_of, reading, faulted_by, faulted}
+use Rattle.format.specs.Blocks.{block_size}
+use Rattle.format.specs.Shortcut.{most, Sections, sections, shortcut, verdict_of, reading, faulted_by, faulted}
 use Rattle.format.specs.Writing.{output_of}
 use Rattle.format.specs.Demands.{Accepts}
 use Rattle.format.specs.Salvage.{at_block, mendable, up_to, before, nothing, refused_by, rescue_of, rescue, rescued, salvaging, salvaged_by, salvage_answer, salvage_output, Saved, Lost, elsewhere, too_long, SalvageEnds, lost, no_room, saved}
@@ -35,7 +34,7 @@ use Rattle.format.proofs.BlockLaws.{zero_alone}
 use Rattle.format.proofs.AnswerLaws.{nowhere}
 use Rattle.format.proofs.AcceptedLaws.{accepted_Read, shortcut-Whole}
 use Rattle.format.proofs.PositionDemands.{four_read, positions_small, starts_before}
-use Rattle.format.proofs.MendLaws.{NoTrail, refused_elim, no_refusal, Mended, Mends-sections, Own-sections}
+use Rattle.format.proofs.MendLaws.{refused_elim, no_refusal, Mends-sections, Own-sections}
 use Rattle.format.proofs.SalvageLaws as laws
 
 -- ---- why a shortcut is refused: too long, or its sections are, or bytes follow its terminal

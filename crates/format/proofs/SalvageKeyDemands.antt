@@ -1,29 +1,26 @@
 -- The key of what was saved: of every accepted shortcut that begins with the bytes kept it has bit 7, target, arguments and working directory, and the environment or none.
 use mathlib.Core.Path.{◌≡◌, refl, sym, ap, ◌∙◌}
 use mathlib.Core.List.{List, [], ◌∷◌, ◌++◌}
-use mathlib.Core.Bool.{Bool, true, false, cond}
+use mathlib.Core.Bool.{Bool, true, false}
 use Prim.Native.Nat.{ℕ, zero, suc, ◌+◌, ◌-◌, ◌≤◌, ◌<◌}
 use native.Mathlib.Omega.{arith}
 use lib.ListN.{length, take, drop, get_or, length-drop}
 use lib.Seq.{take-take, drop-drop, take_at}
-use lib.Dec.{leb, eqb}
+use lib.Dec.{eqb}
 use borrow.Author.Tests.{leb-true}
 use Rattle.octets.specs.Numbers.{u32_at}
-use Rattle.octets.specs.Characters.{before_zero}
 use Rattle.octets.specs.Parts.{put}
 use Rattle.octets.proofs.NumberLaws.{number_same}
 use Rattle.format.specs.declared.Profile.TheVariants.{Strict}
-use Rattle.format.specs.declared.Place.{Place}
 use Rattle.format.specs.declared.Record.{Record}
-use Rattle.format.specs.Tests.{Outcome, got, refused, place, no_place}
-use Rattle.format.specs.Presence.{workdir_bit, arguments_bit, string_there, strings_unicode, local_there}
+use Rattle.format.specs.Tests.{got, no_place}
+use Rattle.format.specs.Presence.{workdir_bit, arguments_bit}
 use Rattle.format.specs.Blocks.{slot_at, block_size, blocks_after, blocks, first_place}
-use Rattle.format.specs.Shortcut.{most, Sections, blocks_of, sections, shortcut, record_of}
-use Rattle.format.specs.Bodies.{place_in, local_slot, net_slot, suffix_slot, string_slot}
+use Rattle.format.specs.Shortcut.{most, Sections, blocks_of, sections, record_of}
+use Rattle.format.specs.Bodies.{local_slot, net_slot, suffix_slot, string_slot}
 use Rattle.format.specs.Contents.{bytes_at}
 use Rattle.format.specs.Demands.{Accepts}
-use Rattle.format.specs.Target.{joined, has_target, target_text}
-use Rattle.format.specs.Key.{Part, no_part, part_if, Key, block_text, environment, key_of, key_by, key_in}
+use Rattle.format.specs.Key.{key_of, key_in}
 use Rattle.format.specs.Salvage.{salvage_output, Saved, EnvironmentKept, own, gone, KeyKept}
 use Rattle.format.proofs.Chains.{no_value}
 use Rattle.format.proofs.BlockLaws.{none_left, step_elim, blocks_Walked}

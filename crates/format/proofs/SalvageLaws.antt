@@ -1,24 +1,19 @@
 -- What salvage makes is accepted, and has the sections and blocks before the damage.
 use mathlib.Core.Path.{◌≡◌, refl, sym, ap, ◌∙◌}
 use mathlib.Core.List.{List, [], ◌∷◌, ◌++◌, append_assoc}
-use mathlib.Core.Bool.{Bool, true, false, ◌&&◌, cond}
+use mathlib.Core.Bool.{Bool, true, false, cond}
 use Prim.Native.Nat.{ℕ, zero, suc, ◌+◌, ◌-◌, ◌≤◌, ◌<◌}
 use native.Mathlib.Omega.{arith}
-use lib.ListN.{length, take, drop, replicate, length-append, length-take, length-replicate}
-use lib.Seq.{length-take-le, take-take, take_at, take-length, drop_at}
-use lib.Dec.{leb, eqb}
-use borrow.Author.Tests.{leb-true, leb-false, le-leb, eqb-true, eq-eqb, ne_eqb}
+use lib.ListN.{length, take, drop}
+use lib.Seq.{take-take}
+use lib.Dec.{eqb}
+use borrow.Author.Tests.{le-leb, eq-eqb, ne_eqb}
 use Rattle.octets.proofs.NumberLaws.{part_inside}
 use Rattle.format.specs.declared.Profile.TheVariants.{Strict}
-use Rattle.format.specs.declared.Fault.{Fault}
-use Rattle.format.specs.declared.Fault.TheVariants.{Long as LONG, Trail as TRAIL}
-use Rattle.format.specs.declared.Spot.{Spot}
 use Rattle.format.specs.declared.Place.{Place}
 use Rattle.format.specs.declared.Record.{Record}
-use Rattle.format.specs.declared.Verdict.TheVariants.{Accepted}
-use Rattle.format.specs.Tests.{◌else◌at◌, section, no_section, spot_at, tests, Outcome, got, refused, and_then, place, no_place}
-use Rattle.format.specs.Blocks.{block_size}
-use Rattle.format.specs.Shortcut.{most, Section, Sections, blocks_of, sections, shortcut, sum, record_of, reading}
+use Rattle.format.specs.Tests.{got}
+use Rattle.format.specs.Shortcut.{most, Sections, blocks_of, sections, shortcut, sum, record_of, reading}
 use Rattle.format.specs.Contents.{bytes_at}
 use Rattle.format.specs.Listing.{Row, row, block_rows, rows_of, listing, EndToEnd, named, nth, section_place, section_bytes}
 use Rattle.format.specs.Demands.{Accepts}
@@ -26,7 +21,7 @@ use Rattle.format.specs.Salvage.{Saved}
 use Rattle.format.proofs.FoundLaws.{read_EndToEnd}
 use Rattle.format.proofs.AcceptedLaws.{accepted_Read, shortcut-Whole}
 use Rattle.format.proofs.Demands.{ahead}
-use Rattle.format.proofs.SharedLaws.{common, Shared, sections-Shared}
+use Rattle.format.proofs.SharedLaws.{Shared, sections-Shared}
 
 -- ---- from sections to what is accepted
 

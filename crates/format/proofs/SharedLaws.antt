@@ -1,23 +1,19 @@
 -- Two accepted shortcuts, the second of which begins with all that the first has before its terminal: the second has the first's sections and blocks, and maybe more blocks.
 use mathlib.Core.Path.{◌≡◌, refl, sym, ap, ◌∙◌}
-use mathlib.Core.List.{List, [], ◌∷◌, ◌++◌, append_assoc}
-use mathlib.Core.Bool.{Bool, true, false, cond}
-use Prim.Native.Nat.{ℕ, zero, suc, ◌+◌, ◌-◌, ◌≤◌, ◌<◌}
+use mathlib.Core.List.{List, [], ◌∷◌, ◌++◌}
+use mathlib.Core.Bool.{true}
+use Prim.Native.Nat.{ℕ, zero, suc, ◌+◌, ◌-◌, ◌≤◌}
 use native.Mathlib.Omega.{arith}
-use native.Mathlib.Nat.{add_assoc}
 use lib.ListN.{length, take, drop, length-drop, length-take}
-use lib.Seq.{length-take-le, take-take, drop-drop}
+use lib.Seq.{length-take-le, take-take}
 use borrow.Author.Tests.{leb-true}
 use Rattle.format.specs.declared.Profile.{Profile}
 use Rattle.format.specs.declared.Header.{Header}
-use Rattle.format.specs.declared.Place.{Place}
-use Rattle.format.specs.Tests.{Outcome, got, refused, Reader, and_then, chain, ◌then◌, no_place}
+use Rattle.format.specs.Tests.{Outcome, got, refused, Reader, chain, ◌then◌, no_place}
 use Rattle.format.specs.Presence.{items_there, info_there, name_bit, relative_bit, workdir_bit, arguments_bit, icon_bit}
-use Rattle.format.specs.Header.{header}
 use Rattle.format.specs.Info.{no_info}
 use Rattle.format.specs.Blocks.{slot_at, block_size, block_tests, once, blocks_after, blocks}
-use Rattle.format.specs.Shortcut.{Section, Tail, Sections, found, section_if, tail, sections}
-use Rattle.format.specs.Listing.{Row, row, block_rows, rows_of}
+use Rattle.format.specs.Shortcut.{Section, Tail, Sections, found, tail, sections}
 use Rattle.format.proofs.Chains.{Pass, got_elim, no_value, chain_elim, drop-take}
 use Rattle.format.proofs.BlockLaws.{none_left, step_elim, blocks_Walked}
 use Rattle.format.proofs.PlaceLaws.{found_elim}

@@ -14,7 +14,7 @@ use Rattle.format.specs.declared.Profile.{Profile}
 use Rattle.format.specs.declared.Place.{Place}
 use Rattle.format.specs.declared.StoreRow.{StoreRow}
 use Rattle.format.specs.declared.Fault.TheVariants.{Place as PLACE, Unwritable as UNWRITABLE, Room as ROOM}
-use Rattle.format.specs.Tests.{Outcome, got, refused, all, tests, place}
+use Rattle.format.specs.Tests.{Outcome, got, refused, place}
 use Rattle.format.specs.Store.{store_tests}
 use Rattle.format.specs.Blocks.{slot_of, size_fits, inside_tests, slot_at, block_size, block_tests, block_rules, a_block, block, block_step, blocks, first_place}
 use Rattle.format.specs.Shortcut.{Sections, blocks_of, shortcut, verdict_of}

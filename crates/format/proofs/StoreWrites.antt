@@ -10,9 +10,8 @@ use lib.Dec.{leb, ltb, eqb}
 use borrow.Author.Tests.{leb-true, le-leb, ltb-true, lt-ltb, eqb-true, eq-eqb}
 use Rattle.octets.specs.Numbers.{Bytes, number, number_at, u32_at, little}
 use Rattle.octets.proofs.NumberLaws.{Bytes-take, Bytes-drop, Bytes-append, Bytes-little, Bytes-cons, length-little, little-number, number_back, number_below, number_drop, number_same}
-use Rattle.format.specs.Tests.{all}
 use Rattle.format.specs.Store.{value_tests, values_tests, is_named, identifier_of, storage_tests, store_tests}
-use Rattle.format.specs.StoreWriting.{Entry, storage, by_number, by_name, unknown, entries, sized, value_bytes, values_bytes, storage_bytes, store_bytes, kind_under, entries_fit, most_store, writable_store, ReadsAsStore}
+use Rattle.format.specs.StoreWriting.{Entry, storage, by_number, by_name, unknown, sized, value_bytes, values_bytes, storage_bytes, store_bytes, kind_under, entries_fit, most_store, writable_store, ReadsAsStore}
 use Rattle.format.proofs.Bools.{and-true, and_both}
 use Rattle.format.proofs.Chains.{Pass, all-Pass, Pass-all, no_true}
 use Rattle.format.proofs.StoreLaws.{parts_split, parts_more, parts_end}

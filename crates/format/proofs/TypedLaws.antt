@@ -15,7 +15,7 @@ use Rattle.format.specs.declared.Record.{Record}
 use Rattle.format.specs.Tests.{no_place}
 use Rattle.format.specs.Presence.{info_there, local_there, network_there, provider_there}
 use Rattle.format.specs.Shortcut.{no_link}
-use Rattle.format.specs.Bodies.{BodyRow, table_of, along, kept, zeroed}
+use Rattle.format.specs.Bodies.{BodyRow, table_of, along, kept}
 use Rattle.format.specs.Contents.{present_link, present, bytes_at, contents}
 use Rattle.format.proofs.Ranges.{FitsLink, FitsRecord}
 use Rattle.format.proofs.RowLaws.{Each, present_link_lem, present-Alike, Each-Alike}

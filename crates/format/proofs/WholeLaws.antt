@@ -21,8 +21,7 @@ use Rattle.format.specs.Strings.{string_length}
 use Rattle.format.specs.Shortcut.{most, no_link}
 use Rattle.format.specs.Bodies.{items_kind, BodyRow, body_row, string_row, body_table, items_slot, string_slot, blocks_slot, along}
 use Rattle.format.specs.Contents.{present_link, InfoContents, Contents, body_in, info_in}
-use Rattle.format.specs.Writing.{if_there, header_bytes, items_bytes, info_bytes, bytes_of_string, blocks_bytes, canonical, writable, writable_items, writable_string, writable_body, writable_row, writable_bodies}
-use Rattle.format.specs.Steps.LinkInfo.{writable_info}
+use Rattle.format.specs.Writing.{if_there, header_bytes, items_bytes, info_bytes, bytes_of_string, blocks_bytes, canonical, writable, writable_body, writable_row, writable_bodies}
 use Rattle.format.proofs.Ranges.{FitsHeader, FitsLink}
 use Rattle.format.proofs.Bools.{clash, Every, every_out, every_in}
 use Rattle.format.proofs.RowLaws.{Each, Each-with, Each-test, slots_are}

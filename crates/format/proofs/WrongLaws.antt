@@ -1,13 +1,13 @@
 -- Tests of one fault as one number: the field of the first that fails.
-use mathlib.Core.Path.{◌≡◌, refl, ap}
+use mathlib.Core.Path.{◌≡◌, refl}
 use mathlib.Core.List.{List, [], ◌∷◌, ◌++◌}
 use mathlib.Core.Bool.{Bool, true, false, cond}
-use Prim.Native.Nat.{ℕ, ◌+◌, ◌<◌}
+use Prim.Native.Nat.{ℕ, ◌<◌}
 use native.Mathlib.Omega.{arith}
 use lib.Dec.{eqb}
 use borrow.Author.Tests.{ne_eqb}
 use Rattle.format.specs.declared.Fault.{Fault}
-use Rattle.format.specs.Tests.{Site, spot_at, Outcome, refused, Test, tests, inside}
+use Rattle.format.specs.Tests.{Site, spot_at, Outcome, refused, Test, tests}
 use Rattle.format.specs.Steps.Wrong.{wrong, first}
 use Rattle.format.proofs.Chains.{Pass}
 

@@ -4,7 +4,6 @@ use Rattle.octets.specs.Parts.{put}
 use Rattle.format.specs.declared.Profile.{Profile}
 use Rattle.format.specs.declared.Profile.TheVariants.{Strict}
 use Rattle.format.specs.declared.Fault.TheVariants.{Cut as CUT}
-use Rattle.format.specs.declared.Salvaged.{Salvaged}
 use Rattle.format.specs.declared.Verdict.{Verdict}
 use Rattle.format.specs.declared.Verdict.TheVariants.{Accepted, Refused}
 use Rattle.format.specs.Listing.{Row, listing}

@@ -7,7 +7,7 @@ use Rattle.format.specs.declared.Place.{Place}
 use Rattle.format.specs.declared.Record.{Record}
 use Rattle.format.specs.declared.Verdict.{Verdict}
 use Rattle.format.specs.declared.Fault.TheVariants.{Room as ROOM}
-use Rattle.format.specs.Tests.{Outcome, got, refused, ◌else◌at◌, no_section, tests, and_then, bit, one_or_0}
+use Rattle.format.specs.Tests.{Outcome, got, refused, ◌else◌at◌, no_section, tests, and_then, one_or_0}
 use Rattle.format.specs.Presence.{workdir_bit, arguments_bit, string_there, strings_unicode}
 use Rattle.format.specs.Blocks.{first_place}
 use Rattle.format.specs.Shortcut.{Sections, blocks_of, shortcut, record_of, verdict_of}

@@ -3,7 +3,7 @@ use Rattle.std.specs.Prelude.{ℕ, ◌+◌, List, [], ◌∷◌, ◌++◌, Bool,
 use Rattle.octets.specs.Numbers.{u32_at}
 use Rattle.format.specs.declared.Network.{Network}
 use Rattle.format.specs.declared.Fault.TheVariants.{Piece as PIECE}
-use Rattle.format.specs.Tests.{Test, ◌else◌at◌, bit, no_place}
+use Rattle.format.specs.Tests.{Test, ◌else◌at◌, no_place}
 use Rattle.format.specs.Pieces.{Piece, text_piece, text_place, struct_tests, absent_zero, uncut, piece_tests}
 use Rattle.format.specs.Presence.{device_there, provider_there, device_unicode_there}
 

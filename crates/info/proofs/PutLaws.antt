@@ -24,7 +24,6 @@ use Rattle.format.proofs.Holds.{info_piece_tests, InfoPiecesHold, info_pieces_ho
 use Rattle.pieces.specs.Steps.Found.{label_length, network_lengths}
 use Rattle.info.specs.Steps.Found.{text_lengths}
 use Rattle.fields.specs.Steps.Putting.{with_place}
-use Rattle.fields.proofs.Laws.{place_keeps}
 use Rattle.info.specs.Steps.Putting.{Right, info_part, with_local, with_network, with_long}
 use Rattle.pieces.proofs.TestLaws.{uncut_room}
 use Rattle.pieces.proofs.TextLaws.{body_place}

@@ -21,7 +21,7 @@ use Rattle.format.specs.Items.{items}
 use Rattle.format.specs.Strings.{string}
 use Rattle.format.specs.Info.{no_info, info}
 use Rattle.format.specs.Blocks.{Standing, a_block, a_terminal, slot_at, block_size, block_tests, block, terminal, once, once_tests, is_among, follow, blocks_after, blocks}
-use Rattle.format.specs.Shortcut.{Section, found, section_if, string_section, tail, sections}
+use Rattle.format.specs.Shortcut.{Section, found, section_if, string_section, tail}
 use Rattle.format.specs.Positions.{is_string}
 use Rattle.format.proofs.Bools.{and-true, or_left, or_right, by_order, clash}
 use Rattle.format.proofs.Chains.{Pass, passed, got_elim, no_value, drop-take}

@@ -1,6 +1,5 @@
 use native.Mathlib.Omega.{arith}
-use Prim.Native.Nat.{◌≤◌, ◌-◌}
-use mathlib.Core.Path.{◌≡◌, refl, ◌∙◌}
+use mathlib.Core.Path.{refl, ◌∙◌}
 use Rattle.blocks.proofs.StepLaws.{tail_part, by_block}
 use Rattle.blocks.proofs.NthLaws.{none_outside, none_ended, none_refused, nth_fits, block_here, block_next}
 use Rattle.blocks.proofs.nth_block.Goals as goal

@@ -1,7 +1,7 @@
 -- Block k of those at the start is block `left` of those at p, and a block found lies inside, so p nears the end.
 use Prim.Native.Nat.{◌≤◌, ◌-◌}
 use lib.ListN.{length}
-use mathlib.Core.Path.{◌≡◌, refl, ◌∙◌}
+use mathlib.Core.Path.{◌≡◌}
 use Rattle.blocks.specs.Steps.Walk.{nth_block}
 use Rattle.blocks.proofs.nth_block.Given as goal
 

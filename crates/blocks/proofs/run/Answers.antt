@@ -1,8 +1,7 @@
-use mathlib.Core.Path.{◌≡◌, sym, ◌∙◌}
+use mathlib.Core.Path.{sym, ◌∙◌}
 use native.Mathlib.Omega.{arith}
 use borrow.Author.Tests.{not-true, not-false}
-use lib.ListN.{length, drop, length-drop}
-use Rattle.blocks.specs.Steps.Walk.{Passed}
+use lib.ListN.{length-drop}
 use Rattle.blocks.proofs.StepLaws.{tail_part, stands_block, stands_end, stands_fault}
 use Rattle.blocks.proofs.WalkLaws.{Passed-start, passed_fits, Passed-on, Passed-twice}
 use Rattle.blocks.proofs.run.Goals as goal

@@ -1,6 +1,6 @@
 -- The rest is what stands from p on, and the blocks up to p are noted; each block is at least 8 bytes, so the rest gets shorter.
-use mathlib.Core.Path.{◌≡◌, sym, ◌∙◌}
-use lib.ListN.{length, drop, length-drop}
+use mathlib.Core.Path.{◌≡◌}
+use lib.ListN.{length, drop}
 use Rattle.blocks.specs.Steps.Walk.{Passed}
 use Rattle.blocks.proofs.run.Given as goal
 

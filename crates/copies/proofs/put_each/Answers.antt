@@ -1,8 +1,7 @@
 use native.Mathlib.Omega.{arith}
-use Prim.Native.Nat.{◌≤◌, ◌-◌}
-use mathlib.Core.Path.{◌≡◌, refl}
-use lib.ListN.{length, length-set}
-use Rattle.octets.proofs.PartLaws.{putting, put_none, put_more, put_whole}
+use mathlib.Core.Path.{refl}
+use lib.ListN.{length-set}
+use Rattle.octets.proofs.PartLaws.{put_none, put_more, put_whole}
 use Rattle.copies.proofs.put_each.Goals as goal
 
 pub loop-i-init : goal.loop-i-init

@@ -1,8 +1,8 @@
 -- The first i bytes are put; the length is kept by itself, so that each store is seen to be in range.
 use Prim.Native.Nat.{◌≤◌, ◌-◌}
-use mathlib.Core.Path.{◌≡◌, refl}
-use lib.ListN.{length, length-set}
-use Rattle.octets.proofs.PartLaws.{putting, put_none, put_more, put_whole}
+use mathlib.Core.Path.{◌≡◌}
+use lib.ListN.{length}
+use Rattle.octets.proofs.PartLaws.{putting}
 use Rattle.copies.proofs.put_each.Given as goal
 
 abbrev pub invariant-loop-i : goal.invariant-loop-i

@@ -1,8 +1,7 @@
 use native.Mathlib.Omega.{arith}
-use Prim.Native.Nat.{◌≤◌, ◌-◌, ◌*◌, ◌/◌, ◌%◌}
+use Prim.Native.Nat.{◌*◌, ◌/◌}
 use mathlib.Core.Path.{◌≡◌, refl}
-use lib.ListN.{length, take}
-use Rattle.octets.specs.Parts.{put}
+use lib.ListN.{length}
 use Rattle.copies.proofs.CopyLaws.{put_parts, put_over}
 use Rattle.octets.proofs.WroteLaws.{put-nil}
 use Rattle.copies.proofs.put_turns.Goals as goal

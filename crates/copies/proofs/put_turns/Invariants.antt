@@ -1,6 +1,6 @@
 -- After i bytes, which are whole turns, the first i are put.
-use Prim.Native.Nat.{◌≤◌, ◌-◌, ◌*◌, ◌/◌, ◌%◌}
-use mathlib.Core.Path.{◌≡◌, refl}
+use Prim.Native.Nat.{◌≤◌, ◌-◌, ◌%◌}
+use mathlib.Core.Path.{◌≡◌}
 use lib.ListN.{length, take}
 use Rattle.octets.specs.Parts.{put}
 use Rattle.copies.proofs.put_turns.Given as goal

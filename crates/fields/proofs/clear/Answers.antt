@@ -1,7 +1,6 @@
-use Rattle.fields.proofs.Laws.{cleared, cleared_none, cleared_more, cleared_whole}
-use lib.ListN.{length, length-set}
-use mathlib.Core.Path.{◌≡◌, refl}
-use Prim.Native.Nat.{◌≤◌, ◌-◌}
+use Rattle.fields.proofs.Laws.{cleared_none, cleared_more, cleared_whole}
+use lib.ListN.{length-set}
+use mathlib.Core.Path.{refl}
 use native.Mathlib.Omega.{arith}
 use Rattle.fields.proofs.clear.Goals as goal
 

@@ -1,7 +1,7 @@
 -- After i steps the first i numbers are 0; the length is kept by itself, so that each store is seen to be in range.
-use Rattle.fields.proofs.Laws.{cleared, cleared_none, cleared_more, cleared_whole}
-use lib.ListN.{length, length-set}
-use mathlib.Core.Path.{◌≡◌, refl}
+use Rattle.fields.proofs.Laws.{cleared}
+use lib.ListN.{length}
+use mathlib.Core.Path.{◌≡◌}
 use Prim.Native.Nat.{◌≤◌, ◌-◌}
 use Rattle.fields.proofs.clear.Given as goal
 

@@ -1,10 +1,8 @@
 use Rattle.fields.proofs.Laws.{row_whole}
-use Rattle.fields.specs.Fields.{slot_at}
 use Rattle.format.proofs.RowLaws.{set_more}
 use Rattle.format.specs.Tests.{no_place}
-use lib.ListN.{length, get_or, length-set}
-use mathlib.Core.Path.{◌≡◌, refl, ◌∙◌}
-use Prim.Native.Nat.{ℕ, ◌-◌, ◌≤◌, ◌<◌}
+use lib.ListN.{length-set}
+use mathlib.Core.Path.{refl, ◌∙◌}
 use native.Mathlib.Omega.{arith}
 use Rattle.fields.proofs.places_from.Goals as goal
 

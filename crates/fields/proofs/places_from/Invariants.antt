@@ -1,7 +1,7 @@
 use Rattle.fields.specs.Fields.{slot_at}
 use Rattle.format.specs.Tests.{no_place}
-use lib.ListN.{length, get_or, length-set}
-use mathlib.Core.Path.{◌≡◌, refl, ◌∙◌}
+use lib.ListN.{length, get_or}
+use mathlib.Core.Path.{◌≡◌}
 use Prim.Native.Nat.{ℕ, ◌-◌, ◌≤◌, ◌<◌}
 use Rattle.fields.proofs.places_from.Given as goal
 

@@ -1,5 +1,5 @@
 -- LinkInfo's part of a record as numbers, put there of one whose tests hold.
-use Rattle.std.specs.Prelude.{ℕ, ◌+◌, ◌*◌, ◌≤◌, ◌≡◌, List, [], ◌∷◌, ◌++◌, true, length, set, replicate}
+use Rattle.std.specs.Prelude.{ℕ, ◌+◌, ◌≤◌, ◌≡◌, List, [], ◌∷◌, ◌++◌, true, length, set, replicate}
 use Rattle.format.specs.declared.Place.{Place}
 use Rattle.format.specs.declared.Link.{Link}
 use Rattle.format.specs.declared.Info.{Info}

@@ -1,10 +1,10 @@
 -- At p the answer is that of the whole list, and p passes the end by one item at most, which starts its size before p.
-use Prim.Native.Nat.{ℕ, ◌≤◌, ◌+◌, ◌-◌}
+use Prim.Native.Nat.{◌≤◌, ◌+◌, ◌-◌}
 use lib.ListN.{length}
 use Rattle.format.specs.declared.Fault.TheVariants.{Items as ITEMS}
 use Rattle.format.specs.Items.{item_tests}
 use Rattle.format.specs.Steps.Wrong.{wrong}
-use Rattle.items.proofs.Laws.{Come, Come-start, none_due, items_end, items_lack, items_stop, items_more}
+use Rattle.items.proofs.Laws.{Come}
 use Rattle.items.proofs.items_wrong.Given as goal
 
 abbrev pub invariant-loop-p : goal.invariant-loop-p

@@ -1,8 +1,7 @@
 use Rattle.octets.proofs.ReadLaws.{number_byte}
 use Rattle.octets.proofs.ZeroLaws.{sixteens_passed, search_zero, byte_passed}
-use mathlib.Core.Bool.{false}
-use mathlib.Core.Path.{◌≡◌, ◌∙◌}
-use Prim.Native.Nat.{◌+◌, ◌-◌}
+use mathlib.Core.Path.{◌∙◌}
+use Prim.Native.Nat.{◌+◌}
 use native.Mathlib.Omega.{arith}
 use Rattle.octets.proofs.zero_byte.Goals as goal
 

@@ -2,8 +2,8 @@
 use Rattle.octets.specs.Steps.Scans.{zero_place}
 use lib.ListN.{length}
 use mathlib.Core.Bool.{false}
-use mathlib.Core.Path.{◌≡◌, ◌∙◌}
-use Prim.Native.Nat.{◌+◌, ◌-◌}
+use mathlib.Core.Path.{◌≡◌}
+use Prim.Native.Nat.{◌-◌}
 use Rattle.octets.proofs.zero_byte.Given as goal
 
 abbrev pub invariant-loop-i : goal.invariant-loop-i

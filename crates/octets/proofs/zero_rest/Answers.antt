@@ -1,8 +1,6 @@
 use Rattle.octets.proofs.ReadLaws.{number_byte}
 use Rattle.octets.proofs.ZeroLaws.{search_end, search_zero, byte_passed}
-use mathlib.Core.Bool.{false}
-use mathlib.Core.Path.{◌≡◌, refl}
-use Prim.Native.Nat.{◌-◌}
+use mathlib.Core.Path.{refl}
 use native.Mathlib.Omega.{arith}
 use Rattle.octets.proofs.zero_rest.Goals as goal
 

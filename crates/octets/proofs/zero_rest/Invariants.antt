@@ -2,7 +2,7 @@
 use Rattle.octets.specs.Steps.Scans.{zero_place}
 use lib.ListN.{length}
 use mathlib.Core.Bool.{false}
-use mathlib.Core.Path.{◌≡◌, refl}
+use mathlib.Core.Path.{◌≡◌}
 use Prim.Native.Nat.{◌-◌}
 use Rattle.octets.proofs.zero_rest.Given as goal
 

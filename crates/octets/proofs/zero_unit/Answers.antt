@@ -1,7 +1,5 @@
 use Rattle.octets.proofs.ZeroLaws.{sixteens_passed, search_end, search_zero, search_other}
-use mathlib.Core.Bool.{true}
-use mathlib.Core.Path.{◌≡◌, refl}
-use Prim.Native.Nat.{◌-◌}
+use mathlib.Core.Path.{refl}
 use native.Mathlib.Omega.{arith}
 use Rattle.octets.proofs.zero_unit.Goals as goal
 

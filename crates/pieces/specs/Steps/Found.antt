@@ -1,5 +1,5 @@
 -- What the functions of this crate find: format's definitions, with zeros where a test fails.
-use Rattle.std.specs.Prelude.{ℕ, ◌+◌, ◌≤◌, ◌≡◌, List, [], ◌∷◌, Bool, true, false, cond, take, drop, leb, eqb}
+use Rattle.std.specs.Prelude.{ℕ, ◌+◌, ◌≤◌, ◌≡◌, List, [], ◌∷◌, Bool, cond, take, drop, leb, eqb}
 use Rattle.octets.specs.Numbers.{u32_at}
 use Rattle.format.specs.declared.Place.{Place}
 use Rattle.format.specs.declared.Network.{Network}

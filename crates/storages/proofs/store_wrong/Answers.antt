@@ -1,9 +1,8 @@
-use mathlib.Core.Path.{◌≡◌, refl, sym, ◌∙◌}
+use mathlib.Core.Path.{refl, sym, ◌∙◌}
 use native.Mathlib.Omega.{arith}
-use lib.ListN.{length, length-drop}
+use lib.ListN.{length-drop}
 use lib.Seq.{length-take-le}
 use Rattle.format.specs.Store.{storage_tests, store_tests}
-use Rattle.format.specs.Steps.Wrong.{wrong}
 use Rattle.format.proofs.StoreLaws.{storage_Faults}
 use Rattle.storages.proofs.Laws.{by_part, by_end, by_wrong, part_wrong, part_right, tail_part}
 use Rattle.storages.proofs.store_wrong.Goals as goal

@@ -1,8 +1,8 @@
 -- The answer for the rest at p is that of the whole; each storage is at least 28 bytes, so the rest gets shorter.
-use mathlib.Core.Path.{◌≡◌, refl, sym, ◌∙◌}
+use mathlib.Core.Path.{◌≡◌}
 use Prim.Native.Nat.{◌+◌, ◌<◌}
-use lib.ListN.{length, length-drop}
-use Rattle.format.specs.Store.{storage_tests, store_tests}
+use lib.ListN.{length}
+use Rattle.format.specs.Store.{store_tests}
 use Rattle.format.specs.Steps.Wrong.{wrong}
 use Rattle.storages.proofs.store_wrong.Given as goal
 

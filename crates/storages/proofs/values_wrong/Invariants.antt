@@ -1,8 +1,8 @@
 -- The answer for the rest at p is that of the whole; each value is at least 9 bytes, so the rest gets shorter.
-use mathlib.Core.Path.{◌≡◌, refl, sym, ◌∙◌}
+use mathlib.Core.Path.{◌≡◌}
 use Prim.Native.Nat.{◌+◌, ◌<◌}
-use lib.ListN.{length, length-drop}
-use Rattle.format.specs.Store.{value_tests, values_tests}
+use lib.ListN.{length}
+use Rattle.format.specs.Store.{values_tests}
 use Rattle.format.specs.Steps.Wrong.{wrong}
 use Rattle.storages.proofs.values_wrong.Given as goal
 

@@ -1,8 +1,7 @@
 use Rattle.codepage.proofs.TextLaws.{assigned_ends, assigned_fails, assigned_goes}
-use Rattle.format.specs.Codepage.{windows1252, assigned, all_assigned}
+use Rattle.format.specs.Codepage.{windows1252}
 use native.Mathlib.Omega.{arith}
-use Prim.Native.Nat.{◌≤◌, ◌-◌}
-use mathlib.Core.Path.{◌≡◌, refl}
+use mathlib.Core.Path.{refl}
 use Rattle.codepage.proofs.texts.all_assigned.Goals as goal
 
 pub loop-i-init : goal.loop-i-init

@@ -1,10 +1,10 @@
 -- What is left after i bytes decides as the whole does.
-use Rattle.format.specs.Codepage.{windows1252, assigned, all_assigned}
+use Rattle.format.specs.Codepage.{assigned, all_assigned}
 use Rattle.format.specs.Writing.{every}
 use lib.ListN.{length, drop}
 use Prim.Native.Nat.{◌≤◌, ◌-◌}
 use mathlib.Core.List.{map}
-use mathlib.Core.Path.{◌≡◌, refl}
+use mathlib.Core.Path.{◌≡◌}
 use Rattle.codepage.proofs.texts.all_assigned.Given as goal
 
 abbrev pub invariant-loop-i : goal.invariant-loop-i

@@ -1,9 +1,8 @@
 use Rattle.codepage.specs.Steps.Candidates.{by_remainder}
 use Rattle.codepage.proofs.TextLaws.{known_ends, known_fails, known_goes}
-use Rattle.format.specs.Codepage.{windows1252, in_table, all_in_table}
+use Rattle.format.specs.Codepage.{windows1252}
 use native.Mathlib.Omega.{arith}
-use Prim.Native.Nat.{◌≤◌, ◌-◌, ◌/◌}
-use mathlib.Core.Path.{◌≡◌, refl}
+use mathlib.Core.Path.{refl}
 use Rattle.codepage.proofs.texts.all_in_table.Goals as goal
 
 pub loop-i-init : goal.loop-i-init

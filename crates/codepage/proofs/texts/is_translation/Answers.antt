@@ -1,9 +1,7 @@
-use Rattle.codepage.proofs.TextLaws.{rest, rest_ends, rest_fails, rest_goes, other_length, same_length}
-use Rattle.format.specs.Codepage.{windows1252, is_translation}
-use lib.ListN.{length}
+use Rattle.codepage.proofs.TextLaws.{rest_ends, rest_fails, rest_goes, other_length, same_length}
+use Rattle.format.specs.Codepage.{windows1252}
 use native.Mathlib.Omega.{arith}
-use Prim.Native.Nat.{◌≤◌, ◌*◌, ◌-◌}
-use mathlib.Core.Path.{◌≡◌, refl}
+use mathlib.Core.Path.{refl}
 use Rattle.codepage.proofs.texts.is_translation.Goals as goal
 
 pub returns-then-y-x : goal.returns-then-y-x

@@ -1,9 +1,9 @@
 -- What is left after i characters decides as the whole does; both texts have as many.
-use Rattle.codepage.proofs.TextLaws.{rest, rest_ends, rest_fails, rest_goes, other_length, same_length}
-use Rattle.format.specs.Codepage.{windows1252, is_translation}
+use Rattle.codepage.proofs.TextLaws.{rest}
+use Rattle.format.specs.Codepage.{is_translation}
 use lib.ListN.{length}
 use Prim.Native.Nat.{◌≤◌, ◌*◌, ◌-◌}
-use mathlib.Core.Path.{◌≡◌, refl}
+use mathlib.Core.Path.{◌≡◌}
 use Rattle.codepage.proofs.texts.is_translation.Given as goal
 
 abbrev pub invariant-loop-i : goal.invariant-loop-i

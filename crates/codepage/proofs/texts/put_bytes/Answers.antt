@@ -2,9 +2,9 @@ use Rattle.octets.proofs.WroteLaws.{kept}
 use Rattle.codepage.specs.Steps.Candidates.{by_remainder}
 use Rattle.codepage.proofs.CandidateLaws.{candidate_known}
 use Rattle.codepage.proofs.TextLaws.{no_bytes, more_bytes, all_bytes, known_at}
-use lib.ListN.{length, take}
+use lib.ListN.{length}
 use native.Mathlib.Omega.{arith}
-use Prim.Native.Nat.{◌+◌, ◌≤◌, ◌/◌, ◌-◌}
+use Prim.Native.Nat.{◌/◌}
 use mathlib.Core.Path.{◌≡◌, refl, ◌∙◌}
 use Rattle.codepage.proofs.texts.put_bytes.Goals as goal
 

@@ -1,9 +1,8 @@
 use Rattle.codepage.proofs.TextLaws.{no_units, more_units, all_units}
-use Rattle.format.specs.Codepage.{windows1252, to_units}
+use Rattle.format.specs.Codepage.{windows1252}
 use Rattle.octets.proofs.WroteLaws.{kept}
 use native.Mathlib.Omega.{arith}
-use Prim.Native.Nat.{◌≤◌, ◌*◌, ◌-◌}
-use mathlib.Core.Path.{◌≡◌, refl}
+use mathlib.Core.Path.{refl}
 use Rattle.codepage.proofs.texts.put_units.Goals as goal
 
 pub loop-i-init : goal.loop-i-init

@@ -1,5 +1,5 @@
 -- The first i bytes are put, each as its unit.
-use Rattle.format.specs.Codepage.{windows1252, to_units}
+use Rattle.format.specs.Codepage.{to_units}
 use Rattle.octets.specs.Steps.Puts.{Wrote}
 use lib.ListN.{length, take}
 use Prim.Native.Nat.{◌≤◌, ◌*◌, ◌-◌}

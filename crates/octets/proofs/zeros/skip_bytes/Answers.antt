@@ -1,8 +1,5 @@
 use Rattle.octets.proofs.ZeroLaws.{sixteens_end, sixteens_more, sixteens_zero}
-use Rattle.octets.specs.Steps.Scans.{sixteens}
-use mathlib.Core.Path.{◌≡◌, refl, ◌∙◌}
-use mathlib.Core.Bool.{false}
-use Prim.Native.Nat.{◌-◌}
+use mathlib.Core.Path.{refl, ◌∙◌}
 use native.Mathlib.Omega.{arith}
 use Rattle.octets.proofs.zeros.skip_bytes.Goals as goal
 

@@ -1,7 +1,7 @@
 -- The place to come to is the same from i on as from the start: sixteen bytes without a zero bring i nearer to it.
 use Rattle.octets.specs.Steps.Scans.{sixteens}
 use lib.ListN.{length}
-use mathlib.Core.Path.{◌≡◌, refl, ◌∙◌}
+use mathlib.Core.Path.{◌≡◌}
 use mathlib.Core.Bool.{false}
 use Prim.Native.Nat.{◌-◌}
 use Rattle.octets.proofs.zeros.skip_bytes.Given as goal
