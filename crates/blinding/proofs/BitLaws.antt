@@ -11,7 +11,6 @@ use Rattle.format.specs.declared.Profile.{Profile}
 use Rattle.format.specs.declared.Place.{Place}
 use Rattle.format.specs.declared.Record.{Record}
 use Rattle.format.specs.declared.StoreRow.{StoreRow}
-use Rattle.format.specs.declared.Reading.{Reading}
 use Rattle.format.specs.declared.Fault.{Fault}
 use Rattle.format.specs.declared.Verdict.{Verdict}
 use Rattle.format.specs.declared.Verdict.TheVariants.{Accepted, Refused}
@@ -19,7 +18,7 @@ use Rattle.format.specs.declared.Spot.{Spot}
 use Rattle.format.specs.Tests.{got, refused}
 use Rattle.format.specs.Numbers.{Numbered}
 use Rattle.format.specs.Blocks.{slot_of, size_fits, blocks, first_place}
-use Rattle.format.specs.Shortcut.{Sections, blocks_of, shortcut, record_of, reading}
+use Rattle.format.specs.Shortcut.{Sections, blocks_of, shortcut, record_of}
 use Rattle.format.specs.Bodies.{place_in, blocks_slot}
 use Rattle.format.specs.Contents.{bytes_at}
 use Rattle.format.specs.Demands.{Accepts}

@@ -2,7 +2,7 @@
 use mathlib.Core.Path.{◌≡◌, refl, sym, ap, ◌∙◌}
 use mathlib.Core.List.{List, [], ◌∷◌, map}
 use mathlib.Core.Bool.{Bool, true, false, cond}
-use Prim.Native.Nat.{ℕ, zero, suc, ◌+◌, ◌≤◌, ◌<◌}
+use Prim.Native.Nat.{ℕ, zero, suc, ◌+◌, ◌≤◌}
 use native.Mathlib.Omega.{arith}
 use native.Mathlib.Nat.{zero-add}
 use lib.ListN.{length, get_or}
@@ -14,11 +14,8 @@ use Rattle.format.specs.declared.Shape.{Shape}
 use Rattle.format.specs.Tests.{no_place}
 use Rattle.format.specs.Presence.{items_there, info_there}
 use Rattle.format.specs.Volume.{label_least}
-use Rattle.format.specs.Network.{network_head}
 use Rattle.format.specs.Shortcut.{most}
-use Rattle.format.specs.Bodies.{BodyRow, body_row, items_kind, text_kind, string_kind, items_slot, label_slot, blocks_slot, further_slot, place_in, table_of, along, kept, zeroed, placed}
-use Rattle.format.specs.Contents.{contents}
-use Rattle.format.specs.Writing.{canonical}
+use Rattle.format.specs.Bodies.{BodyRow, body_row, items_kind, text_kind, string_kind, items_slot, label_slot, blocks_slot, further_slot, place_in, table_of, kept, zeroed, placed}
 use Rattle.format.specs.Steps.Lengths.{volume_part, network_part, written_row, written_length}
 use Rattle.format.specs.Steps.Shape.{shape_of, row_as, rows_from}
 use Rattle.format.specs.Steps.Flat.{network_to, info_to}

@@ -1,6 +1,6 @@
 -- One law for each way out of the functions.
 use mathlib.Core.Path.{◌≡◌, refl, sym, ap, ◌∙◌}
-use mathlib.Core.List.{List, [], ◌∷◌, ◌++◌, append-nil}
+use mathlib.Core.List.{List, [], ◌++◌, append-nil}
 use mathlib.Core.Bool.{Bool, true, false, ◌&&◌, ◌||◌, cond}
 use Prim.Native.Nat.{ℕ, ◌+◌, ◌-◌, ◌≤◌, ◌<◌}
 use native.Mathlib.Omega.{arith}
@@ -19,7 +19,6 @@ use Rattle.format.specs.declared.Fault.TheVariants.{Lost as LOST, Room as ROOM}
 use Rattle.format.specs.declared.Faulted.{Faulted}
 use Rattle.format.specs.declared.Rescue.{Rescue}
 use Rattle.format.specs.declared.Salvaged.{Salvaged}
-use Rattle.format.specs.declared.Verdict.{Verdict}
 use Rattle.format.specs.declared.Verdict.TheVariants.{Accepted, Refused}
 use Rattle.format.specs.Numbers.{number_of, Numbered}
 use Rattle.format.specs.Tests.{Outcome, got, refused}

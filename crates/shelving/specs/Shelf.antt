@@ -5,7 +5,7 @@ use Rattle.format.specs.declared.Fault.TheVariants.{Shelf as SHELF, Entry as ENT
 use Rattle.format.specs.declared.Profile.TheVariants.{Strict}
 use Rattle.format.specs.declared.Verdict.{Verdict}
 use Rattle.format.specs.declared.Verdict.TheVariants.{Accepted, Refused}
-use Rattle.format.specs.Tests.{Outcome, got, refused, Test, ◌else◌at◌, no_section, tests, place, no_place}
+use Rattle.format.specs.Tests.{Outcome, got, refused, Test, ◌else◌at◌, no_section, tests, no_place}
 use Rattle.format.specs.Shortcut.{reading, verdict_of}
 use Rattle.format.specs.Contents.{bytes_at}
 use Rattle.shelves.specs.Table.{shelf_count, shelf_tests, shelf_entries, shelf_row}

@@ -1,8 +1,8 @@
 -- The sizes are those of the canonical form: each of its body, where that lies in the buffer, and all of them with the heads of the whole.
 use mathlib.Core.Path.{◌≡◌, refl, sym, ap, ◌∙◌}
 use mathlib.Core.List.{List, [], ◌∷◌, map}
-use mathlib.Core.Bool.{Bool, true, false, ◌&&◌, cond}
-use Prim.Native.Nat.{ℕ, ◌+◌, ◌≤◌, ◌<◌}
+use mathlib.Core.Bool.{Bool, true, false, cond}
+use Prim.Native.Nat.{ℕ, ◌+◌, ◌≤◌}
 use native.Mathlib.Omega.{arith}
 use lib.ListN.{length, get_or, replicate, length-append}
 use lib.Dec.{leb}
@@ -14,9 +14,9 @@ use Rattle.format.specs.declared.Record.{Record}
 use Rattle.format.specs.Tests.{no_place}
 use Rattle.format.specs.Presence.{info_there, local_there, network_there}
 use Rattle.format.specs.Shortcut.{most, sum}
-use Rattle.format.specs.Bodies.{BodyKind, items_kind, text_kind, string_kind, blocks_kind, further_kind, BodyRow, body_row, table_of, along, kept, zeroed, all_inside, placed}
+use Rattle.format.specs.Bodies.{BodyKind, items_kind, text_kind, string_kind, blocks_kind, further_kind, BodyRow, body_row, table_of, along, kept, all_inside, placed}
 use Rattle.format.specs.Contents.{bytes_at, contents}
-use Rattle.format.specs.Writing.{if_there, items_bytes, bytes_of_string, header_bytes, canonical}
+use Rattle.format.specs.Writing.{items_bytes, bytes_of_string, header_bytes, canonical}
 use Rattle.format.specs.Steps.Lengths.{beside, written_body, written_row, written_heads, written_length}
 use Rattle.format.specs.Steps.Shape.{shape_of}
 use Rattle.format.specs.Steps.Flat.{body_bytes, slot_bytes, slots_bytes, volume_head_bytes, network_head_bytes, info_flat, flat_bytes}

@@ -26,7 +26,7 @@ use Rattle.format.specs.Tests.{got, refused, all, no_place}
 use Rattle.format.specs.Numbers.{Numbered}
 use Rattle.format.specs.Store.{store_tests}
 use Rattle.format.specs.Blocks.{blocks, first_place}
-use Rattle.format.specs.Shortcut.{blocks_of, shortcut, reading}
+use Rattle.format.specs.Shortcut.{blocks_of, reading}
 use Rattle.format.specs.Bodies.{place_in, blocks_slot}
 use Rattle.format.specs.Contents.{bytes_at}
 use Rattle.format.specs.Writing.{output_of}

@@ -5,7 +5,6 @@ use mathlib.Core.Bool.{Bool, true, false, not, ◌&&◌, ◌||◌, cond}
 use Prim.Native.Nat.{ℕ}
 use lib.Dec.{leb}
 use Rattle.format.specs.declared.Profile.{Profile}
-use Rattle.format.specs.declared.Place.{Place}
 use Rattle.format.specs.declared.Header.{Header}
 use Rattle.format.specs.declared.Link.{Link}
 use Rattle.format.specs.declared.Record.{Record}
@@ -15,7 +14,7 @@ use Rattle.format.specs.Presence.{info_there, local_there, network_there}
 use Rattle.format.specs.Shortcut.{no_link}
 use Rattle.format.specs.Header.{flags_ok, attributes_ok}
 use Rattle.format.specs.Hotkey.{hotkey_ok}
-use Rattle.format.specs.Bodies.{in_info, table_of, along}
+use Rattle.format.specs.Bodies.{table_of, along}
 use Rattle.format.specs.Contents.{present_link, present, contents}
 use Rattle.format.specs.Writing.{every, writable_if, writable_header, writable_link, writable_row, writable_bodies}
 use Rattle.format.specs.Steps.Shape.{shape_of}

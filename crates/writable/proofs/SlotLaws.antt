@@ -1,9 +1,9 @@
 -- A test of the slots one after another, up to the slot m: what is left of it.
 use mathlib.Core.Path.{◌≡◌, refl, sym, ap, ◌∙◌}
 use mathlib.Core.List.{List, [], ◌∷◌}
-use mathlib.Core.Bool.{Bool, true, false, ◌&&◌, cond}
+use mathlib.Core.Bool.{Bool, true, false, ◌&&◌}
 use Prim.Native.Nat.{ℕ, ◌+◌, ◌-◌, ◌≤◌, ◌<◌}
-use lib.ListN.{length, get_or}
+use lib.ListN.{get_or}
 use lib.Dec.{leb}
 use borrow.Author.Tests.{le-leb}
 use native.Mathlib.Omega.{arith}
@@ -11,7 +11,7 @@ use Rattle.format.specs.declared.Place.{Place}
 use Rattle.format.specs.declared.Record.{Record}
 use Rattle.format.specs.declared.Shape.{Shape}
 use Rattle.format.specs.Tests.{no_place}
-use Rattle.format.specs.Bodies.{BodyKind, BodyRow, items_kind, table_of, along, kept, zeroed, all_inside, placed}
+use Rattle.format.specs.Bodies.{BodyKind, BodyRow, items_kind, table_of, along, kept, all_inside, placed}
 use Rattle.format.specs.Contents.{bytes_at}
 use Rattle.format.specs.Writing.{every, writable_body}
 use Rattle.format.specs.Steps.Shape.{shape_of, row_in, rows_from}

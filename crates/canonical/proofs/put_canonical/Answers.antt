@@ -6,7 +6,7 @@ use Rattle.format.specs.Steps.Flat.{info_to, flat_bytes}
 use Rattle.format.specs.Steps.Lengths.{written_row}
 use Rattle.format.specs.Bodies.{items_slot, place_in}
 use Rattle.format.specs.Presence.{info_there}
-use Prim.Native.Nat.{ℕ, ◌+◌}
+use Prim.Native.Nat.{◌+◌}
 use Rattle.octets.proofs.WroteLaws.{kept, join, reword}
 use mathlib.Core.Bool.{Bool, cond}
 use mathlib.Core.Path.{◌≡◌, refl, sym, ap, ◌∙◌}

@@ -2,8 +2,7 @@
 use Rattle.canonical.proofs.FitsLaws.{volume_few, network_few, info_put, further_inside}
 use Rattle.format.specs.Steps.Flat.{info_flat}
 use Rattle.octets.proofs.WroteLaws.{Wrote-none, kept, join, reword}
-use mathlib.Core.Bool.{true}
-use mathlib.Core.Path.{◌≡◌, refl, sym, ap, ◌∙◌}
+use mathlib.Core.Path.{refl, sym, ◌∙◌}
 use borrow.Author.Tests.{not-true, not-false}
 use native.Mathlib.Omega.{arith}
 use Rattle.canonical.proofs.put_info.Goals as goal

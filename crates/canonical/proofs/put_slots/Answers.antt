@@ -1,12 +1,10 @@
-use Rattle.canonical.proofs.SlotLaws.{bytes_to, size_to, none_put, more_put, Room-next}
+use Rattle.canonical.proofs.SlotLaws.{none_put, more_put, Room-next}
 use Rattle.format.specs.Steps.Lengths.{written_body}
 use Rattle.format.specs.Steps.Flat.{slot_bytes, slots_bytes}
 use Rattle.format.specs.Steps.Shape.{row_in}
 use Rattle.canonical.specs.Steps.Puts.{characters_kind, characters_row, slots_size}
 use Rattle.octets.proofs.WroteLaws.{Wrote-none, kept}
-use Rattle.octets.specs.Steps.Puts.{Wrote}
-use Prim.Native.Nat.{◌+◌, ◌-◌, ◌≤◌}
-use mathlib.Core.Path.{◌≡◌, refl, sym, ap, ◌∙◌}
+use mathlib.Core.Path.{◌≡◌}
 use native.Mathlib.Omega.{arith}
 use Rattle.canonical.proofs.put_slots.Goals as goal
 use Rattle.canonical.proofs.put_slots.Goals.{else-there-k, then-there-k}

@@ -1,11 +1,11 @@
 -- What was put up to slot k.
-use Rattle.canonical.proofs.SlotLaws.{bytes_to, size_to, none_put, more_put, Room-next}
+use Rattle.canonical.proofs.SlotLaws.{bytes_to, size_to}
 use Rattle.format.specs.Steps.Lengths.{written_body}
-use Rattle.format.specs.Steps.Flat.{slot_bytes, slots_bytes}
+use Rattle.format.specs.Steps.Flat.{slot_bytes}
 use Rattle.format.specs.Steps.Shape.{row_in}
-use Rattle.canonical.specs.Steps.Puts.{characters_kind, characters_row, slots_size}
+use Rattle.canonical.specs.Steps.Puts.{characters_kind}
 use Rattle.octets.specs.Steps.Puts.{Wrote}
-use Prim.Native.Nat.{◌+◌, ◌-◌, ◌≤◌}
+use Prim.Native.Nat.{◌-◌, ◌≤◌}
 use Rattle.canonical.proofs.put_slots.Given as goal
 
 abbrev pub invariant-loop-k : goal.invariant-loop-k

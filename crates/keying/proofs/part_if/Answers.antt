@@ -1,5 +1,4 @@
 -- A part that is absent shows no text, whatever texts it was given.
-use Rattle.keying.specs.Steps.KeyParts.{only}
 use Rattle.keying.proofs.Laws.{part_there, part_absent}
 use Rattle.keying.proofs.part_if.Goals as goal
 

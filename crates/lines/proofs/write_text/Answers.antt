@@ -1,6 +1,6 @@
-use mathlib.Core.Path.{◌≡◌, sym, ◌∙◌}
-use lib.ListN.{length, length-replicate}
-use Prim.Native.Nat.{ℕ, ◌≤◌, ◌-◌}
+use mathlib.Core.Path.{sym, ◌∙◌}
+use lib.ListN.{length-replicate}
+use Prim.Native.Nat.{ℕ}
 use native.Mathlib.Omega.{arith}
 use Rattle.octets.specs.Numbers.{Bytes}
 use Rattle.lines.proofs.PieceLaws.{piece_inside, piece_kept, length_text}

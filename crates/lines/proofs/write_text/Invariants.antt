@@ -1,7 +1,7 @@
 -- A piece ends inside the text, so the place of the next one nears its end.
-use mathlib.Core.Path.{◌≡◌, sym, ◌∙◌}
-use lib.ListN.{length, length-replicate}
-use Prim.Native.Nat.{ℕ, ◌≤◌, ◌-◌}
+use mathlib.Core.Path.{◌≡◌}
+use lib.ListN.{length}
+use Prim.Native.Nat.{◌≤◌, ◌-◌}
 use Rattle.lines.specs.Steps.Pieces.{text_of}
 use Rattle.lines.proofs.write_text.Given as goal
 

@@ -1,6 +1,6 @@
-use mathlib.Core.Path.{◌≡◌, sym, ◌∙◌}
+use mathlib.Core.Path.{sym, ◌∙◌}
 use native.Mathlib.Omega.{arith}
-use Rattle.pathing.proofs.WalkLaws.{Going, begins, too_short, Found-here, no_block, goes_on, was_last}
+use Rattle.pathing.proofs.WalkLaws.{begins, too_short, Found-here, no_block, goes_on, was_last}
 use Rattle.pathing.proofs.place_of.Goals as goal
 
 pub returns-then-n-lt8 : goal.returns-then-n-lt8

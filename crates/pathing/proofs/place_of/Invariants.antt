@@ -1,8 +1,8 @@
 -- The loop is inside the body; if its blocks are whole, it is at the start of one, and the place that is sought lies in what is left.
-use mathlib.Core.Path.{◌≡◌, sym, ◌∙◌}
-use Prim.Native.Nat.{◌+◌, ◌≤◌}
+use mathlib.Core.Path.{◌≡◌}
+use Prim.Native.Nat.{◌+◌}
 use lib.ListN.{length}
-use Rattle.pathing.proofs.WalkLaws.{Going, begins, too_short, Found-here, no_block, goes_on, was_last}
+use Rattle.pathing.proofs.WalkLaws.{Going}
 use Rattle.pathing.proofs.place_of.Given as goal
 
 abbrev pub invariant-loop-signature : goal.invariant-loop-signature

@@ -1,9 +1,8 @@
 use Rattle.sizes.proofs.SizeLaws.{few_heads, total_few, sizes_row, sum_step, sum_none}
 use Rattle.sizes.specs.Steps.Sizes.{sizes_of, clipped_length}
 use Rattle.format.specs.Shortcut.{sum}
-use lib.ListN.{length, drop}
-use Prim.Native.Nat.{◌+◌, ◌-◌, ◌≤◌, ◌<◌}
-use mathlib.Core.Path.{◌≡◌, refl, sym, ap, ◌∙◌}
+use lib.ListN.{length}
+use mathlib.Core.Path.{◌≡◌, refl, ap, ◌∙◌}
 use native.Mathlib.Omega.{arith}
 use Rattle.sizes.proofs.end_of.Goals as goal
 

@@ -1,7 +1,7 @@
 use Rattle.format.specs.Shortcut.{sum}
-use lib.ListN.{length, drop}
+use lib.ListN.{drop}
 use Prim.Native.Nat.{◌+◌, ◌-◌, ◌≤◌, ◌<◌}
-use mathlib.Core.Path.{◌≡◌, refl, sym, ap, ◌∙◌}
+use mathlib.Core.Path.{◌≡◌}
 use Rattle.sizes.proofs.end_of.Given as goal
 
 -- What is left of the sum shrinks slot by slot.

@@ -1,10 +1,9 @@
 use Rattle.format.proofs.RowLaws.{set_more}
 use Rattle.sizes.proofs.SizeLaws.{few_besides, size_at, sizes_row}
-use lib.ListN.{length, get_or, length-set}
+use lib.ListN.{length-set}
 use lib.Seq.{ext_get_or}
-use Rattle.sizes.specs.Steps.Sizes.{capped, sizes_of}
-use Prim.Native.Nat.{ℕ, ◌+◌, ◌-◌, ◌≤◌, ◌<◌}
-use mathlib.Core.Path.{◌≡◌, refl, sym, ap, ◌∙◌}
+use Rattle.sizes.specs.Steps.Sizes.{sizes_of}
+use mathlib.Core.Path.{refl, sym, ◌∙◌}
 use native.Mathlib.Omega.{arith}
 use Rattle.sizes.proofs.sizes_of.Goals as goal
 

@@ -1,10 +1,10 @@
 -- The slots before k have their sizes.
-use lib.ListN.{length, get_or, length-set}
-use Rattle.sizes.specs.Steps.Sizes.{capped, sizes_of}
+use lib.ListN.{length, get_or}
+use Rattle.sizes.specs.Steps.Sizes.{capped}
 use Rattle.format.specs.Tests.{no_place}
 use Prim.Native.Nat.{ℕ, ◌+◌, ◌-◌, ◌≤◌, ◌<◌}
 use mathlib.Core.Bool.{false, cond}
-use mathlib.Core.Path.{◌≡◌, refl, sym, ap, ◌∙◌}
+use mathlib.Core.Path.{◌≡◌}
 use Rattle.sizes.proofs.sizes_of.Given as goal
 
 abbrev pub invariant-loop-k : goal.invariant-loop-k

@@ -1,7 +1,7 @@
 use Rattle.writable.proofs.TestLaws.{same_test}
-use Rattle.writable.proofs.WalkLaws.{OnItems, items_long, items_begin, on_small_item, on_more_items, on_last_item}
+use Rattle.writable.proofs.WalkLaws.{items_long, items_begin, on_small_item, on_more_items, on_last_item}
 use lib.ListN.{length}
-use Prim.Native.Nat.{◌≤◌, ◌+◌, ◌-◌}
+use Prim.Native.Nat.{◌+◌, ◌-◌}
 use mathlib.Core.Path.{◌≡◌, ◌∙◌}
 use native.Mathlib.Omega.{arith}
 use Rattle.writable.proofs.items_ok.Goals as goal

@@ -1,5 +1,5 @@
 -- The items from p - 2 on decide for the whole body, since those before are whole; p passes the end by one item at most.
-use Rattle.writable.proofs.WalkLaws.{OnItems, items_long, items_begin, on_small_item, on_more_items, on_last_item}
+use Rattle.writable.proofs.WalkLaws.{OnItems}
 use lib.ListN.{length}
 use Prim.Native.Nat.{◌≤◌, ◌+◌, ◌-◌}
 use Rattle.writable.proofs.items_ok.Given as goal

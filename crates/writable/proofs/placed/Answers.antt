@@ -2,9 +2,9 @@ use borrow.Author.Tests.{not-true, not-false}
 use Rattle.format.specs.Tests.{no_place}
 use lib.ListN.{get_or}
 use Rattle.writable.proofs.SlotLaws.{rest_ok, rest_ok_lem, rest_bad, rest_end, inside_row, there_row, placed_rest, inside_gone, inside_here}
-use Prim.Native.Nat.{◌+◌, ◌-◌, ◌≤◌}
-use mathlib.Core.Bool.{true, false}
-use mathlib.Core.Path.{◌≡◌, refl, sym, ap, ◌∙◌}
+use Prim.Native.Nat.{◌+◌}
+use mathlib.Core.Bool.{true}
+use mathlib.Core.Path.{◌≡◌, refl, sym, ◌∙◌}
 use native.Mathlib.Omega.{arith}
 use Rattle.writable.proofs.placed.Goals as goal
 use Rattle.writable.proofs.placed.Goals.{else-there-k, then-there-k+else-not-inside}

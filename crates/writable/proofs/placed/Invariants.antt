@@ -1,7 +1,7 @@
 -- What is left to be tested shrinks slot by slot.
-use Rattle.writable.proofs.SlotLaws.{rest_ok, rest_ok_lem, rest_bad, rest_end, inside_row, there_row, placed_rest, inside_gone, inside_here}
-use Prim.Native.Nat.{◌+◌, ◌-◌, ◌≤◌}
-use mathlib.Core.Path.{◌≡◌, refl, sym, ap, ◌∙◌}
+use Rattle.writable.proofs.SlotLaws.{rest_ok, inside_row, there_row}
+use Prim.Native.Nat.{◌-◌, ◌≤◌}
+use mathlib.Core.Path.{◌≡◌}
 use Rattle.writable.proofs.placed.Given as goal
 
 abbrev pub invariant-loop-k : goal.invariant-loop-k

@@ -2,7 +2,7 @@ use Rattle.writable.proofs.SlotLaws.{rest_ok, rest_ok_lem, rest_bad, rest_end, o
 use Rattle.writable.specs.Steps.Slots.{kind_at, slot_row, row_ok, slots_ok}
 use Rattle.format.specs.Tests.{no_place}
 use lib.ListN.{get_or}
-use Prim.Native.Nat.{◌+◌, ◌-◌, ◌≤◌}
+use Prim.Native.Nat.{◌+◌}
 use mathlib.Core.Bool.{true}
 use mathlib.Core.Path.{◌≡◌, refl, sym, ◌∙◌}
 use borrow.Author.Tests.{not-true, not-false}

@@ -1,8 +1,8 @@
 -- What is left to be tested shrinks slot by slot.
-use Rattle.writable.proofs.SlotLaws.{rest_ok, rest_ok_lem, rest_bad, rest_end, ok_gone, ok_here}
-use Rattle.writable.specs.Steps.Slots.{kind_at, slot_row, row_ok, slots_ok}
-use Prim.Native.Nat.{◌+◌, ◌-◌, ◌≤◌}
-use mathlib.Core.Path.{◌≡◌, refl, sym, ◌∙◌}
+use Rattle.writable.proofs.SlotLaws.{rest_ok}
+use Rattle.writable.specs.Steps.Slots.{slot_row, row_ok}
+use Prim.Native.Nat.{◌-◌, ◌≤◌}
+use mathlib.Core.Path.{◌≡◌}
 use Rattle.writable.proofs.slots_ok.Given as goal
 
 abbrev pub invariant-loop-k : goal.invariant-loop-k

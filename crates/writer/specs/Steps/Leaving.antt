@@ -3,7 +3,7 @@ use Rattle.std.specs.Prelude.{ℕ, ◌+◌, List, [], ◌∷◌, length, leb}
 use Rattle.format.specs.declared.Profile.{Profile}
 use Rattle.format.specs.declared.Record.{Record}
 use Rattle.format.specs.declared.Fault.TheVariants.{Place as PLACE, Unwritable as UNWRITABLE, Room as ROOM}
-use Rattle.format.specs.Tests.{Outcome, got, refused, ◌else◌at◌, no_section, tests}
+use Rattle.format.specs.Tests.{Outcome, got, ◌else◌at◌, no_section, tests}
 use Rattle.format.specs.Shortcut.{most}
 use Rattle.format.specs.Bodies.{placed}
 use Rattle.format.specs.Contents.{contents}

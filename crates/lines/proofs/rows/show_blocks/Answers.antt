@@ -1,5 +1,4 @@
-use Prim.Native.Nat.{ℕ, ◌≤◌, ◌-◌}
-use mathlib.Core.Path.{◌≡◌, refl, ◌∙◌}
+use mathlib.Core.Path.{refl, ◌∙◌}
 use native.Mathlib.Omega.{arith}
 use Rattle.blocks.proofs.NthLaws.{nth_fits}
 use Rattle.blocks.proofs.StepLaws.{tail_part, by_block, by_end, by_fault}

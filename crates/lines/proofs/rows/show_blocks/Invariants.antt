@@ -2,7 +2,7 @@
 use lib.ListN.{length}
 use Prim.Native.Nat.{ℕ, ◌≤◌, ◌-◌}
 use mathlib.Core.List.{List}
-use mathlib.Core.Path.{◌≡◌, refl, ◌∙◌}
+use mathlib.Core.Path.{◌≡◌}
 use Rattle.lines.specs.Steps.Windows.{BlocksShowed}
 use Rattle.lines.specs.declared.Window.{Window}
 use Rattle.lines.proofs.rows.show_blocks.Given as goal

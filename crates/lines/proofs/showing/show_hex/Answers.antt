@@ -1,4 +1,3 @@
-use Prim.Native.Nat.{◌≤◌, ◌-◌}
 use native.Mathlib.Omega.{arith}
 use Rattle.lines.proofs.HexLaws.{hex_none, hex_more, hex_whole}
 use Rattle.lines.proofs.showing.show_hex.Goals as goal

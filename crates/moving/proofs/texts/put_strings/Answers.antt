@@ -1,10 +1,8 @@
 use Rattle.moves.proofs.BodyMoves.{slot_Inside}
 use Rattle.moving.specs.Steps.Pieces.{moved_slot, moved_size, moved_row, moved_strings, strings_size}
-use Rattle.canonical.proofs.SlotLaws.{bytes_to, size_to, none_put, more_put, Room-next}
+use Rattle.canonical.proofs.SlotLaws.{none_put, more_put, Room-next}
 use Rattle.octets.proofs.WroteLaws.{Wrote-none, kept}
-use Rattle.octets.specs.Steps.Puts.{Wrote}
 use native.Mathlib.Omega.{arith}
-use Prim.Native.Nat.{◌-◌, ◌≤◌}
 use mathlib.Core.Path.{◌≡◌}
 use Rattle.moving.proofs.texts.put_strings.Goals as goal
 use Rattle.moving.proofs.texts.put_strings.Goals.{else-there-k, then-there-k}

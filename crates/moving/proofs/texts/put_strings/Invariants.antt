@@ -1,6 +1,6 @@
 -- What was put up to slot k.
-use Rattle.moving.specs.Steps.Pieces.{moved_slot, moved_size, moved_row, moved_strings, strings_size}
-use Rattle.canonical.proofs.SlotLaws.{bytes_to, size_to, none_put, more_put, Room-next}
+use Rattle.moving.specs.Steps.Pieces.{moved_slot, moved_size, moved_row}
+use Rattle.canonical.proofs.SlotLaws.{bytes_to, size_to}
 use Rattle.octets.specs.Steps.Puts.{Wrote}
 use Prim.Native.Nat.{◌-◌, ◌≤◌}
 use Rattle.moving.proofs.texts.put_strings.Given as goal

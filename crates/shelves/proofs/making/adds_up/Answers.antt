@@ -1,7 +1,4 @@
 use native.Mathlib.Omega.{arith}
-use Prim.Native.Nat.{◌+◌, ◌-◌, ◌≤◌}
-use lib.ListN.{length, drop}
-use Rattle.format.specs.Shortcut.{sum}
 use Rattle.shelves.proofs.ApartLaws.{sums_over, sums_on, sums_end}
 use Rattle.shelves.proofs.making.adds_up.Goals as goal
 

@@ -1,12 +1,12 @@
 use mathlib.Core.Path.{ap, ◌∙◌}
 use native.Mathlib.Omega.{arith}
-use Prim.Native.Nat.{◌+◌, ◌-◌, ◌≤◌}
+use Prim.Native.Nat.{◌+◌}
 use lib.Seq.{length-take-le}
 use lib.ListN.{length, take, drop, get_or, length-append, length-drop}
 use Rattle.format.specs.Writing.{end_to_end}
-use Rattle.shelves.specs.Steps.Apart.{apart, span}
+use Rattle.shelves.specs.Steps.Apart.{apart}
 use Rattle.shelves.proofs.ApartLaws.{first_inside, bodies_left, bodies_none, bodies_long}
-use Rattle.shelves.proofs.PutLaws.{Putting, Putting-none, Putting-more, putting_all, putting_room, putting_kept}
+use Rattle.shelves.proofs.PutLaws.{Putting-none, Putting-more, putting_all, putting_room, putting_kept}
 use Rattle.shelves.proofs.making.put_bodies.Goals as goal
 
 pub loop-k-init : goal.loop-k-init

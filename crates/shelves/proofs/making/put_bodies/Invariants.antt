@@ -1,10 +1,9 @@
 -- The bodies put and those left are all bodies, end to end.
-use mathlib.Core.Path.{ap, ◌∙◌}
 use Prim.Native.Nat.{◌+◌, ◌-◌, ◌≤◌}
-use lib.ListN.{length, take, drop, get_or, length-append, length-drop}
+use lib.ListN.{length, drop}
 use Rattle.format.specs.Writing.{end_to_end}
 use Rattle.shelves.specs.Steps.Apart.{apart, span}
-use Rattle.shelves.proofs.PutLaws.{Putting, Putting-none, Putting-more, putting_all, putting_room, putting_kept}
+use Rattle.shelves.proofs.PutLaws.{Putting}
 use Rattle.shelves.proofs.making.put_bodies.Given as goal
 
 abbrev pub invariant-loop-k : goal.invariant-loop-k

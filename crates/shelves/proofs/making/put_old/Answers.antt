@@ -1,6 +1,5 @@
 use mathlib.Core.Path.{ap, ◌∙◌}
 use native.Mathlib.Omega.{arith}
-use Prim.Native.Nat.{◌+◌, ◌-◌, ◌≤◌}
 use lib.Seq.{length-take-le}
 use lib.ListN.{length, drop, get_or, length-append, length-drop}
 use Rattle.octets.proofs.WroteLaws.{kept, join}
@@ -8,7 +7,7 @@ use Rattle.octets.proofs.NumberLaws.{length-little}
 use Rattle.shelves.specs.Steps.Apart.{apart, span}
 use Rattle.shelves.specs.OldFile.{old_bytes}
 use Rattle.shelves.proofs.ApartLaws.{first_inside, old_left, old_none, old_long, apart_lengths, by_base}
-use Rattle.shelves.proofs.PutLaws.{Putting, Putting-none, Putting-more, putting_all, putting_room, putting_kept}
+use Rattle.shelves.proofs.PutLaws.{Putting-none, Putting-more, putting_all, putting_room, putting_kept}
 use Rattle.shelves.proofs.making.put_old.Goals as goal
 
 pub loop-k-init : goal.loop-k-init

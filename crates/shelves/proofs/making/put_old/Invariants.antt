@@ -1,10 +1,9 @@
 -- The entries put and those left are the whole old form.
-use mathlib.Core.Path.{ap, ◌∙◌}
 use Prim.Native.Nat.{◌+◌, ◌-◌, ◌≤◌}
-use lib.ListN.{length, drop, get_or, length-append, length-drop}
+use lib.ListN.{length, drop}
 use Rattle.shelves.specs.Steps.Apart.{apart, span}
 use Rattle.shelves.specs.OldFile.{old_bytes}
-use Rattle.shelves.proofs.PutLaws.{Putting, Putting-none, Putting-more, putting_all, putting_room, putting_kept}
+use Rattle.shelves.proofs.PutLaws.{Putting}
 use Rattle.shelves.proofs.making.put_old.Given as goal
 
 abbrev pub invariant-loop-k : goal.invariant-loop-k

@@ -1,13 +1,11 @@
-use mathlib.Core.Path.{◌≡◌, refl, ap, ◌∙◌}
+use mathlib.Core.Path.{refl, ap, ◌∙◌}
 use native.Mathlib.Omega.{arith}
-use Prim.Native.Nat.{◌+◌, ◌-◌, ◌≤◌}
-use lib.ListN.{length, drop, length-append}
+use lib.ListN.{length, length-append}
 use Rattle.octets.proofs.WroteLaws.{kept, join}
 use Rattle.octets.proofs.NumberLaws.{length-little}
-use Rattle.format.specs.Shortcut.{sum}
 use Rattle.shelves.specs.Table.{table_bytes, bodies_start}
 use Rattle.shelves.proofs.ApartLaws.{sum_first, Small-sum, table_long, table_left, table_none}
-use Rattle.shelves.proofs.PutLaws.{Putting, Putting-none, Putting-more, putting_all, putting_room, putting_kept}
+use Rattle.shelves.proofs.PutLaws.{Putting-none, Putting-more, putting_all, putting_room, putting_kept}
 use Rattle.shelves.proofs.making.put_table.Goals as goal
 
 pub overflow_mul-start : goal.overflow_mul-start

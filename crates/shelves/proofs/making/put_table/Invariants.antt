@@ -1,10 +1,10 @@
 -- The rows put and those of the lengths left are the whole table; no start passes four bytes.
-use mathlib.Core.Path.{◌≡◌, refl, ap, ◌∙◌}
+use mathlib.Core.Path.{◌≡◌}
 use Prim.Native.Nat.{◌+◌, ◌-◌, ◌≤◌}
-use lib.ListN.{length, drop, length-append}
+use lib.ListN.{length, drop}
 use Rattle.format.specs.Shortcut.{sum}
 use Rattle.shelves.specs.Table.{table_bytes, bodies_start}
-use Rattle.shelves.proofs.PutLaws.{Putting, Putting-none, Putting-more, putting_all, putting_room, putting_kept}
+use Rattle.shelves.proofs.PutLaws.{Putting}
 use Rattle.shelves.proofs.making.put_table.Given as goal
 
 abbrev pub invariant-loop-k : goal.invariant-loop-k

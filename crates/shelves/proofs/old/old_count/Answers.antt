@@ -1,7 +1,6 @@
 use native.Mathlib.Omega.{arith}
-use mathlib.Core.Path.{◌≡◌, refl, sym, ap, ◌∙◌}
-use Prim.Native.Nat.{◌+◌, ◌-◌, ◌≤◌}
-use lib.ListN.{length, drop}
+use mathlib.Core.Path.{refl, sym, ap, ◌∙◌}
+use lib.ListN.{length}
 use Rattle.shelves.proofs.OldLaws.{old_many, old_cut, old_past, old_on, old_end, wrong_count}
 use Rattle.shelves.proofs.old.old_count.Goals as goal
 

@@ -1,5 +1,5 @@
 -- What fits of the entries left fits of all, and the entries passed are counted by how many may still come.
-use mathlib.Core.Path.{◌≡◌, refl, sym, ap, ◌∙◌}
+use mathlib.Core.Path.{◌≡◌}
 use Prim.Native.Nat.{◌+◌, ◌-◌, ◌≤◌}
 use lib.ListN.{length, drop}
 use Rattle.shelves.specs.OldFile.{old_fits, old_entries}

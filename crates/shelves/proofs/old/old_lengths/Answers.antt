@@ -1,12 +1,12 @@
 use native.Mathlib.Omega.{arith}
 use mathlib.Core.Path.{◌≡◌, refl, sym, ◌∙◌}
 use Prim.Native.Nat.{◌+◌, ◌-◌, ◌≤◌}
-use lib.ListN.{length, drop}
+use lib.ListN.{length}
 use Rattle.octets.proofs.WroteLaws.{Wrote-one}
 use Rattle.shelves.specs.Steps.Apart.{old_lengths}
 use Rattle.shelves.specs.Table.{most_entries}
 use Rattle.shelves.proofs.OldLaws.{old_next, old_on, lengths_left, lengths_none, lengths_all}
-use Rattle.shelves.proofs.PutLaws.{Putting, Putting-none, Putting-more, putting_all, putting_kept}
+use Rattle.shelves.proofs.PutLaws.{Putting-none, Putting-more, putting_all, putting_kept}
 use Rattle.shelves.proofs.old.old_lengths.Goals as goal
 
 pub loop-at-init : goal.loop-at-init

@@ -1,13 +1,13 @@
 -- The lengths put and those of the entries left are all lengths.
-use mathlib.Core.Path.{◌≡◌, refl, sym, ◌∙◌}
-use Prim.Native.Nat.{◌+◌, ◌-◌, ◌≤◌}
+use mathlib.Core.Path.{◌≡◌}
+use Prim.Native.Nat.{◌-◌, ◌≤◌}
 use lib.ListN.{length, drop}
 use mathlib.Core.Bool.{true}
 use mathlib.Core.List.{map}
 use Rattle.shelves.specs.Steps.Apart.{old_lengths}
 use Rattle.shelves.specs.OldFile.{old_fits, old_entries}
 use Rattle.shelves.specs.Table.{most_entries}
-use Rattle.shelves.proofs.PutLaws.{Putting, Putting-none, Putting-more, putting_all, putting_kept}
+use Rattle.shelves.proofs.PutLaws.{Putting}
 use Rattle.shelves.proofs.old.old_lengths.Given as goal
 
 abbrev pub invariant-loop-at : goal.invariant-loop-at

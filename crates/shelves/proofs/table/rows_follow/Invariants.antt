@@ -1,5 +1,5 @@
 -- The bodies of the rows left follow if all do; a start is bounded by the rows passed, so that no sum wraps.
-use mathlib.Core.Path.{◌≡◌, refl, sym, ◌∙◌}
+use mathlib.Core.Path.{◌≡◌}
 use Prim.Native.Nat.{◌+◌, ◌*◌, ◌≤◌}
 use lib.ListN.{length, drop}
 use Rattle.shelves.specs.Table.{table_rows, bodies_start, rows_follow}

@@ -1,13 +1,13 @@
 use mathlib.Core.Path.{◌≡◌, refl, sym, ap}
 use native.Mathlib.Omega.{arith}
-use Prim.Native.Nat.{ℕ, ◌+◌, ◌*◌, ◌≤◌}
-use lib.ListN.{length, drop}
+use Prim.Native.Nat.{ℕ}
+use lib.ListN.{drop}
 use mathlib.Core.List.{map}
 use Rattle.octets.proofs.WroteLaws.{Wrote-one}
 use Rattle.shelves.specs.Steps.Apart.{table_lengths}
 use Rattle.shelves.specs.Table.{table_rows}
 use Rattle.shelves.proofs.TableLaws.{length_of, shelf_Right, lengths_left, lengths_none, lengths_all, left_long, lengths_count}
-use Rattle.shelves.proofs.PutLaws.{Putting, Putting-none, Putting-more, putting_all, putting_room, putting_kept}
+use Rattle.shelves.proofs.PutLaws.{Putting-none, Putting-more, putting_all, putting_room, putting_kept}
 use Rattle.shelves.proofs.table.table_lengths.Goals as goal
 
 pub u32_at-left-requires : goal.u32_at-left-requires

@@ -1,12 +1,11 @@
 -- The lengths put and those of the rows left are all lengths of the table.
-use mathlib.Core.Path.{◌≡◌, refl, sym, ap}
-use Prim.Native.Nat.{ℕ, ◌+◌, ◌*◌, ◌≤◌}
+use Prim.Native.Nat.{◌+◌, ◌*◌, ◌≤◌}
 use lib.ListN.{length, drop}
 use mathlib.Core.List.{map}
 use Rattle.shelves.specs.Steps.Apart.{table_lengths}
 use Rattle.shelves.specs.Table.{table_rows}
-use Rattle.shelves.proofs.TableLaws.{length_of, shelf_Right, lengths_left, lengths_none, lengths_all, left_long, lengths_count}
-use Rattle.shelves.proofs.PutLaws.{Putting, Putting-none, Putting-more, putting_all, putting_room, putting_kept}
+use Rattle.shelves.proofs.TableLaws.{length_of}
+use Rattle.shelves.proofs.PutLaws.{Putting}
 use Rattle.shelves.proofs.table.table_lengths.Given as goal
 
 abbrev pub invariant-loop-left : goal.invariant-loop-left

@@ -1,10 +1,8 @@
-use mathlib.Core.Path.{◌≡◌, ap, ◌∙◌}
+use mathlib.Core.Path.{ap, ◌∙◌}
 use native.Mathlib.Nat.{zero-add}
 use native.Mathlib.Omega.{arith}
-use Prim.Native.Nat.{◌+◌, ◌-◌, ◌≤◌}
-use lib.ListN.{length, drop}
-use Rattle.octets.specs.Steps.Puts.{part}
-use Rattle.shelves.specs.Steps.Apart.{apart, span}
+use lib.ListN.{drop}
+use Rattle.shelves.specs.Steps.Apart.{apart}
 use Rattle.shelving.specs.Steps.Filing.{first_bad}
 use Rattle.shelving.specs.Shelf.{accepted_entry}
 use Rattle.shelves.proofs.ApartLaws.{first_inside}

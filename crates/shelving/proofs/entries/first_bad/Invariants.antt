@@ -1,8 +1,7 @@
 -- The entries passed are good, and the number of the first bad one among those left is counted from there.
-use mathlib.Core.Path.{◌≡◌, ap, ◌∙◌}
+use mathlib.Core.Path.{◌≡◌}
 use Prim.Native.Nat.{◌+◌, ◌-◌, ◌≤◌}
 use lib.ListN.{length, drop}
-use Rattle.octets.specs.Steps.Puts.{part}
 use Rattle.shelves.specs.Steps.Apart.{apart, span}
 use Rattle.shelving.specs.Steps.Filing.{first_bad}
 use Rattle.shelving.proofs.entries.first_bad.Given as goal

@@ -1,4 +1,4 @@
-use Rattle.stores.proofs.MakingLaws.{Making, Making-none, making_room, Making-on, making_last, making_all}
+use Rattle.stores.proofs.MakingLaws.{Making-none, making_room, Making-on, making_last, making_all}
 use Rattle.octets.proofs.WroteLaws.{kept}
 use mathlib.Core.Path.{◌≡◌}
 use native.Mathlib.Omega.{arith}

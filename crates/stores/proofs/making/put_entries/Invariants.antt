@@ -1,5 +1,5 @@
 -- What is put and what the rows left make is all that was to be put.
-use Rattle.stores.proofs.MakingLaws.{Making, Making-none, making_room, Making-on, making_last, making_all}
+use Rattle.stores.proofs.MakingLaws.{Making}
 use Rattle.stores.specs.Steps.Making.{open_bytes}
 use Rattle.format.specs.StoreWriting.{entries, rows_at}
 use lib.ListN.{length}

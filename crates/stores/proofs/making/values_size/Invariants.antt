@@ -3,7 +3,7 @@ use Rattle.stores.specs.Steps.Making.{values_size}
 use Rattle.format.specs.StoreWriting.{rows_at}
 use lib.ListN.{length}
 use Prim.Native.Nat.{◌+◌, ◌*◌, ◌≤◌}
-use mathlib.Core.Path.{◌≡◌, refl}
+use mathlib.Core.Path.{◌≡◌}
 use Rattle.stores.proofs.making.values_size.Given as goal
 
 abbrev pub invariant-loop-left : goal.invariant-loop-left

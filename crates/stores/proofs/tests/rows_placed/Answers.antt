@@ -1,5 +1,4 @@
 use mathlib.Core.Path.{◌≡◌, refl, ◌∙◌}
-use mathlib.Core.Bool.{true}
 use native.Mathlib.Omega.{arith}
 use Rattle.stores.proofs.TestLaws.{rows_start, all_rows, placed_stop, placed_on, placed_end}
 use Rattle.stores.proofs.tests.rows_placed.Goals as goal

@@ -1,5 +1,5 @@
 -- What is true of the rows left is true of all.
-use mathlib.Core.Path.{◌≡◌, refl, ◌∙◌}
+use mathlib.Core.Path.{◌≡◌}
 use Prim.Native.Nat.{◌+◌, ◌*◌, ◌≤◌}
 use lib.ListN.{length}
 use Rattle.format.specs.StoreWriting.{rows_placed, rows_at, rows_from}

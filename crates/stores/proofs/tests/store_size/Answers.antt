@@ -1,9 +1,8 @@
 use mathlib.Core.Path.{◌≡◌, sym, ◌∙◌}
-use mathlib.Core.Bool.{true}
 use native.Mathlib.Omega.{arith}
 use borrow.Author.Tests.{not-false}
-use Rattle.format.specs.StoreWriting.{rows_placed, rows_at, rows_from, entries}
-use Rattle.stores.proofs.TestLaws.{rows_start, all_rows, size_with, size_start, size_stop, size_on, size_end, row_there, others_there}
+use Rattle.format.specs.StoreWriting.{rows_from}
+use Rattle.stores.proofs.TestLaws.{rows_start, all_rows, size_start, size_stop, size_on, size_end, row_there, others_there}
 use Rattle.stores.proofs.tests.store_size.Goals as goal
 
 pub loop-left-init : goal.loop-left-init

@@ -1,11 +1,11 @@
 -- The length counted so far and that of the rows left are the whole length.
-use mathlib.Core.Path.{◌≡◌, sym, ◌∙◌}
+use mathlib.Core.Path.{◌≡◌}
 use mathlib.Core.Bool.{true}
 use Prim.Native.Nat.{◌+◌, ◌*◌, ◌≤◌}
 use lib.ListN.{length}
 use Rattle.format.specs.StoreWriting.{rows_placed, rows_at, rows_from, entries}
 use Rattle.stores.specs.Steps.Sizes.{size_or_0}
-use Rattle.stores.proofs.TestLaws.{rows_start, all_rows, size_with, size_start, size_stop, size_on, size_end, row_there, others_there}
+use Rattle.stores.proofs.TestLaws.{size_with}
 use Rattle.stores.proofs.tests.store_size.Given as goal
 
 abbrev pub invariant-loop-left : goal.invariant-loop-left

@@ -1,7 +1,5 @@
-use mathlib.Core.Path.{◌≡◌, ap, ◌∙◌}
-use Prim.Native.Nat.{◌-◌}
+use mathlib.Core.Path.{ap, ◌∙◌}
 use native.Mathlib.Omega.{arith}
-use Rattle.storing.specs.Steps.Rows.{rows_left, Right}
 use Rattle.format.specs.Blind.{has_values}
 use Rattle.storing.proofs.RowLaws.{first_Right, first_rows, by_row, by_end, nearer, is_value, no_value_yet}
 use Rattle.storing.proofs.rows.any_value.Goals as goal

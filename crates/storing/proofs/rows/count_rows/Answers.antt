@@ -1,8 +1,6 @@
-use mathlib.Core.Path.{◌≡◌, ap}
-use Prim.Native.Nat.{◌+◌, ◌-◌, ◌≤◌}
+use mathlib.Core.Path.{ap}
 use native.Mathlib.Omega.{arith}
 use lib.ListN.{length}
-use Rattle.storing.specs.Steps.Rows.{rows_left, Right}
 use Rattle.storing.proofs.RowLaws.{first_Right, first_rows, by_row, by_end, nearer}
 use Rattle.storing.proofs.rows.count_rows.Goals as goal
 

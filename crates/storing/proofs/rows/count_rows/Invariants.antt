@@ -1,5 +1,5 @@
 -- The rows passed and those left are all rows; a cursor passes a byte at least with each.
-use mathlib.Core.Path.{◌≡◌, ap}
+use mathlib.Core.Path.{◌≡◌}
 use Prim.Native.Nat.{◌+◌, ◌-◌, ◌≤◌}
 use lib.ListN.{length}
 use Rattle.storing.specs.Steps.Rows.{rows_left, Right}

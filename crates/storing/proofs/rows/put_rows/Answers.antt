@@ -1,7 +1,5 @@
-use Prim.Native.Nat.{◌-◌}
 use native.Mathlib.Omega.{arith}
-use Rattle.storing.specs.Steps.Rows.{Right}
-use Rattle.storing.proofs.RowLaws.{first_Right, by_row, by_end, nearer, Putting, Putting-none, same_long, putting_room, Putting-more, putting_all}
+use Rattle.storing.proofs.RowLaws.{first_Right, by_row, by_end, nearer, Putting-none, same_long, putting_room, Putting-more, putting_all}
 use Rattle.storing.proofs.rows.put_rows.Goals as goal
 
 pub loop-r-init : goal.loop-r-init

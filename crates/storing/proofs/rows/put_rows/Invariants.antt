@@ -2,7 +2,7 @@
 use Prim.Native.Nat.{◌-◌}
 use lib.ListN.{length}
 use Rattle.storing.specs.Steps.Rows.{Right}
-use Rattle.storing.proofs.RowLaws.{first_Right, by_row, by_end, nearer, Putting, Putting-none, same_long, putting_room, Putting-more, putting_all}
+use Rattle.storing.proofs.RowLaws.{Putting}
 use Rattle.storing.proofs.rows.put_rows.Given as goal
 
 abbrev pub invariant-loop-r : goal.invariant-loop-r

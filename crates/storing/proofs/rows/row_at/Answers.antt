@@ -1,8 +1,6 @@
-use mathlib.Core.Path.{◌≡◌, ap, ◌∙◌}
-use Prim.Native.Nat.{◌-◌}
+use mathlib.Core.Path.{ap, ◌∙◌}
 use native.Mathlib.Omega.{arith}
-use Rattle.storing.specs.Steps.Rows.{rows_left, Right}
-use Rattle.format.specs.StoreList.{store_rows, nth_row}
+use Rattle.format.specs.StoreList.{nth_row}
 use Rattle.storing.proofs.RowLaws.{first_Right, first_rows, by_row, by_end, nearer, nth_here, nth_later}
 use Rattle.storing.proofs.rows.row_at.Goals as goal
 

@@ -1,5 +1,5 @@
 -- The row asked for is one of those left; a cursor passes a byte at least with each.
-use mathlib.Core.Path.{◌≡◌, ap, ◌∙◌}
+use mathlib.Core.Path.{◌≡◌}
 use Prim.Native.Nat.{◌-◌}
 use lib.ListN.{length}
 use Rattle.storing.specs.Steps.Rows.{rows_left, Right}
