@@ -5,7 +5,7 @@ use Rattle.format.specs.declared.Fault.{Fault}
 use Rattle.format.specs.declared.Verdict.TheVariants.{Accepted, Refused}
 use Rattle.shelving.specs.declared.Fetched.{Fetched}
 use Rattle.scheduler.specs.Code.{code_of}
-use Rattle.scheduler.specs.Shelves.{fetch_by, fetch_code}
+use Rattle.scheduler.specs.Shelves.{fetch_code}
 
 module _ (g : Fetched) where
   pub fetch_shown : {n : ℕ} → g.verdict ≡ Accepted n → 256 * (g.place.len + 65537 * g.place.at) ≡ fetch_code g

@@ -1,7 +1,7 @@
 -- The turns that are left fall at each one.
 use lib.ListN.{length}
 use Prim.Native.Nat.{◌≤◌, ◌-◌}
-use mathlib.Core.Path.{◌≡◌, refl}
+use mathlib.Core.Path.{◌≡◌}
 use Rattle.vectors.proofs.each.Given as goal
 
 abbrev pub invariant-loop-turns : goal.invariant-loop-turns
