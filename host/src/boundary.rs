@@ -6,7 +6,7 @@
 //! is the only file with `unsafe` in it, so two calls of the system that the command line needs stand at its end.
 
 // A slice of the Rattle source is a pointer and a length here. The comments are the lines of that source
-// (crates/scheduler/src/lib.rt); a test compares them.
+// (crates/scheduler_c/src/lib.rt); a test compares them.
 extern "C" {
     // pub extern "C" fn herringnet_check(s: &[u8], profile: u32) -> u64
     fn herringnet_check(s: *const u8, s_len: usize, profile: u32) -> u64;

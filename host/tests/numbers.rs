@@ -19,10 +19,16 @@ fn number_of<'a>(definitions: &'a str, answer: &str) -> Option<&'a str> {
     named.into_iter().find(|name| name.to_lowercase().contains("number"))
 }
 
-/// Whether other lines than its own use a name.
+/// Whether other lines than its own use a name; a function of the code may have it too, and stands before a bracket.
 fn cited(text: &str, name: &str) -> bool {
-    let own = |line: &str| ["use ", "ghost use ", "unfoldable pub ", name].iter().any(|start| line.starts_with(start));
-    text.lines().filter(|line| !own(line)).any(|line| words(line).any(|word| word == name))
+    let mut importing = false;
+    let mut own = |line: &str| {
+        let import = importing || line.starts_with("use ") || line.starts_with("ghost use ");
+        importing = import && !line.contains('}') && (importing || line.contains('{'));
+        import || line.starts_with("unfoldable pub ") || line.starts_with(name)
+    };
+    let code = text.replace(&format!("{}(", name), "");
+    code.lines().filter(|line| !own(line)).any(|line| words(line).any(|word| word == name))
 }
 
 fn complaints(code: &str, definitions: &str) -> Vec<String> {
@@ -55,10 +61,15 @@ fn every_enum_that_answers_has_numbers_that_contracts_use() {
 
 #[test]
 fn what_is_missing_is_found() {
-    let code = "pub enum Taken {\n    ensures { λ r. ⌜ takenNumber r ≡ 0 ⌝ }\n";
-    let definition = "unfoldable pub takenNumber : Taken → ℕ\ntakenNumber (Got b) = 0\n";
+    let code = "pub enum Taken {\n    ensures { taken_number result ≡ 0 }\n";
+    let definition = "unfoldable pub taken_number : Taken → ℕ\ntaken_number (Got b) = 0\n";
     assert!(complaints(code, definition).is_empty());
     assert_eq!(complaints(code, ""), ["Taken has no numbers"]);
-    assert_eq!(complaints(&code.replace("takenNumber", "other"), definition), ["nothing cites takenNumber"]);
+    assert_eq!(complaints(&code.replace("taken_number", "other"), definition), ["nothing cites taken_number"]);
     assert_eq!(complaints(&code.replace("Taken", "Took"), definition), ["Took has no numbers"]);
+    // Neither a function of that name nor an import of it says anything.
+    for line in ["pub fn taken_number(t: Taken) -> u32", "use taken::{\n    other, taken_number,\n};"] {
+        let without = code.replace("    ensures { taken_number result ≡ 0 }", line);
+        assert_eq!(complaints(&without, definition), ["nothing cites taken_number"]);
+    }
 }

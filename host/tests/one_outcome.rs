@@ -2,7 +2,7 @@
 mod repository;
 
 use repository::{files, root};
-use std::collections::BTreeMap;
+use std::collections::{BTreeMap, BTreeSet};
 use std::fs;
 use std::path::Path;
 
@@ -25,10 +25,10 @@ impl Function {
     /// Its name in the theorems: a method has its type's name in front.
     fn law(&self) -> String {
         let owner = self.owner.iter().map(|owner| owner.to_lowercase());
-        owner.chain([self.name.replace('_', "-")]).collect::<Vec<_>>().join("-")
+        owner.chain([self.name.clone()]).collect::<Vec<_>>().join("_")
     }
 
-    /// Its module among the proofs of its crate.
+    /// Its module among the proofs of its crate, and among the contracts.
     fn module(&self) -> String {
         let file = Some(self.file.clone()).filter(|file| file != "lib" && file != "main");
         file.into_iter().chain(self.owner.clone()).chain([self.name.clone()]).collect::<Vec<_>>().join(".")
@@ -63,7 +63,7 @@ fn functions(crate_name: &str, file: &str, source: &str) -> Vec<Function> {
                 crate_name: crate_name.to_string(),
                 file: file.to_string(),
                 owner: owner.clone(),
-                name: named.split('(').next().unwrap().to_string(),
+                name: named.split(|c| c == '(' || c == '<').next().unwrap().to_string(),
                 buffers: signature.matches("&mut ").count(),
                 shows: signature.contains("-> &"),
             });
@@ -72,15 +72,31 @@ fn functions(crate_name: &str, file: &str, source: &str) -> Vec<Function> {
     found
 }
 
+/// The name that a file of theorems gives a module.
+fn brought<'a>(theorems: &'a str, module: &'a str) -> Option<&'a str> {
+    let items = theorems.lines().filter_map(|line| line.strip_prefix("use ")?.strip_prefix(module));
+    let last = module.rsplit('.').next();
+    items.filter_map(|rest| if rest.is_empty() { last } else { rest.strip_prefix(" as ") }).next()
+}
+
+/// The buffers whose contents a statement speaks of.
+fn buffers(statement: &str) -> usize {
+    let words = statement.split(|c: char| c.is_whitespace() || c == '(' || c == ')');
+    words.filter(|word| word.starts_with("s.") && word.ends_with(".now")).collect::<BTreeSet<_>>().len()
+}
+
 /// Whether the theorems of a crate have that of the function: in its form, over its contract, with each of its buffers.
 fn proved(theorems: &str, function: &Function) -> bool {
-    let law = function.law();
-    let cites = format!("use Rattle·{}·proofs.proofs.{} as {}", function.crate_name, function.module(), law);
-    let begins = format!("pub {}-one-outcome : {} {}.ended ", law, function.form(), law);
-    let ends = format!(" {}.Reads.Post", law);
-    let buffers = |line: &str| line.matches("now (s ").count();
+    let module = |kind: &str| format!("Rattle.{}.{}.{}", function.crate_name, kind, function.module());
+    let (proofs, contracts) = (module("proofs"), module("specs.contracts"));
+    let (proof, contract) = match (brought(theorems, &proofs), brought(theorems, &contracts)) {
+        (Some(proof), Some(contract)) => (proof, contract),
+        _ => return false,
+    };
+    let begins = format!("pub {}_one_outcome : {} {}.ended ", function.law(), function.form(), contract);
+    let ends = format!(" {}.Reads.Post", proof);
     let states = |line: &str| line.starts_with(&begins) && line.ends_with(&ends) && buffers(line) == function.buffers;
-    theorems.lines().any(|line| line == cites) && theorems.lines().any(states)
+    theorems.lines().any(states)
 }
 
 /// The functions that the page leaves out: the file, the name and the reason.
@@ -134,7 +150,7 @@ fn every_public_function_has_one_outcome_or_a_reason() {
 
 const CODE: &str = "// A file.
 pub fn take(s: &[u8]) -> u8
-    ensures { λ r. ⌜ r ≡ 0 ⌝ }
+    ensures { result ≡ 0 }
 {
 }
 
@@ -151,10 +167,12 @@ pub fn say(n: u8) {
 }
 ";
 
-const LAWS: &str = "use Rattle·a·proofs.proofs.take as take
-use Rattle·a·proofs.proofs.Place.put as place-put
-pub take-one-outcome : OneAnswer take.ended take.Reads.Post
-pub place-put-one-outcome : OneOutcome place-put.ended (λ κs s. now (s .1 .0)) place-put.Reads.Post
+const LAWS: &str = "use Rattle.a.proofs.take
+use Rattle.a.specs.contracts.take as take_contract
+use Rattle.a.proofs.Place.put as place_put
+use Rattle.a.specs.contracts.Place.put as place_put_contract
+pub take_one_outcome : OneAnswer take_contract.ended take.Reads.Post
+pub place_put_one_outcome : OneOutcome place_put_contract.ended (λ κs s. s.1.0.now) place_put.Reads.Post
 ";
 
 const PAGE: &str = "# Page\n\n## Where freedom is left\n\n- [`say`](../crates/a/src/lib.rt): it prints.\n\n## Next\n";
@@ -168,11 +186,16 @@ fn tried(code: &str, laws: &str, page: &str) -> String {
 fn what_is_missing_or_too_much_is_found() {
     assert_eq!(tried(CODE, LAWS, PAGE), "");
     let without = |name: &str| format!("{} of crates/a/src/lib.rt has no theorem and no reason", name);
-    assert_eq!(tried(CODE, &LAWS.replace("pub take-one", "pub taken-one"), PAGE), without("take"));
+    assert_eq!(tried(CODE, &LAWS.replace("pub take_one", "pub taken_one"), PAGE), without("take"));
     assert_eq!(tried(CODE, &LAWS.replace("take.Reads", "other.Reads"), PAGE), without("take"));
-    assert_eq!(tried(CODE, &LAWS.replace("proofs.take ", "proofs.other "), PAGE), without("take"));
+    assert_eq!(tried(CODE, &LAWS.replace("proofs.take\n", "proofs.other\n"), PAGE), without("take"));
+    assert_eq!(tried(CODE, &LAWS.replace("contracts.take ", "contracts.other "), PAGE), without("take"));
+    assert_eq!(tried(CODE, &LAWS.replace("take_contract.ended", "other_contract.ended"), PAGE), without("take"));
     assert_eq!(tried(CODE, &LAWS.replace("OneOutcome", "OneAnswer"), PAGE), without("put"));
-    assert_eq!(tried(CODE, &LAWS.replace("(λ κs s. now (s .1 .0)) ", ""), PAGE), without("put"));
+    assert_eq!(tried(CODE, &LAWS.replace("(λ κs s. s.1.0.now) ", ""), PAGE), without("put"));
+    let twice = CODE.replace("out: &mut [u8]", "out: &mut [u8], to: &mut [u8]");
+    assert_eq!(tried(&twice, &LAWS.replace("s.1.0.now", "s.1.0.now ++ s.1.0.now"), PAGE), without("put"));
+    assert_eq!(tried(&twice, &LAWS.replace("s.1.0.now", "s.1.0.now ++ s.1.1.0.now"), PAGE), "");
     assert_eq!(tried(&CODE.replace("fn inner", "pub fn inner"), LAWS, PAGE), without("inner"));
     assert_eq!(tried(CODE, LAWS, &PAGE.replace("say", "told")).matches(" of ").count(), 2);
     assert!(tried(&CODE.replace("say", "told"), LAWS, PAGE)

@@ -24,7 +24,7 @@ const OTHERS: [&[&str]; 7] = [&[""], &["9"], &["955"], &["96"], &["strict"], &["
 fn built(name: &str) -> PathBuf {
     let beside = || Path::new(env!("CARGO_MANIFEST_DIR")).join("../target/bin");
     let path = env::var_os("HERRINGNET_PROGRAMS").map_or_else(beside, PathBuf::from).join(name);
-    assert!(path.is_file(), "{} is not there: rt check {} builds it", path.display(), name);
+    assert!(path.is_file(), "{} is not there: tools/host test builds it", path.display());
     path
 }
 

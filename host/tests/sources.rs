@@ -2,7 +2,7 @@
 use std::collections::BTreeSet;
 
 const BOUNDARY: &str = include_str!("../src/boundary.rs");
-const SCHEDULER: &str = include_str!("../../crates/scheduler/src/lib.rt");
+const EXPORTS: &str = include_str!("../../crates/scheduler_c/src/lib.rt");
 
 /// What declares an exported function, each on a line and without what stands around it.
 fn exported(source: &str) -> BTreeSet<String> {
@@ -16,7 +16,7 @@ fn exported(source: &str) -> BTreeSet<String> {
 #[test]
 fn declarations_follow_the_rattle_source() {
     assert_eq!(exported(BOUNDARY).len(), 20);
-    assert_eq!(exported(BOUNDARY), exported(SCHEDULER));
+    assert_eq!(exported(BOUNDARY), exported(EXPORTS));
 }
 
 /// A parameter of the Rattle source as parameters of the declaration: a slice is a pointer and a length.

@@ -19,11 +19,14 @@ pub fn root() -> PathBuf {
     Path::new(env!("CARGO_MANIFEST_DIR")).parent().unwrap().to_path_buf()
 }
 
-/// All files under a folder whose names end so, in a fixed order.
+/// All files under a folder whose names end so, in a fixed order; not what the prover makes.
 pub fn files(folder: &Path, ending: &str) -> Vec<PathBuf> {
     let mut found = Vec::new();
     let mut left = vec![folder.to_path_buf()];
     while let Some(path) = left.pop() {
+        if is_made(&path) {
+            continue;
+        }
         if path.is_dir() {
             left.extend(fs::read_dir(&path).unwrap().map(|entry| entry.unwrap().path()));
         } else if path.to_str().unwrap().ends_with(ending) {
@@ -34,33 +37,46 @@ pub fn files(folder: &Path, ending: &str) -> Vec<PathBuf> {
     found
 }
 
-/// The words of a text that can be names.
-pub fn words(text: &str) -> impl Iterator<Item = &str> {
-    text.split(|c: char| c.is_whitespace() || "(){}.;,@\"«»⌜⌝".contains(c)).filter(|word| !word.is_empty())
+/// The folder `out` of a crate has copies of the libraries under it.
+fn is_made(path: &Path) -> bool {
+    let inside = path.strip_prefix(root().join("crates"));
+    inside.map_or(false, |path| path.iter().count() == 2 && path.ends_with("out"))
 }
 
-/// What the `use` lines of a file bring from modules of definitions, by the name that the file gives it.
+/// The words of a text that can be names.
+pub fn words(text: &str) -> impl Iterator<Item = &str> {
+    text.split(|c: char| c.is_whitespace() || "(){}.;,@\"«»".contains(c)).filter(|word| !word.is_empty())
+}
+
+/// What the `use` items of a file bring from modules of definitions, by the name that the file gives it.
 pub fn imports(text: &str) -> BTreeMap<String, Name> {
-    let lines = text.lines().filter_map(|line| line.strip_prefix("ghost ").unwrap_or(line).strip_prefix("use Rattle·"));
-    lines.filter_map(|line| line.split_once(".{")).flat_map(|(module, names)| imported(module, names)).collect()
+    let items = text.match_indices("use Rattle.").filter(|(at, _)| {
+        let before = text[..*at].strip_suffix("ghost ").unwrap_or(&text[..*at]);
+        before.is_empty() || before.ends_with('\n')
+    });
+    let rests = items.map(|(at, begins)| &text[at + begins.len()..]);
+    // An item may go over several lines; its module stands on the first.
+    let several = rests.filter(|rest| rest.lines().next().unwrap().contains(".{"));
+    let named = several.filter_map(|rest| rest.split('}').next()?.split_once(".{"));
+    named.flat_map(|(module, names)| imported(module, names)).collect()
 }
 
 fn imported(module: &str, names: &str) -> Vec<(String, Name)> {
-    let owner = module.split_once("·specs.specs.").or_else(|| module.split_once(".specs."));
-    let names = names.trim_end_matches(|c| c == ';' || c == '}').split(',').map(str::trim);
+    let owner = module.split_once(".specs.");
+    let names = names.split(',').map(str::trim).filter(|name| !name.is_empty());
     let pairs = names.map(|name| name.split_once(" as ").unwrap_or((name, name)));
     let whole =
         |(library, module): (&str, &str), name: &str| (library.to_string(), module.to_string(), name.to_string());
     pairs.filter_map(|(name, here)| owner.map(|owner| (here.to_string(), whole(owner, name)))).collect()
 }
 
-/// The names that a text uses, of those that are at hand; an operator is used without its underscores, one of several parts by its first.
+/// The names that a text uses, of those that are at hand; an operator is used without its circles, one of several parts by its first.
 pub fn used(text: &str, at_hand: &BTreeMap<String, Name>) -> Vec<Name> {
     let several = |word: &str| {
-        let begins = format!("_{}_", word);
+        let begins = format!("◌{}◌", word);
         at_hand.keys().find(|name| name.len() > begins.len() && name.starts_with(&begins)).cloned()
     };
-    let all = words(text).flat_map(|word| [Some(word.to_string()), Some(format!("_{}_", word)), several(word)]);
+    let all = words(text).flat_map(|word| [Some(word.to_string()), Some(format!("◌{}◌", word)), several(word)]);
     all.flatten().filter_map(|word| at_hand.get(&word).cloned()).collect()
 }
 
