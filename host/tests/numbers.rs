@@ -1,22 +1,84 @@
-//! Every enum that answers has a definition of its cases' numbers, and what contracts cite speaks through it.
+//! Every answer of several cases has a definition of its cases' numbers, and what contracts cite speaks through it, or a theorem says them.
 mod repository;
 
 use repository::{files, root, words};
+use std::collections::BTreeSet;
 use std::fs;
 
 /// No answers: the two kinds of a label, which a record holds, and the profile, which a call is given.
 const HELD: &[&str] = &["Label", "Profile"];
+
+/// The answers that are a Result or an Option, as the code and as the definitions write the type, and what takes each to its numbers.
+const NUMBERED: &[(&str, &str, &str)] = &[
+    ("Verdict", "Verdict", "answer_number"),
+    ("Result<(u32, Cursor), Cursor>", "Result (ℕ × Cursor) Cursor", "took_number"),
+    ("Result<Cursor, Cursor>", "Result Cursor Cursor", "skipped_number"),
+    ("Option<usize>", "Option ℕ", "zero_number"),
+    ("Result<(Place, Cursor), Refusal>", "{A : Type 0} → Result (A × Cursor) Refusal", "taken_number"),
+    ("Result<(Header, Cursor), Refusal>", "Result (Header × Cursor) Refusal", "header_number"),
+    ("Result<Cursor, Refusal>", "Result Cursor Refusal", "info_number"),
+    ("Result<SectionEnds, Refusal>", "Result SectionEnds Refusal", "next_number"),
+    ("Result<Option<Block>, Fault>", "BlockStep", "step_number"),
+    ("Result<usize, usize>", "Result ℕ ℕ", "end_number"),
+    ("Result<usize, usize>", "Result ℕ ℕ", "volume_number"),
+    ("Result<NetworkTexts, usize>", "Result NetworkTexts ℕ", "network_number"),
+];
+
+/// Of these only theorems say the numbers; of all others contracts do, or definitions.
+const BY_THEOREMS: &[&str] =
+    &["took_number", "skipped_number", "zero_number", "end_number", "volume_number", "network_number"];
+
+/// Answers that tell a number or a record from a field or a section at fault, and a text or a place from none: neither case has a number of its own.
+/// The place of an entry on a shelf has the number of its verdict, and so has what salvage saved.
+const PLAIN: &[&str] = &[
+    "Result<(), usize>",
+    "Result<Found<usize>, usize>",
+    "Result<Found<NetworkTexts>, usize>",
+    "Result<usize, Refusal>",
+    "Option<Found<usize>>",
+    "Option<Place>",
+    "Result<Place, Refused>",
+    "Result<Salvaged, Refused>",
+];
 
 /// The enums that a file of code declares.
 fn enums(source: &str) -> impl Iterator<Item = &str> {
     source.lines().filter_map(|line| line.strip_prefix("pub enum ")?.split_whitespace().next())
 }
 
+/// What the functions of a file of code answer, each with whether it is public.
+fn answers(source: &str) -> Vec<(bool, &str)> {
+    let functions = source.match_indices("fn ").filter(|(at, _)| {
+        let before = source[..*at].rsplit('\n').next().unwrap().trim_start();
+        ["", "pub ", "pub(crate) "].contains(&before)
+    });
+    let signature = |at: usize| source[at..].split(" {\n").next()?.split("{\n").next();
+    let answer = |at: usize| signature(at)?.split_once(") -> ")?.1.lines().next();
+    functions.filter_map(|(at, _)| Some((source[..at].ends_with("pub "), answer(at)?.trim_end()))).collect()
+}
+
 /// The definition that takes this type to its numbers.
 fn number_of<'a>(definitions: &'a str, answer: &str) -> Option<&'a str> {
     let typed = format!(" : {} → ℕ", answer);
-    let named = definitions.lines().filter_map(|line| line.strip_prefix("unfoldable pub ")?.strip_suffix(&typed));
+    let named = definitions.lines().filter_map(|line| definition(line)?.strip_suffix(&typed));
     named.into_iter().find(|name| name.to_lowercase().contains("number"))
+}
+
+/// What stands behind the words that begin a definition.
+fn definition(line: &str) -> Option<&str> {
+    line.strip_prefix("unfoldable pub ").or_else(|| line.strip_prefix("abbrev pub "))
+}
+
+/// A definition that is another name of one, as `header_number r = taken_number r`: the two names.
+fn again(line: &str) -> Option<(&str, &str)> {
+    let (head, body) = line.split_once(" = ")?;
+    let ((name, given), (one, handed)) = (head.split_once(' ')?, body.split_once(' ')?);
+    (given == handed).then(|| (name, one))
+}
+
+/// A line that opens definitions for a proof, which says nothing.
+fn opens(line: &str) -> bool {
+    ["unfolding ", "#[tactic("].iter().any(|word| line.trim_start().starts_with(word))
 }
 
 /// Whether other lines than its own use a name; a function of the code may have it too, and stands before a bracket.
@@ -25,21 +87,69 @@ fn cited(text: &str, name: &str) -> bool {
     let mut own = |line: &str| {
         let import = importing || line.starts_with("use ") || line.starts_with("ghost use ");
         importing = import && !line.contains('}') && (importing || line.contains('{'));
-        import || line.starts_with("unfoldable pub ") || line.starts_with(name)
+        import
+            || opens(line)
+            || definition(line).is_some()
+            || line.starts_with(name)
+            || again(line).map_or(false, |(_, one)| one == name)
     };
     let code = text.replace(&format!("{}(", name), "");
     code.lines().filter(|line| !own(line)).any(|line| words(line).any(|word| word == name))
 }
 
+/// Whether what these texts say speaks through a definition, or it is another name of one of which this holds.
+fn used(all: &[&str], name: &str) -> bool {
+    let mut lines = all.iter().flat_map(|text| text.lines());
+    let stands_for = lines.find_map(|line| again(line).filter(|(own, _)| *own == name));
+    all.iter().any(|text| cited(text, name)) || stands_for.map_or(false, |(_, one)| used(all, one))
+}
+
+/// Whether an answer is one of two, which the code names by no enum of its own.
+fn is_either(answer: &str) -> bool {
+    answer.starts_with("Result<") || answer.starts_with("Option<")
+}
+
+/// The answers of several cases that public functions give, each once.
+fn kinds(code: &str) -> BTreeSet<&str> {
+    let own: Vec<&str> = enums(code).filter(|name| !HELD.contains(name)).collect();
+    let given = answers(code).into_iter().filter(|(public, _)| *public).map(|(_, answer)| answer);
+    given.filter(|one| is_either(one) || *one == "Verdict" || own.contains(one)).collect()
+}
+
 fn complaints(code: &str, definitions: &str) -> Vec<String> {
     let mut found = Vec::new();
+    let all = [code, definitions];
     for answer in enums(code).filter(|name| !HELD.contains(name)) {
         match number_of(definitions, answer) {
             None => found.push(format!("{} has no numbers", answer)),
-            Some(name) if !cited(code, name) && !cited(definitions, name) => {
-                found.push(format!("nothing cites {}", name))
-            }
+            Some(name) if !used(&all, name) => found.push(format!("nothing cites {}", name)),
             _ => (),
+        }
+    }
+    for (public, answer) in answers(code) {
+        let known = NUMBERED.iter().any(|(typed, _, _)| *typed == answer) || PLAIN.contains(&answer);
+        if public && is_either(answer) && !known {
+            found.push(format!("{} has no numbers", answer));
+        }
+    }
+    found
+}
+
+/// What is missing of the rows: that a function answers so, and that the definition stands and is used.
+fn rows(code: &str, definitions: &str, theorems: &str) -> Vec<String> {
+    let mut found = Vec::new();
+    let answers = answers(code);
+    for (answer, typed, name) in NUMBERED {
+        let line = format!("{} : {} → ℕ", name, typed);
+        if !answers.iter().any(|(_, one)| one == answer) {
+            found.push(format!("nothing answers {}", answer));
+        }
+        if !definitions.lines().any(|one| definition(one) == Some(&line)) {
+            found.push(format!("{} has no numbers", answer));
+        }
+        let said = if BY_THEOREMS.contains(name) { [theorems, ""] } else { [code, definitions] };
+        if !used(&said, name) {
+            found.push(format!("nothing cites {}", name));
         }
     }
     found
@@ -52,10 +162,12 @@ fn texts(part: &str, ending: &str) -> String {
 }
 
 #[test]
-fn every_enum_that_answers_has_numbers_that_contracts_use() {
+fn every_answer_of_several_cases_has_numbers_that_contracts_or_theorems_use() {
     let code = texts("src", ".rt");
-    assert!(enums(&code).count() > 12, "the enums are gone");
-    let wrong = complaints(&code, &texts("specs", ".antt"));
+    assert!(kinds(&code).len() > 12, "the answers are gone");
+    let (definitions, theorems) = (texts("specs", ".antt"), texts("proofs", ".antt"));
+    let wrong: Vec<String> =
+        complaints(&code, &definitions).into_iter().chain(rows(&code, &definitions, &theorems)).collect();
     assert!(wrong.is_empty(), "{}", wrong.join("\n"));
 }
 
@@ -67,9 +179,58 @@ fn what_is_missing_is_found() {
     assert_eq!(complaints(code, ""), ["Taken has no numbers"]);
     assert_eq!(complaints(&code.replace("taken_number", "other"), definition), ["nothing cites taken_number"]);
     assert_eq!(complaints(&code.replace("Taken", "Took"), definition), ["Took has no numbers"]);
-    // Neither a function of that name nor an import of it says anything.
-    for line in ["pub fn taken_number(t: Taken) -> u32", "use taken::{\n    other, taken_number,\n};"] {
+    // Neither a function of that name nor an import of it says anything, nor what opens it for a proof.
+    for line in [
+        "pub fn taken_number(t: Taken) -> u32",
+        "use taken::{\n    other, taken_number,\n};",
+        "  unfolding taken_number",
+        "#[tactic(auto, unfolding(crate::specs::Taken::taken_number))]",
+    ] {
         let without = code.replace("    ensures { taken_number result ≡ 0 }", line);
         assert_eq!(complaints(&without, definition), ["nothing cites taken_number"]);
     }
+}
+
+#[test]
+fn answers_are_counted_once_and_without_what_is_held() {
+    let code = "pub enum Taken {\n}\npub enum Label {\n}\n\
+        pub fn one() -> Verdict\n{\npub fn other() -> Verdict\n{\npub fn find() -> Option<usize>\n{\n\
+        pub fn take() -> Taken\n{\npub fn label() -> Label\n{\nfn own() -> Option<Place>\n{\npub fn plain() -> usize\n{\n";
+    assert_eq!(kinds(code).into_iter().collect::<Vec<_>>(), ["Option<usize>", "Taken", "Verdict"]);
+}
+
+#[test]
+fn an_answer_without_numbers_is_found() {
+    let code = "    pub fn skip(\n        self,\n    ) -> Result<Cursor, Cursor>\n        ensures { result ≡ skipped }\n    {\n";
+    let definition = "unfoldable pub skipped_number : Result Cursor Cursor → ℕ\nskipped_number (Ok c) = 0\n";
+    let theorem = "pub skipped_has_number : skipped_number (skipped s) ≡ 0\n";
+    assert_eq!(answers(code), [(true, "Result<Cursor, Cursor>")]);
+    assert!(complaints(code, definition).is_empty());
+    for (from, to) in [("Cursor>", "Place>"), ("Result<Cursor, Cursor>", "Option<Cursor>")] {
+        let other = code.replace(from, to);
+        let answer = answers(&other)[0].1;
+        assert_eq!(complaints(&other, definition), [format!("{} has no numbers", answer)]);
+    }
+    let of_skip = |found: Vec<String>| {
+        found
+            .into_iter()
+            .filter(|one| one.contains("Result<Cursor, Cursor>") || one.contains("skipped"))
+            .collect::<Vec<_>>()
+    };
+    assert!(of_skip(rows(code, definition, theorem)).is_empty());
+    assert_eq!(of_skip(rows("", definition, theorem)), ["nothing answers Result<Cursor, Cursor>"]);
+    assert_eq!(of_skip(rows(code, "", theorem)), ["Result<Cursor, Cursor> has no numbers"]);
+    assert_eq!(of_skip(rows(code, definition, "")), ["nothing cites skipped_number"]);
+    assert_eq!(of_skip(rows(code, definition, "  unfolding skipped_number\n")), ["nothing cites skipped_number"]);
+    // What contracts say through a definition is not left to a theorem.
+    let of_verdict = |found: Vec<String>| found.iter().any(|one| one == "nothing cites answer_number");
+    assert!(of_verdict(rows(code, definition, "pub told : answer_number v ≡ 0\n")));
+    assert!(!of_verdict(rows(code, "Numbered v o = answer_number v ≡ outcome_number o\n", "")));
+    // Another name of a definition that is used is used.
+    let again = format!(
+        "{}abbrev pub other_number : Result Cursor Cursor → ℕ\nother_number r = skipped_number r\n",
+        definition
+    );
+    assert!(used(&[&again, theorem], "other_number"));
+    assert!(!used(&[&again, ""], "other_number"));
 }

@@ -44,6 +44,16 @@ impl Function {
     }
 }
 
+/// The type whose methods begin with this line, without its parameters.
+fn implemented(line: &str) -> Option<String> {
+    let rest = line.strip_prefix("impl")?;
+    let named = match rest.strip_prefix('<') {
+        Some(parameters) => parameters.split_once("> ")?.1,
+        None => rest.strip_prefix(' ')?,
+    };
+    named.split(|c: char| c.is_whitespace() || c == '<').next().map(str::to_string)
+}
+
 /// The public functions of a file of code.
 fn functions(crate_name: &str, file: &str, source: &str) -> Vec<Function> {
     let mut owner = None;
@@ -51,8 +61,8 @@ fn functions(crate_name: &str, file: &str, source: &str) -> Vec<Function> {
     for (at, _) in source.match_indices('\n') {
         let rest = &source[at + 1..];
         let line = rest.lines().next().unwrap_or("");
-        if let Some(named) = line.strip_prefix("impl ") {
-            owner = named.split_whitespace().next().map(str::to_string);
+        if let Some(named) = implemented(line) {
+            owner = Some(named);
         } else if line == "}" {
             owner = None;
         }
@@ -154,7 +164,7 @@ pub fn take(s: &[u8]) -> u8
 {
 }
 
-impl Place {
+impl<'a> Place<'a> {
     pub fn put(self, out: &mut [u8]) -> u8
     {
     }
@@ -185,6 +195,8 @@ fn tried(code: &str, laws: &str, page: &str) -> String {
 #[test]
 fn what_is_missing_or_too_much_is_found() {
     assert_eq!(tried(CODE, LAWS, PAGE), "");
+    // A type has parameters or none.
+    assert_eq!(tried(&CODE.replace("impl<'a> Place<'a> {", "impl Place {"), LAWS, PAGE), "");
     let without = |name: &str| format!("{} of crates/a/src/lib.rt has no theorem and no reason", name);
     assert_eq!(tried(CODE, &LAWS.replace("pub take_one", "pub taken_one"), PAGE), without("take"));
     assert_eq!(tried(CODE, &LAWS.replace("take.Reads", "other.Reads"), PAGE), without("take"));

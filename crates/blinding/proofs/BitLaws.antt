@@ -11,10 +11,7 @@ use Rattle.format.specs.declared.Profile.{Profile}
 use Rattle.format.specs.declared.Place.{Place}
 use Rattle.format.specs.declared.Record.{Record}
 use Rattle.format.specs.declared.StoreRow.{StoreRow}
-use Rattle.format.specs.declared.Fault.{Fault}
-use Rattle.format.specs.declared.Verdict.{Verdict}
-use Rattle.format.specs.declared.Verdict.TheVariants.{Accepted, Refused}
-use Rattle.format.specs.declared.Spot.{Spot}
+use Rattle.format.specs.declared.Refusal.{Refusal}
 use Rattle.format.specs.Tests.{got, refused}
 use Rattle.format.specs.Numbers.{Numbered}
 use Rattle.format.specs.Blocks.{slot_of, size_fits, blocks, first_place}
@@ -32,11 +29,14 @@ use Rattle.format.proofs.FoundLaws.{read_Walk}
 use Rattle.format.proofs.HeldLaws.{first_held}
 use Rattle.blocks.specs.Steps.Walk.{block_from}
 use Rattle.blocks.proofs.FirstLaws.{First-block}
-use Rattle.reader.specs.Steps.Finish.{FirstsOf}
+use Rattle.reader.specs.Steps.Finish.{FirstsOf, outline}
+use Rattle.reader.proofs.OutlineLaws.{outline_refused}
 use Rattle.storing.specs.Steps.Stored.{Holds}
 use Rattle.storing.proofs.ListLaws.{store_field}
 use Rattle.blinding.specs.Steps.Bits.{AllInside, PathAt, names_in, bits_from, bits_by, bits_in}
 use Rattle.blinding.proofs.TextLaws.{not_none}
+use Rattle.format.specs.Verdicts.{Verdict, refused_at}
+use Rattle.std.specs.Prelude.{Ok, Err}
 
 -- ---- where the blocks stand
 
@@ -96,7 +96,7 @@ module _ (profile : Profile) (s : List ℕ) (r : Record) (a : Accepts profile s 
       let field : get_or row k 0 ≡ first_field s signature start lengths = ap (λ (l : List ℕ). get_or l k 0) is ∙ e in
       record { reached = rw field F.field; is = ap (block_from s) field ∙ F.block } in
       let S = store_field profile s r a noted in
-      let T = S.stored refl refl in
+      let T = S.stored refl in
       record {
         sections = c;
         is = x.is;
@@ -145,11 +145,11 @@ blind_call profile s e = (e, numbered (key_blind profile s) e)
 
 module _ (profile : Profile) (s : List ℕ) where
   -- leaving with the refusal
-  pub blind_left : {f : Fault} {p : Spot} → shortcut profile s ≡ refused f p → BlindCall profile s (Refused f p.position)
+  pub blind_left : {r : Refusal} → Err r ≡ outline profile s → BlindCall profile s (refused_at r.fault r.spot.position)
   unfolding key_blind_answer key_blind
-  blind_left e = blind_call profile s (rw e)
+  blind_left e = let z = outline_refused profile s (sym e) in blind_call profile s (rw z)
 
-  pub blind_told : (r : Record) → Accepts profile s r → {bits : ℕ} → bits ≡ bits_in profile s → BlindCall profile s (Accepted bits)
+  pub blind_told : (r : Record) → Accepts profile s r → {bits : ℕ} → bits ≡ bits_in profile s → BlindCall profile s (Ok bits)
   unfolding key_blind_answer key_blind bits_in Accepts
   blind_told r a {bits} i =
       let x = accepted_Read profile s r (length s) a in

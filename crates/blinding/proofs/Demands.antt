@@ -9,7 +9,6 @@ use Rattle.octets.specs.Characters.{units, before_zero}
 use Rattle.format.specs.declared.Profile.{Profile}
 use Rattle.format.specs.declared.Profile.TheVariants.{Strict, NinetyFive}
 use Rattle.format.specs.declared.Record.{Record}
-use Rattle.format.specs.declared.Verdict.TheVariants.{Accepted}
 use Rattle.format.specs.Tests.{got}
 use Rattle.format.specs.Presence.{relative_bit, local_there}
 use Rattle.format.specs.Header.{identifier_ok, signed}
@@ -35,6 +34,7 @@ use Rattle.format.proofs.CodepageLaws.{units_are}
 use Rattle.format.proofs.KeyDemands.{record_Tells, same_key}
 use Rattle.blinding.proofs.Rows.{item, one_item, block, local, environment, valued, store, rv32, rv64, garbled, variable32, variable64}
 use Rattle.format.proofs.BlindLaws.{Clear, clear, both_false, second_false, twin_translates, translation_is, part_translates, joined_units}
+use Rattle.std.specs.Prelude.{Ok}
 
 -- ---- one shortcut
 
@@ -44,13 +44,13 @@ pub record Unblind (profile : Profile) (s : List ℕ) (r : Record) : Type 0 wher
   pub read : shortcut profile s ≡ got sections (length s)
   pub clear : Clear (nameless (key_in profile s) r) (other_target s r) (other_environment s (block_of s sections 0xA0000001))
 
-module _ (profile : Profile) (s : List ℕ) (r : Record) (bits : ℕ) (a : Accepts profile s r) (e : key_blind_answer profile s ≡ Accepted bits) (told : is_told bits ≡ true) where
+module _ (profile : Profile) (s : List ℕ) (r : Record) (bits : ℕ) (a : Accepts profile s r) (e : key_blind_answer profile s ≡ Ok bits) (told : is_told bits ≡ true) where
   unblind : Unblind profile s r
   unfolding Accepts key_blind_answer key_blind blind_bits key_in
   unblind =
       let x = accepted_Read profile s r (length s) a in
       let c = x.sections in
-      let v : Accepted (blind_bits s c) ≡ Accepted bits = rw x.is at e in
+      let v : Ok (blind_bits s c) ≡ Ok bits = rw x.is at e in
       let b : blind_bits s c ≡ bits = cc in
       let h = clear (nameless (key_of s c) (record_of c)) (other_target s (record_of c)) (other_environment s (block_of s c 0xA0000001)) (is_there (block_of s c 0xA0000006) || is_there (block_of s c 0xA000000C)) (has_values (rows_of s c)) (rw (← b) at told) in
       record {
@@ -100,8 +100,8 @@ module _ (profile : Profile) (s : List ℕ) (r : Record) (bits : ℕ) (a : Accep
 -- ---- two with one key
 
 pub same_driver : (profile : Profile) (s t out other : List ℕ) (r q : Record) (n m bits more : ℕ) → Accepts profile s r → Accepts profile t q
-    → key_answer profile s out ≡ Accepted n → key_answer profile t other ≡ Accepted m → take n (key_output profile s out) ≡ take m (key_output profile t other)
-    → key_blind_answer profile s ≡ Accepted bits → key_blind_answer profile t ≡ Accepted more → is_told bits ≡ true → is_told more ≡ true
+    → key_answer profile s out ≡ Ok n → key_answer profile t other ≡ Ok m → take n (key_output profile s out) ≡ take m (key_output profile t other)
+    → key_blind_answer profile s ≡ Ok bits → key_blind_answer profile t ≡ Ok more → is_told bits ≡ true → is_told more ≡ true
     → SameDriver profile s t r q
 same_driver profile s t out other r q n m bits more a b e f same blind dark told known =
     let parts : SameParts (key_in profile s) (key_in profile t) = (same_key profile s t out other n m e f).0 same in
@@ -123,10 +123,10 @@ same_driver profile s t out other r q n m bits more a b e f same blind dark told
 -- ---- no bit is idle: for each, two shortcuts with one key that differ in just that
 
 -- what strict accepts 95 reads as the same
-same_outcome : (s : List ℕ) → (reading Strict s).verdict ≡ Accepted (length s) → shortcut NinetyFive s ≡ shortcut Strict s
+same_outcome : (s : List ℕ) → (reading Strict s).verdict ≡ Ok (length s) → shortcut NinetyFive s ≡ shortcut Strict s
 unfolding reading
 same_outcome s v =
-    let e : reading Strict s ≡ record { verdict = Accepted (length s); held = (reading Strict s).held } = rw v in
+    let e : reading Strict s ≡ record { verdict = Ok (length s); held = (reading Strict s).held } = rw v in
     let x = accepted_Read Strict s (reading Strict s).held (length s) e in
     shortcut_within s x.sections (length s) x.is ∙ sym x.is
 

@@ -1,24 +1,24 @@
 -- The texts of the environment block, and whether the key names a driver.
 use mathlib.Core.Path.{◌≡◌, refl, sym, ap, ◌∙◌}
 use mathlib.Core.List.{List, [], ◌∷◌}
+use Rattle.std.specs.Prelude.{Some, None, if◌then◌else◌, unwrap_or}
 use mathlib.Core.Bool.{Bool, true, false, not, ◌||◌, cond}
 use Prim.Native.Nat.{ℕ, zero, suc, ◌+◌, ◌-◌, ◌*◌, ◌/◌, ◌≤◌}
 use native.Mathlib.Omega.{arith}
 use lib.ListN.{length, take, drop}
 use lib.Seq.{take-take}
 use lib.Dec.{leb, eqb}
+use mir.Val.{bool_byte}
 use borrow.Author.Tests.{ltb-false, leb-true, leb-false, le-leb, lt-leb, ne_eqb, not-true, not-false}
-use Rattle.octets.specs.Characters.{bytes_of, units, characters, before_zero}
+use Rattle.octets.specs.Characters.{bytes_of, units, characters, before_zero, has_zero}
 use Rattle.octets.specs.Steps.Scans.{zero_from}
 use Rattle.octets.specs.Steps.Puts.{part}
-use Rattle.octets.specs.declared.Zero.{Zero}
-use Rattle.octets.specs.declared.Zero.TheVariants.{After, Nowhere}
 use Rattle.octets.proofs.CharacterLaws.{before_le, characters_fit, bytes_of-le}
-use Rattle.octets.proofs.ZeroLaws.{zero_after, zero_nowhere}
 use Rattle.octets.proofs.PartLaws.{part_in}
 use Rattle.format.specs.declared.Place.{Place}
 use Rattle.format.specs.declared.Record.{Record}
 use Rattle.format.specs.Presence.{local_there}
+use Rattle.format.specs.Tests.{one_or_0}
 use Rattle.format.specs.Pieces.{text_length}
 use Rattle.format.specs.Bodies.{place_in, local_slot, net_slot, suffix_slot}
 use Rattle.format.specs.Contents.{bytes_at}
@@ -28,7 +28,6 @@ use Rattle.format.specs.PathWriting.{until_zero, unicode_text}
 use Rattle.format.specs.Blind.{says_text}
 use Rattle.format.proofs.Bools.{or_right, clash}
 use Rattle.format.proofs.PositionLaws.{part_drop}
-use Rattle.format.proofs.TargetLaws.{separator_few}
 use Rattle.target.specs.declared.Texts.{Texts}
 use Rattle.target.specs.Steps.Texts.{first_text, texts_of, Stands, texts_length}
 use Rattle.target.proofs.Laws.{texts_are, texts_long}
@@ -42,49 +41,28 @@ units_half [] = refl
 units_half (a ∷ []) = refl
 units_half (a ∷ b ∷ s) = omega (arith, units_half s)
 
-module _ (u : Bool) (s : List ℕ) {z : Zero} (e : z ≡ zero_from u s 0) where
-  text_fits : text_length u s ≤ length s
-  text_fits = omega (arith, bytes_of-le u (before_le (characters u s)), characters_fit u s)
+-- as many characters as stand before the first zero, or as there are, each of so many bytes
+pub text_told : (u : Bool) (s : List ℕ) {w n : ℕ} → w ≡ 1 + bool_byte u → n ≡ unwrap_or (zero_from u s 0) (length s / w) → (w * n ≡ text_length u s) × (w * n ≤ length s)
+text_told u s {w} {n} e f =
+    let fits : text_length u s ≤ length s = omega (arith, bytes_of-le u (before_le (characters u s)), characters_fit u s) in
+    let wide = bytes_are u n in
+    let is : w * n ≡ text_length u s = rw (e, wide) (ap (bytes_of u) (go (has_zero (characters u s)) refl f)) in
+    (is, omega (arith, is, fits))
+  where
+    bytes_are : (u : Bool) (n : ℕ) → (1 + bool_byte u) * n ≡ bytes_of u n
+    bytes_are true n = refl
+    bytes_are false n = omega arith
 
-  text_ended : {n : ℕ} → z ≡ After n → (bytes_of u n ≡ text_length u s) × (bytes_of u n ≤ length s)
-  text_ended i =
-      let k = ap (bytes_of u) (zero_after u s 0 e i).1 in
-      (k, omega (arith, k, text_fits))
+    whole : (u : Bool) → length s / (1 + bool_byte u) ≡ length (characters u s)
+    whole true = sym (units_half s)
+    whole false = omega arith
 
-  text_open : z ≡ Nowhere → (bytes_of u (length (characters u s)) ≡ text_length u s) × (bytes_of u (length (characters u s)) ≤ length s)
-  text_open i =
-      let k : length (characters u s) ≡ before_zero (characters u s) = omega (arith, ltb-false (before_zero (characters u s)) (length (characters u s)) (zero_nowhere u s 0 e i), before_le (characters u s)) in
-      (ap (bytes_of u) k, characters_fit u s)
-
--- as the code has it, which tells the kinds apart
-module _ (u : Bool) (s : List ℕ) {z : Zero} (e : z ≡ zero_from u s 0) where
-  pub open_units : u ≡ true → z ≡ Nowhere → (2 * (length s / 2) ≡ text_length u s) × (2 * (length s / 2) ≤ length s)
-  open_units t i = go u t (text_open u s e i)
-    where
-      go : (u : Bool) → u ≡ true → (bytes_of u (length (characters u s)) ≡ text_length u s) × (bytes_of u (length (characters u s)) ≤ length s) → (2 * (length s / 2) ≡ text_length u s) × (2 * (length s / 2) ≤ length s)
-      go true t h = rw (← units_half s) h
-      go false t h = clash t refl
-
-  pub open_bytes : u ≡ false → z ≡ Nowhere → (length s ≡ text_length u s) × (length s ≤ length s)
-  open_bytes t i = go u t (text_open u s e i)
-    where
-      go : (u : Bool) → u ≡ false → (bytes_of u (length (characters u s)) ≡ text_length u s) × (bytes_of u (length (characters u s)) ≤ length s) → (length s ≡ text_length u s) × (length s ≤ length s)
-      go true t h = clash refl t
-      go false t h = h
-
-  pub ended_units : u ≡ true → {n : ℕ} → z ≡ After n → (2 * n ≡ text_length u s) × (2 * n ≤ length s)
-  ended_units t {n} i = go u t (text_ended u s e i)
-    where
-      go : (u : Bool) → u ≡ true → (bytes_of u n ≡ text_length u s) × (bytes_of u n ≤ length s) → (2 * n ≡ text_length u s) × (2 * n ≤ length s)
-      go true t h = h
-      go false t h = clash t refl
-
-  pub ended_bytes : u ≡ false → {n : ℕ} → z ≡ After n → (n ≡ text_length u s) × (n ≤ length s)
-  ended_bytes t {n} i = go u t (text_ended u s e i)
-    where
-      go : (u : Bool) → u ≡ false → (bytes_of u n ≡ text_length u s) × (bytes_of u n ≤ length s) → (n ≡ text_length u s) × (n ≤ length s)
-      go true t h = clash refl t
-      go false t h = h
+    go : (b : Bool) → has_zero (characters u s) ≡ b → n ≡ unwrap_or (if b then Some (before_zero (characters u s)) else None) (length s / w) → n ≡ before_zero (characters u s)
+    go true i j = j
+    go false i j =
+        let all : length (characters u s) ≤ before_zero (characters u s) = ltb-false (before_zero (characters u s)) (length (characters u s)) i in
+        let n_is : n ≡ length (characters u s) = j ∙ ap (λ (k : ℕ). length s / k) e ∙ whole u in
+        omega (arith, before_le (characters u s))
 
 pub until_is : (u : Bool) (s : List ℕ) {n : ℕ} {x : List ℕ} → (n ≡ text_length u s) × (n ≤ length s) → x ≡ part s 0 n → x ≡ until_zero u s
 until_is u s {n} h e = e ∙ sym (part_in s 0 n (omega (arith, h.1))) ∙ ap (λ (k : ℕ). take k s) h.0
@@ -135,7 +113,7 @@ texts_ready s r I = (first_inside s r I, I.body suffix_slot)
 
 texts_stand : (s : List ℕ) (r : Record) → AllInside s r → Stands s (texts_of s r)
 unfolding texts_of
-texts_stand s r I = (first_inside s r I, I.body suffix_slot, separator_few (bytes_at s (first_text r)) (bytes_at s (place_in r suffix_slot)))
+texts_stand s r I = (first_inside s r I, I.body suffix_slot)
 
 -- a sum has something if one of its numbers has
 pub not_none : (n : ℕ) → not (eqb n 0) ≡ leb 1 n
@@ -150,12 +128,17 @@ any_two a c = go (leb 1 a) refl (leb 1 c) refl
     go false i true j = sym (le-leb 1 (a + c) (omega (arith, leb-true 1 c j)))
     go false i false j = sym (lt-leb 1 (a + c) (omega (arith, leb-false 1 a i, leb-false 1 c j)))
 
+any_byte : (b : Bool) → b ≡ leb 1 (one_or_0 b)
+any_byte true = refl
+any_byte false = refl
+
 or_no : (x : Bool) → x ≡ (x || false)
 or_no true = refl
 or_no false = refl
 
-any_three : (a c d : ℕ) → (not (eqb a 0) || not (eqb c 0) || not (eqb d 0)) ≡ (leb 1 (a + c + d) || false)
-any_three a c d = rw (not_none a, not_none c, not_none d, any_two a c, any_two (a + c) d) (or_no (leb 1 (a + c + d)))
+any_three : (a : ℕ) (c : Bool) (d : ℕ) → (not (eqb a 0) || c || not (eqb d 0)) ≡ (leb 1 (a + one_or_0 c + d) || false)
+any_three a c d =
+    rw (not_none a, not_none d) (ap (λ (x : Bool). leb 1 a || x || leb 1 d) (any_byte c) ∙ rw (any_two a (one_or_0 c), any_two (a + one_or_0 c) d) (or_no (leb 1 (a + one_or_0 c + d))))
 
 module _ (s : List ℕ) (r : Record) (b : Place) {x : List ℕ} (e : x ≡ block_text s b) where
   silent : length x ≡ 0 → says_text (environment s b) ≡ false
@@ -188,8 +171,8 @@ module _ (s : List ℕ) (r : Record) (b : Place) {x : List ℕ} (e : x ≡ block
     named_nowhere {h} i k = rw (← i, not-true h k, silent z)
 
     pub named_target : {h : Bool} {t : Texts} → AllInside s r → h ≡ has_target r → not h ≡ false → t ≡ texts_of s r
-        → (not (eqb t.first.len 0) || not (eqb t.separators 0) || not (eqb t.suffix.len 0)) ≡ names_in s r b
+        → (not (eqb t.first.len 0) || t.separated || not (eqb t.suffix.len 0)) ≡ names_in s r b
     unfolding names_in
     named_target {h} {t} I i k f =
         let long : length (target_text s r) ≡ texts_length t = ap length (texts_are s r) ∙ rw f (texts_long s (texts_of s r) (texts_stand s r I)) in
-        rw (← i, not-false h k, silent z, long) (any_three t.first.len t.separators t.suffix.len)
+        rw (← i, not-false h k, silent z, long) (any_three t.first.len t.separated t.suffix.len)

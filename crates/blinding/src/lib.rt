@@ -6,15 +6,14 @@ ghost use Rattle.format.specs.Numbers.{Numbered};
 ghost use Rattle.format.specs.Pieces.{text_length};
 ghost use Rattle.format.specs.Contents.{bytes_at};
 ghost use Rattle.format.specs.Key.{block_text};
-ghost use Rattle.format.specs.Demands.{Accepts};
 ghost use Rattle.format.specs.PathWriting.{until_zero, unicode_text};
 ghost use Rattle.format.specs.Blind.{could_name, other_twin, other_target, other_environment, key_blind, key_blind_answer};
+ghost use Rattle.format.specs.Shortcut.{reading};
 ghost use Rattle.reader.specs.Steps.Finish.{FirstsOf};
 ghost use Rattle.blinding.specs.Steps.Bits.{AllInside, PathAt, names_in, first_twin, bits_in};
 
 use format::{Place, Profile, Record, Verdict};
-use octets::Zero;
-use reader::Next;
+use reader::Outline;
 
 // ---- the texts of the environment block
 
@@ -22,16 +21,8 @@ use reader::Next;
 fn text_length(unicode: bool, s: &[u8]) -> usize
     ensures { (result ≡ text_length unicode s.now) × (result ≤ length s.now) }
 {
-    let Zero::After(n) = octets::zero_from(unicode, s, 0) else {
-        if unicode {
-            return 2 * (s.len() / 2);
-        }
-        return s.len();
-    };
-    if unicode {
-        return 2 * n;
-    }
-    n
+    let width = 1 + usize::from(unicode);
+    width * octets::zero_from(unicode, s, 0).unwrap_or(s.len() / width)
 }
 
 fn until_zero(unicode: bool, s: &[u8]) -> &[u8]
@@ -75,7 +66,7 @@ fn names_driver(s: &[u8], r: Record, b: Place) -> bool
         return false;
     }
     let t = target::texts_of(s, r);
-    (t.first.len != 0) | (t.separators != 0) | (t.suffix.len != 0)
+    (t.first.len != 0) | t.separated | (t.suffix.len != 0)
 }
 
 fn could_name(r: Record) -> bool
@@ -155,10 +146,12 @@ fn bit_if(set: bool, n: usize) -> usize
     0
 }
 
-fn bits_of(s: &[u8], r: Record, firsts: [u32; 11], profile: Profile) -> usize
-    requires { Accepts profile s.now r × FirstsOf s.now r firsts }
-    ensures { result ≡ bits_in profile s.now }
+fn bits_of(o: &Outline, firsts: &[u32; 11]) -> usize
+    requires { FirstsOf o.now.s.now (reading o.now.profile o.now.s.now).held firsts.now }
+    ensures { result ≡ bits_in o.now.profile o.now.s.now }
 {
+    let s = o.s;
+    let r = o.record();
     let environment = blocks::block_from(s, firsts[0]);
     let darwin = blocks::block_from(s, firsts[5]);
     let store = blocks::block_from(s, firsts[8]);
@@ -178,11 +171,12 @@ pub fn key_blind(s: &[u8], profile: Profile) -> Verdict
 {
     let mut texts = [0u32; 9];
     let mut firsts = [0u32; 11];
-    let o = reader::outline_of(s, profile, &mut texts, &mut firsts);
-    let next = o.next;
-    if let Next::Off(f, p) = next {
-        return Verdict::Refused(f, p.position);
-    }
-    let held = reader::record_of(s, o.ends, &texts, profile);
-    Verdict::Accepted(bits_of(s, held, firsts, profile))
+    let ends = reader::outline_of(s, profile, &mut texts, &mut firsts)?;
+    let o = Outline {
+        s,
+        profile,
+        ends,
+        texts: &texts,
+    };
+    Ok(bits_of(&o, &firsts))
 }

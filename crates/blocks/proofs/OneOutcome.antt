@@ -14,13 +14,13 @@ use Rattle.blocks.proofs.nth_block
 use Rattle.blocks.specs.contracts.nth_block as nth_block_contract
 
 pub step_one_outcome : OneAnswer step_contract.ended step.Reads.Post
-step_one_outcome κs a r q s t p o = p.is ∙ sym o.is
+step_one_outcome κs a r q s t p o = p ∙ sym o
 
 pub run_one_outcome : OneOutcome run_contract.ended (λ κs s. s.1.1.0.now) run.Reads.Post
 run_one_outcome κs a r q s t p o = Passed-once p.0 p.1 o.0 o.1
 
 pub blocks_one_outcome : OneOutcome blocks_contract.ended (λ κs s. s.1.1.0.now) blocks.Reads.Post
-blocks_one_outcome κs a r q s t p o = (p.0.is ∙ sym o.0.is, p.1 ∙ sym o.1)
+blocks_one_outcome κs a r q s t p o = (p.0 ∙ sym o.0, p.1 ∙ sym o.1)
 
 pub block_from_one_outcome : OneAnswer block_from_contract.ended block_from.Reads.Post
 block_from_one_outcome κs a r q s t p o = p ∙ sym o

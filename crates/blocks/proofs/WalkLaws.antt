@@ -1,31 +1,33 @@
 -- The walk: how far it has come, and what stands there.
 use mathlib.Core.Path.{◌≡◌, refl, sym, ap, subst, ◌∙◌}
 use mathlib.Core.List.{List, [], ◌∷◌, ◌++◌, append_assoc, append-nil}
-use mathlib.Core.Bool.{Bool, true, false, cond}
+use mathlib.Core.Bool.{true, false}
 use Prim.Native.Nat.{ℕ, ◌+◌, ◌-◌, ◌≤◌, ◌<◌}
 use native.Mathlib.Omega.{arith}
 use native.Mathlib.Nat.{zero-add}
 use lib.ListN.{length, take, drop, length-drop}
 use lib.Seq.{drop-drop, drop-append-le}
-use lib.Dec.{eqb}
-use borrow.Author.Tests.{lt-ltb, eqb-true, eqb-false}
+use borrow.Author.Tests.{lt-ltb}
+use Rattle.std.proofs.lemmas.Grind.{common_steps}
+use Rattle.std.specs.Prelude.{Option, Some, None, Ok, Err}
 use Rattle.octets.specs.Numbers.{u32_at}
 use Rattle.octets.proofs.NumberLaws.{number_drop}
 use Rattle.format.specs.declared.Fault.{Fault}
 use Rattle.format.specs.declared.Fault.TheVariants.{Cut as CUT, Twice as TWICE}
 use Rattle.format.specs.declared.Spot.{Spot}
-use Rattle.format.specs.declared.Taken.{Taken}
+use Rattle.blocks.specs.declared.Block.{Block}
+use Rattle.format.specs.declared.Refusal.{Refusal}
 use Rattle.format.specs.Tests.{spot_at, Outcome, got, refused, and_then}
 use Rattle.format.specs.Blocks.{slot_of, inside_tests, slot_at, block_size, a_block, a_terminal, block, terminal, block_step, once, blocks_after, blocks}
 use Rattle.format.specs.Numbers.{outcome_number}
 use Rattle.format.specs.Steps.Firsts.{firsts}
-use Rattle.format.specs.Steps.Answers.{outcome_end, taken_number, taken_value}
-use Rattle.format.specs.Steps.Wrong.{wrong, held_fault}
+use Rattle.format.specs.Steps.Answers.{refusal, outcome_end, taken_number, taken_value}
+use Rattle.format.specs.Steps.Wrong.{wrong}
 use Rattle.format.specs.Shortcut.{most, sum}
 use Rattle.format.proofs.Bools.{clash}
 use Rattle.format.proofs.BlockLaws.{none_left, blocks_step}
-use Rattle.blocks.specs.Steps.Walk.{Sized, no_firsts, field_of, is_free, noted, noted_all, BlocksTo, NoMore, after, Passed, blocks_taken, blocks_at, blocks_firsts, BlocksAnswer, read_to, stopped_at, wrong_block}
-use Rattle.blocks.proofs.StepLaws.{tail_part, holds_right, holds_wrong, longer, step_longer}
+use Rattle.blocks.specs.Steps.Walk.{Sized, BlockStep, Stands, no_firsts, field_of, is_free, noted, noted_all, BlocksTo, NoMore, after, Passed, blocks_taken, firsts_by, step_site, by_size, blocks_at, blocks_firsts, BlocksAnswer, read_to, wrong_or_twice, wrong_block}
+use Rattle.blocks.proofs.StepLaws.{tail_part, holds_right, holds_wrong, longer, step_longer, stands_sized, stands_block, stands_least, stands_inside, stands_end, stands_fault, judged_length, judged_fits, by_block, by_end, by_fault}
 use Rattle.blocks.proofs.FirstLaws.{firsts_more}
 use Rattle.blocks.proofs.SlotLaws.{none_taken, free_more, wide_more, taken_stays}
 
@@ -52,9 +54,9 @@ module _ (before s : List ℕ) (p : ℕ) where
 
 -- ---- the walk from a on that has come to p
 
-pub Passed-start : (s : List ℕ) (a : ℕ) {row : List ℕ} → a ≤ length s → row ≡ no_firsts → Passed s a a row
+pub Passed-start : (s : List ℕ) (a : ℕ) (row : List ℕ) → a ≤ length s → row ≡ no_firsts → Passed s a a row
 unfolding firsts noted_all
-Passed-start s a h e = record {
+Passed-start s a row h e = record {
   lengths = [];
   adds = omega arith;
   inside = h;
@@ -133,35 +135,49 @@ Passed-once {s} {a} {p} {q} P f Q g =
     let e = walked_once s a p q P.lengths Q.lengths no_firsts P.walked (rw P.notes at f) Q.walked (rw Q.notes at g) in
     (P.adds ∙ rw e (sym Q.adds), P.notes ∙ rw e (sym Q.notes))
 
--- a turn of the walk: the rest goes on where the block ends
-module _ {s : List ℕ} {a p : ℕ} {row rest : List ℕ} (P : Passed s a p row) (e : rest ≡ drop p s) {n k : ℕ} where
-  pub passed_fits : Sized rest n k → p + n ≤ length s
-  passed_fits z = omega (arith, z.inside, P.inside, ap length e, length-drop p s)
+-- ---- a turn of the walk
 
-  module _ {next : List ℕ} (noting : next ≡ noted row k (field_of p)) where
-    pub Passed-on : Sized rest n k × ((q : ℕ) → block_step q rest ≡ got a_block n) → is_free row k ≡ true → (take (length rest - n) (drop n rest) ≡ drop (p + n) s) × Passed s a (p + n) next
-    Passed-on w f =
-        let v : Sized (drop p s) n k × ((q : ℕ) → block_step q (drop p s) ≡ got a_block n) = rw e at w in
-        (tail_part n rest ∙ ap (drop n) e ∙ drop-drop n p s, Passed-more s a p P v.0 v.1 f noting)
+pub passed_fits : {s : List ℕ} {a p : ℕ} {row : List ℕ} {n k : ℕ} → Passed s a p row → Sized (drop p s) n k → p + n ≤ length s
+passed_fits {s} {a} {p} P z = omega (arith, z.inside, P.inside, length-drop p s)
 
-    -- the walk ends at a slot that is taken, and leaves the row as it is
-    pub Passed-twice : Sized rest n k → is_free row k ≡ false → Passed s a p next × NoMore s p next
-    Passed-twice z f =
-        let q : next ≡ row = noting ∙ taken_stays row k (field_of p) f in
-        let x : k ≡ slot_at (drop p s) = rw e at z.slot in
-        rw q (P, λ m h. rw x at f)
+-- the rest after a block is what stands where the block ends
+pub rest_on : (s rest : List ℕ) (p n : ℕ) → rest ≡ drop p s → take (length rest - n) (drop n rest) ≡ drop (p + n) s
+rest_on s rest p n e = tail_part n rest ∙ ap (drop n) e ∙ drop-drop n p s
+
+pub block_fits : (s rest : List ℕ) (a p : ℕ) (row : List ℕ) (b : Block) → Passed s a p row → rest ≡ drop p s → Stands rest (Ok (Some b)) → p + b.len ≤ length s
+block_fits s rest a p row b P e h = passed_fits P (rw e at (stands_sized rest b h))
+
+-- a block that finds its slot free is passed
+pub Passed-on : (s rest : List ℕ) (a p : ℕ) (row next : List ℕ) (b : Block) → Passed s a p row → rest ≡ drop p s → Stands rest (Ok (Some b)) → is_free row b.slot ≡ true → next ≡ noted row b.slot (field_of p)
+    → Passed s a (p + b.len) next
+Passed-on s rest a p row next b P e h f noting = let here = rw e at h in Passed-more s a p P (stands_sized (drop p s) b here) (stands_block (drop p s) b here) f noting
+
+-- one that finds it taken is not, and leaves the row as it is
+pub Passed-twice : (s : List ℕ) (a p k : ℕ) (row next : List ℕ) → Passed s a p row → is_free row k ≡ false → next ≡ noted row k (field_of p) → Passed s a p next
+Passed-twice s a p k row next P f noting = rw (noting, taken_stays row k (field_of p) f) P
+
+module _ (s rest : List ℕ) (p : ℕ) (row : List ℕ) (e : rest ≡ drop p s) where
+  pub none_twice : (b : Block) (next : List ℕ) → Stands rest (Ok (Some b)) → is_free row b.slot ≡ false → next ≡ noted row b.slot (field_of p) → NoMore s p next
+  none_twice b next h f noting =
+      let q : next ≡ row = noting ∙ taken_stays row b.slot (field_of p) f in
+      let x : b.slot ≡ slot_at (drop p s) = rw e at (stands_sized rest b h).slot in
+      rw q (λ m g. rw x at f)
+
+  -- no block stands here
+  pub none_here : (t : BlockStep) → Stands rest t → ((b : Block) → t ≡ Ok (Some b) → ⊥) → NoMore s p row
+  none_here (Ok (Some b)) h other n g = absurd (other b refl)
+  none_here (Ok None) h other n g = absurd (stands_end (drop p s) (rw e at h) p n g)
+  none_here (Err f) h other n g = absurd (stands_fault (drop p s) f (rw e at h) p n g)
+
+pub ruleset walking = (common_steps, tail_part, Passed-start, rest_on, stands_least, stands_inside, block_fits, Passed-on, Passed-twice)
 
 -- ---- the ways out
 
--- the answer, and the row that is left
-abbrev Leaves : List ℕ → ℕ → Taken → List ℕ → Type 0
-Leaves s a r row = BlocksAnswer s a r × (row ≡ blocks_firsts s a)
-
 module _ (s : List ℕ) (a : ℕ) where
-  -- the number and the value of the answer
-  all_read : {r : Taken} → r ≡ blocks_at s a → BlocksAnswer s a r
+  -- the answer has the number and the value of reading
+  pub blocks_read : BlocksAnswer s a (blocks_at s a)
   unfolding blocks_at taken_number taken_value
-  all_read e = record { is = e; number = rw e (number (blocks a (drop a s))); value = rw e (value (blocks a (drop a s))) }
+  blocks_read = record { is = refl; number = number (blocks a (drop a s)); value = value (blocks a (drop a s)) }
     where
       number : (o : Outcome (List ℕ)) → taken_number (blocks_taken a o) ≡ outcome_number o
       number (got ls n) = refl
@@ -171,44 +187,57 @@ module _ (s : List ℕ) (a : ℕ) where
       value (got ls n) = refl
       value (refused f q) = refl
 
-  none_noted : {f : Fault} {q : Spot} {row : List ℕ} → blocks a (drop a s) ≡ refused f q → row ≡ no_firsts → Leaves s a (stopped_at f q) row
+  -- after a refusal nothing is noted
+  pub none_noted : (r : Refusal) → blocks_at s a ≡ Err r → blocks_firsts s a ≡ no_firsts
   unfolding blocks_at blocks_firsts
-  none_noted o e = (all_read (rw o), rw o e)
+  none_noted r = go (blocks a (drop a s))
+    where
+      go : (o : Outcome (List ℕ)) → blocks_taken a o ≡ Err r → firsts_by s a o ≡ no_firsts
+      go (got ls n) e = cc
+      go (refused f q) e = refl
 
-  pub read_nowhere : {row : List ℕ} → length s < a → row ≡ no_firsts → Leaves s a (stopped_at CUT (spot_at (terminal a) 0)) row
-  read_nowhere h = none_noted (none_left [] a (drop a s) (omega (arith, length-drop a s)))
+  stops : {f : Fault} {q : Spot} → blocks a (drop a s) ≡ refused f q → blocks_at s a ≡ Err (refusal f q)
+  unfolding blocks_at
+  stops o = rw o
 
-  module _ {p : ℕ} {row : List ℕ} (P : Passed s a p row) where
+  pub read_nowhere : length s < a → blocks_at s a ≡ Err (refusal CUT (spot_at (terminal a) 0))
+  read_nowhere h = stops (none_left [] a (drop a s) (omega (arith, length-drop a s)))
+
+  module _ (p : ℕ) (row : List ℕ) (P : Passed s a p row) where
     all : blocks a (drop a s) ≡ after P.lengths (blocks_after P.before p (drop p s))
     all = rw append-nil at (P.is [])
 
-    pub read_end : length s ≤ most → ((q : ℕ) → block_step q (drop p s) ≡ got a_terminal 4) → Leaves s a (read_to a p) row
-    unfolding blocks_at blocks_firsts
-    read_end small h =
-        let o : blocks a (drop a s) ≡ got P.lengths (sum P.lengths + 4)
-        = rw append-nil at (all ∙ ap (after P.lengths) (walk_ended P.before (drop p s) p (h p))) in
-        let l : p - a ≡ sum P.lengths = omega (arith, P.adds) in
-        let n : p + 4 ≡ a + (sum P.lengths + 4) = omega (arith, P.adds) in
-        (all_read (rw (o, l, n)), rw o (P.first small))
+    -- the terminal
+    module _ (e : Ok None ≡ by_size (drop p s)) where
+      ended : blocks a (drop a s) ≡ got P.lengths (sum P.lengths + 4)
+      ended = rw append-nil at (all ∙ ap (after P.lengths) (walk_ended P.before (drop p s) p (by_end (drop p s) e refl p)))
 
-    -- a refusal leaves another row, with nothing noted
-    module _ {left : List ℕ} (cleared : left ≡ no_firsts) where
-      pub read_stopped : {f : Fault} {q : Spot} → block_step p (drop p s) ≡ refused f q → Leaves s a (stopped_at f q) left
-      read_stopped h = none_noted (all ∙ ap (after P.lengths) (walk_refused P.before (drop p s) p h)) cleared
+      pub read_end : blocks_at s a ≡ read_to a p
+      unfolding blocks_at
+      read_end =
+          let l : p - a ≡ sum P.lengths = omega (arith, P.adds) in
+          let n : p + 4 ≡ a + (sum P.lengths + 4) = omega (arith, P.adds) in rw (ended, l, n)
 
-      -- a block by its sizes at which the walk ended
-      pub read_wrong : NoMore s p row → {n k : ℕ} → Sized (drop p s) n k → Leaves s a (wrong_block k (take n (drop p s)) p) left
-      unfolding wrong_block
-      read_wrong none {n} {k} z = go (eqb (wrong (inside_tests k (take n (drop p s)))) 0) refl
-        where
-          w : ℕ
-          w = wrong (inside_tests k (take n (drop p s)))
+      pub noted_end : length s ≤ most → blocks_firsts s a ≡ row
+      unfolding blocks_firsts
+      noted_end small = rw ended (sym (P.first small))
 
-          second : w ≡ 0 → Leaves s a (stopped_at TWICE (spot_at (block p) 4)) left
-          second e =
-              let h = holds_right (drop p s) z refl e p in
-              none_noted (all ∙ ap (after P.lengths) (walk_twice P.before (drop p s) p h (sym (P.free (slot_at (drop p s))) ∙ none n h))) cleared
+    -- what is none by its sizes
+    pub read_stopped : (f : Fault) → Err f ≡ by_size (drop p s) → blocks_at s a ≡ Err (refusal f (spot_at (step_site p (length (drop p s))) 0))
+    read_stopped f e = stops (all ∙ ap (after P.lengths) (walk_refused P.before (drop p s) p (by_fault (drop p s) e refl p)))
 
-          go : (b : Bool) → eqb w 0 ≡ b → Leaves s a (cond b (stopped_at TWICE (spot_at (block p) 4)) (stopped_at (held_fault k) (spot_at (block p) w))) left
-          go true e = second (eqb-true w 0 e)
-          go false e = read_stopped (holds_wrong (drop p s) z refl (eqb-false w 0 e) p)
+    -- a block by its sizes at which the walk ended
+    pub read_wrong : NoMore s p row → (b : Block) → Ok (Some b) ≡ by_size (drop p s) → blocks_at s a ≡ Err (wrong_block b.slot (take b.len (drop p s)) p)
+    unfolding wrong_block
+    read_wrong none b e = go (wrong (inside_tests b.slot (take b.len (drop p s)))) refl
+      where
+        go : (o : Option ℕ) → o ≡ wrong (inside_tests b.slot (take b.len (drop p s))) → blocks_at s a ≡ Err (wrong_or_twice b.slot p o)
+        go None w =
+            let h = holds_right (drop p s) (by_block (drop p s) e refl) w p in
+            stops (all ∙ ap (after P.lengths) (walk_twice P.before (drop p s) p h (sym (P.free (slot_at (drop p s))) ∙ none b.len h)))
+        go (Some i) w = stops (all ∙ ap (after P.lengths) (walk_refused P.before (drop p s) p (holds_wrong (drop p s) (by_block (drop p s) e refl) w p)))
+
+    pub block_inside : (b : Block) → Ok (Some b) ≡ by_size (drop p s) → p + b.len ≤ length s
+    block_inside b e = passed_fits P (by_block (drop p s) e refl)
+
+pub ruleset ending = (common_steps, tail_part, judged_length, judged_fits, read_nowhere, block_inside)

@@ -1,27 +1,28 @@
 // Blocks (FORMAT: Blocks): what stands where one is due, and the walks over them up to the terminal block.
 #![tactic(auto)]
 
-ghost use Rattle.std.specs.Prelude.{◌≡◌, true, ◌+◌, ◌≤◌, length};
+ghost use Rattle.std.specs.Prelude.{◌≡◌, true, ◌+◌, ◌≤◌, length, IfSome};
 ghost use Rattle.format.specs.Tests.{spot_at};
 ghost use Rattle.format.specs.Blocks.{slot_of, size_fits, path_tests, inside_tests};
 ghost use Rattle.format.specs.Shortcut.{most};
+ghost use Rattle.format.specs.Steps.Answers.{refusal};
 ghost use Rattle.format.specs.Steps.Wrong.{wrong, held_fault};
-ghost use Rattle.blocks.specs.Steps.Walk.{has_rule, StepAnswer, Stands, no_firsts, field_of, is_free, noted, Passed, NoMore, BlocksAnswer, blocks_firsts, read_to, step_site, stopped_at, wrong_block, block_from, nth_block};
+ghost use Rattle.blocks.specs.Steps.Walk.{by_size, Stands, no_firsts, field_of, is_free, noted, Passed, NoMore, blocks_at, blocks_firsts, read_to, step_site, wrong_block, block_from, nth_block};
 
-use format::{Fault, Place, Spot, Taken, spot_at, unless};
+use format::{Fault, Place, Refusal};
 use octets::Cursor;
 
-// A block of so many bytes, with the slot of its signature; or the terminal block; or neither.
+// A block of so many bytes, with the slot of its signature.
 #[derive(Clone, Copy)]
-pub enum BlockStep {
-    Block(usize, usize),
-    Terminal,
-    Refused(Fault),
+pub struct Block {
+    pub len: usize,
+    pub slot: usize,
 }
 
 // ---- one block
 
-// The table's slots: 11 for a signature that it does not have.
+// The table's slots: 11 for a signature that it does not have, as in the definition.
+#[tactic(auto, unfolding(format::specs::Blocks::slot_of))]
 fn slot_of(signature: u32) -> usize
     ensures { result ≡ slot_of signature }
 {
@@ -42,6 +43,7 @@ fn slot_of(signature: u32) -> usize
 }
 
 // The table's sizes.
+#[tactic(auto, unfolding(format::specs::Blocks::size_fits))]
 fn size_ok(slot: usize, n: usize) -> bool
     ensures { result ≡ size_fits slot n }
 {
@@ -61,46 +63,40 @@ fn size_ok(slot: usize, n: usize) -> bool
     }
 }
 
-// The first text that does not end in its room, or 0: 260 bytes from 8 on, and as many units from 268 on.
-fn path_wrong(b: &[u8]) -> usize
+// The first text that does not end in its room: 260 bytes from 8 on, and as many units from 268 on.
+fn path_wrong(b: &[u8]) -> Option<usize>
     requires { 0x314 ≤ length b.now }
-    ensures { result ≡ wrong (path_tests b.now) }
+    ensures is { result ≡ wrong (path_tests b.now) }
+    ensures inside { IfSome result (λ i. i ≤ length b.now) }
 {
-    let bytes = octets::has_zero(false, &b[8..268]);
-    let units = octets::has_zero(true, &b[268..788]);
-    unless(bytes, 8, unless(units, 268, 0))
+    if !octets::has_zero(false, &b[8..268]) {
+        return Some(8);
+    }
+    if !octets::has_zero(true, &b[268..788]) {
+        return Some(268);
+    }
+    None
 }
 
-// The first field found wrong of what a block with a rule holds, or 0: from byte 8 on a store or items, or two texts.
-fn held_wrong(slot: usize, b: &[u8]) -> usize
-    requires { (has_rule slot ≡ true) × (size_fits slot (length b.now) ≡ true) }
-    ensures { result ≡ wrong (inside_tests slot b.now) }
-{
-    if slot == 8 {
-        return storages::store_wrong(&b[8..], 8);
-    }
-    if slot == 10 {
-        return items::items_wrong(&b[8..], 8);
-    }
-    path_wrong(b)
-}
-
-// The first field found wrong of what the block holds, or 0. Most have no rule for it, and cost no call.
-fn inside_wrong(slot: usize, b: &[u8]) -> usize
+// The first field found wrong of what the block holds: two texts, or from byte 8 on a store or items. Most have no rule for
+// it, and in the walk cost no call, hence the hint.
+#[tactic(auto, using(crate::proofs::InsideLaws::holding), unfolding(format::specs::Blocks::slot_of, format::specs::Blocks::size_fits, format::specs::Blocks::inside_tests))]
+#[inline(always)]
+fn inside_wrong(slot: usize, b: &[u8]) -> Option<usize>
     requires { size_fits slot (length b.now) ≡ true }
-    ensures { result ≡ wrong (inside_tests slot b.now) }
+    ensures is { result ≡ wrong (inside_tests slot b.now) }
+    ensures inside { IfSome result (λ i. i ≤ length b.now) }
 {
     match slot {
-        0 => held_wrong(0, b),
-        5 => held_wrong(5, b),
-        6 => held_wrong(6, b),
-        8 => held_wrong(8, b),
-        10 => held_wrong(10, b),
-        _ => 0,
+        0 | 5 | 6 => path_wrong(b),
+        8 => storages::store_wrong(&b[8..], 8),
+        10 => items::items_wrong(&b[8..], 8),
+        _ => None,
     }
 }
 
 // Its fault: a store has its own.
+#[tactic(auto, unfolding(format::specs::Steps::Wrong::held_fault, format::specs::Blocks::slot_of))]
 fn held_fault(slot: usize) -> Fault
     ensures { result ≡ held_fault slot }
 {
@@ -112,44 +108,44 @@ fn held_fault(slot: usize) -> Fault
 
 // ---- the step
 
-// What stands at the start of the rest, by its sizes; what a block holds is not looked at.
-pub fn step(rest: &[u8]) -> BlockStep
-    ensures { StepAnswer rest.now result }
+// What stands at the start of the rest, by its sizes: a block, or none but the terminal. What a block holds is not looked at.
+#[tactic(auto, unfolding(crate::specs::Steps::Walk::by_size))]
+#[inline(always)]
+pub fn step(rest: &[u8]) -> Result<Option<Block>, Fault>
+    ensures { result ≡ by_size rest.now }
 {
     let left = rest.len();
     if left < 4 {
-        return BlockStep::Refused(Fault::Cut);
+        return Err(Fault::Cut);
     }
-    let n = octets::u32_at(rest, 0) as usize;
-    if n < 8 {
-        if n < 4 {
-            return BlockStep::Terminal;
+    let len = octets::u32_at(rest, 0) as usize;
+    if len < 8 {
+        if len < 4 {
+            return Ok(None);
         }
-        return BlockStep::Refused(Fault::Block);
+        return Err(Fault::Block);
     }
-    if left < n {
-        return BlockStep::Refused(Fault::Cut);
+    if left < len {
+        return Err(Fault::Cut);
     }
     let slot = slot_of(octets::u32_at(rest, 4));
-    if !size_ok(slot, n) {
-        return BlockStep::Refused(Fault::Block);
+    if !size_ok(slot, len) {
+        return Err(Fault::Block);
     }
-    BlockStep::Block(n, slot)
+    Ok(Some(Block { len, slot }))
 }
 
-// What stands at the start of the rest.
-fn judged(rest: &[u8]) -> BlockStep
+// The same, and a block is one only if what it holds is right.
+#[tactic(auto, using(crate::proofs::StepLaws::judging))]
+fn judged(rest: &[u8]) -> Result<Option<Block>, Fault>
     ensures { Stands rest.now result }
 {
-    match step(rest) {
-        BlockStep::Block(n, slot) => {
-            if inside_wrong(slot, &rest[..n]) == 0 {
-                return BlockStep::Block(n, slot);
-            }
-            BlockStep::Refused(held_fault(slot))
-        }
-        BlockStep::Terminal => BlockStep::Terminal,
-        BlockStep::Refused(f) => BlockStep::Refused(f),
+    let Some(b) = step(rest)? else {
+        return Ok(None);
+    };
+    match inside_wrong(b.slot, &rest[..b.len]) {
+        None => Ok(Some(b)),
+        Some(_) => Err(held_fault(b.slot)),
     }
 }
 
@@ -169,21 +165,23 @@ fn field_of(p: usize) -> u32
 }
 
 // The block at p takes its slot, unless a block before it has done so; of signatures that are not known none is noted.
+#[tactic(auto, unfolding(crate::specs::Steps::Walk::is_free, crate::specs::Steps::Walk::noted, crate::specs::Steps::Walk::taken))]
 fn note(firsts: &mut [u32; 11], slot: usize, p: usize) -> bool
     ensures free { result ≡ is_free firsts.old slot }
     ensures row { firsts.new ≡ noted firsts.old slot (field_of p) }
 {
-    if slot < 11 {
-        if firsts[slot] == 0 {
-            firsts[slot] = field_of(p);
-            return true;
-        }
+    if 11 <= slot {
+        return true;
+    }
+    if firsts[slot] != 0 {
         return false;
     }
+    firsts[slot] = field_of(p);
     true
 }
 
 // Past all blocks from `start` on, up to what is no block or the second of its kind. It notes the first of each kind.
+#[tactic(auto, using(crate::proofs::WalkLaws::walking))]
 pub fn run(s: &[u8], start: usize, firsts: &mut [u32; 11]) -> usize
     requires { (start ≤ length s.now) × (firsts.old ≡ no_firsts) }
     ensures passed { Passed s.now start result firsts.new }
@@ -191,23 +189,18 @@ pub fn run(s: &[u8], start: usize, firsts: &mut [u32; 11]) -> usize
 {
     let mut p = start;
     let mut rest = &s[start..];
-    loop {
-        match judged(rest) {
-            BlockStep::Block(n, slot) => {
-                if !note(firsts, slot, p) {
-                    return p;
-                }
-                p += n;
-                rest = &rest[n..];
-            }
-            BlockStep::Terminal => return p,
-            BlockStep::Refused(_) => return p,
-        }
+    // No index is counted: the step is the size that stands there.
+    while let Ok(Some(b)) = judged(rest)
+        && note(firsts, b.slot, p)
+    {
+        p += b.len;
+        rest = &rest[b.len..];
     }
+    p
 }
 
 // The blocks from `start` to p, with the terminal block there.
-fn read_to(start: usize, p: usize) -> Taken
+fn read_to(start: usize, p: usize) -> Result<(Place, Cursor), Refusal>
     requires { (start ≤ p) × (p ≤ most) }
     ensures { result ≡ read_to start p }
 {
@@ -215,74 +208,63 @@ fn read_to(start: usize, p: usize) -> Taken
         at: start,
         len: p - start,
     };
-    Taken::Got(body, Cursor { at: p + 4 })
+    Ok((body, Cursor { at: p + 4 }))
 }
 
 // After a refusal nothing is noted.
-fn stopped(f: Fault, q: Spot, firsts: &mut [u32; 11]) -> Taken
-    ensures value { result ≡ stopped_at f q }
+fn stopped(r: Refusal, firsts: &mut [u32; 11]) -> Result<(Place, Cursor), Refusal>
+    ensures value { result ≡ Err r }
     ensures row { firsts.new ≡ no_firsts }
 {
     *firsts = no_firsts();
-    Taken::Refused(f, q)
+    Err(r)
 }
 
-// The size of what is due at p, with so many bytes left: a block's, or the terminal's where no size is left.
-fn size_spot(p: usize, left: usize) -> Spot
-    ensures { result ≡ spot_at (step_site p left) 0 }
+// Of what is due at p, with so many bytes left, the size is wrong: a block's, or the terminal's where no size is left.
+fn size_wrong(fault: Fault, p: usize, left: usize) -> Refusal
+    ensures { result ≡ refusal fault (spot_at (step_site p left) 0) }
 {
-    if left < 4 {
-        return spot_at(9, p, 0);
-    }
-    spot_at(8, p, 0)
+    let section = if left < 4 { 9 } else { 8 };
+    Refusal::at(fault, section, p, 0)
 }
 
-// The slots of the blocks that have a rule for what they hold.
-fn has_rule(slot: usize) -> bool
-    ensures { result ≡ has_rule slot }
-{
-    (slot == 0) | (slot == 5) | (slot == 6) | (slot == 8) | (slot == 10)
-}
-
-// A block whose sizes are right is refused for what it holds, or else as the second of its kind. What most blocks are
-// asked in the walk is not called from here, so that the compiler merges it into the walk.
-fn wrong_block(slot: usize, b: &[u8], p: usize, firsts: &mut [u32; 11]) -> Taken
+// A block whose sizes are right is refused for what it holds, or else as the second of its kind.
+#[tactic(auto, unfolding(crate::specs::Steps::Walk::wrong_block))]
+fn wrong_block(slot: usize, b: &[u8], p: usize) -> Refusal
     requires { (size_fits slot (length b.now) ≡ true) × (p + length b.now ≤ most) }
-    ensures value { result ≡ wrong_block slot b.now p }
-    ensures row { firsts.new ≡ no_firsts }
+    ensures { result ≡ wrong_block slot b.now p }
 {
-    if !has_rule(slot) {
-        return stopped(Fault::Twice, spot_at(8, p, 4), firsts);
+    match inside_wrong(slot, b) {
+        Some(field) => Refusal::at(held_fault(slot), 8, p, field),
+        None => Refusal::at(Fault::Twice, 8, p, 4),
     }
-    let field = held_wrong(slot, b);
-    if field == 0 {
-        return stopped(Fault::Twice, spot_at(8, p, 4), firsts);
-    }
-    stopped(held_fault(slot), spot_at(8, p, field), firsts)
 }
 
 // The blocks up to the terminal as a single body, with the cursor after it; or the fault and where it stands.
-// The row gets for each slot where its signature first stands; 0 where it does not, and after a refusal.
-pub fn blocks(s: &[u8], c: Cursor, firsts: &mut [u32; 11]) -> Taken
+// The row gets for each slot where its signature first stands; 0 where it does not, and after a refusal. No signature stands at 0, and the definition `firsts` has it.
+#[tactic(auto, using(crate::proofs::WalkLaws::ending))]
+#[inline(always)]
+pub fn blocks(s: &[u8], c: Cursor, firsts: &mut [u32; 11]) -> Result<(Place, Cursor), Refusal>
     requires small { length s.now ≤ most }
     requires row { firsts.old ≡ no_firsts }
-    ensures answer { BlocksAnswer s.now c.at result }
+    ensures answer { result ≡ blocks_at s.now c.at }
     ensures row { firsts.new ≡ blocks_firsts s.now c.at }
 {
     let start = c.at;
     if s.len() < start {
-        return stopped(Fault::Cut, size_spot(start, 0), firsts);
+        return stopped(size_wrong(Fault::Cut, start, 0), firsts);
     }
     let p = run(s, start, firsts);
     let rest = &s[p..];
     match step(rest) {
-        BlockStep::Terminal => read_to(start, p),
-        BlockStep::Refused(f) => stopped(f, size_spot(p, rest.len()), firsts),
-        BlockStep::Block(n, slot) => wrong_block(slot, &rest[..n], p, firsts),
+        Ok(None) => read_to(start, p),
+        Ok(Some(b)) => stopped(wrong_block(b.slot, &rest[..b.len], p), firsts),
+        Err(f) => stopped(size_wrong(f, p, rest.len()), firsts),
     }
 }
 
 // The block whose signature stands there; the empty place for 0.
+#[tactic(auto, unfolding(crate::specs::Steps::Walk::block_from))]
 pub fn block_from(s: &[u8], field: u32) -> Place
     requires { field ≤ length s.now }
     ensures { result ≡ block_from s.now field }
@@ -297,26 +279,18 @@ pub fn block_from(s: &[u8], field: u32) -> Place
     }
 }
 
-// Where block number k stands, of those that start at `from`; the empty place where there are not so many.
-pub fn nth_block(s: &[u8], from: usize, k: usize) -> Place
+// Where block number k stands, of those that start at `from`.
+#[tactic(auto, using(crate::proofs::NthLaws::finding))]
+pub fn nth_block(s: &[u8], from: usize, k: usize) -> Option<Place>
     ensures { result ≡ nth_block s.now from k }
 {
-    if s.len() < from {
-        return format::NO_PLACE;
+    let mut at = from;
+    let mut rest = s.get(from..)?;
+    for _ in 0..k {
+        let b = step(rest).ok()??;
+        at += b.len;
+        rest = &rest[b.len..];
     }
-    let mut p = from;
-    let mut left = k;
-    loop {
-        match step(&s[p..]) {
-            BlockStep::Block(n, _) => {
-                if left == 0 {
-                    return Place { at: p, len: n };
-                }
-                left -= 1;
-                p += n;
-            }
-            BlockStep::Terminal => return format::NO_PLACE,
-            BlockStep::Refused(_) => return format::NO_PLACE,
-        }
-    }
+    let last = step(rest).ok()??;
+    Some(Place { at, len: last.len })
 }

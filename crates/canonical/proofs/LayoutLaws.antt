@@ -7,19 +7,16 @@ use native.Mathlib.Omega.{arith}
 use lib.ListN.{length, get_or}
 use Rattle.octets.specs.Numbers.{little}
 use Rattle.octets.specs.Characters.{units, characters}
-use Rattle.format.specs.declared.Place.{Place}
 use Rattle.format.specs.declared.Header.{Header}
 use Rattle.format.specs.declared.Link.{Link}
 use Rattle.format.specs.Presence.{local_there, network_there, device_there, provider_there}
 use Rattle.format.specs.Volume.{label_least}
 use Rattle.format.specs.Network.{network_head}
 use Rattle.format.specs.Bodies.{label_slot, local_slot, net_slot, device_slot, net_unicode_slot, device_unicode_slot, suffix_slot, local_unicode_slot, suffix_unicode_slot, further_slot, written_head}
-use Rattle.format.specs.Contents.{bytes_at}
 use Rattle.format.specs.Writing.{bits, header_bytes, items_bytes, two_fields, label_fields, bytes_of_string}
 use Rattle.format.specs.Steps.Lengths.{volume_part, network_part}
 use Rattle.format.specs.Steps.Flat.{volume_head_bytes, network_head_bytes, info_head_bytes}
-use Rattle.format.proofs.BodyLaws.{body_length}
-use Rattle.canonical.specs.Steps.Puts.{characters_in, InBuffer}
+use Rattle.canonical.specs.Steps.Puts.{characters_in}
 use Rattle.canonical.specs.Steps.Layout.{magic_bytes, mark_bytes, view_bytes}
 
 -- ---- heads
@@ -53,27 +50,23 @@ header_is h = refl
 
 -- ---- the item list and the strings
 
-units_count : (x : List ℕ) → length (units x) ≡ length x / 2
+pub units_count : (x : List ℕ) → length (units x) ≡ length x / 2
 unfolding units
 units_count [] = refl
 units_count (a ∷ []) = refl
 units_count (a ∷ b ∷ x) = omega (arith, units_count x)
 
-characters_count : (u : Bool) (x : List ℕ) → length (characters u x) ≡ characters_in u (length x)
+pub characters_count : (u : Bool) (x : List ℕ) → length (characters u x) ≡ characters_in u (length x)
 characters_count true x = units_count x
 characters_count false x = refl
 
-module _ {d : List ℕ} {b : Place} (i : InBuffer d b) where
-  pub length_body : length (bytes_at d b) ≡ b.len
-  length_body = body_length d b i.within
+pub items_is : (x : List ℕ) → little 2 (length x + 2) ++ (x ++ little 2 0) ≡ items_bytes x
+unfolding little items_bytes
+items_is x = refl
 
-  pub items_is : little 2 (b.len + 2) ++ (bytes_at d b ++ little 2 0) ≡ items_bytes (bytes_at d b)
-  unfolding little items_bytes
-  items_is = rw length_body
-
-  pub string_is : (u : Bool) {n : ℕ} → n ≡ characters_in u b.len → little 2 n ++ bytes_at d b ≡ bytes_of_string u (bytes_at d b)
-  unfolding bytes_of_string
-  string_is u e = rw (e, characters_count u (bytes_at d b), length_body)
+pub string_is : (u : Bool) (x : List ℕ) {n : ℕ} → n ≡ characters_in u (length x) → little 2 n ++ x ≡ bytes_of_string u x
+unfolding bytes_of_string
+string_is u x e = rw (e, characters_count u x)
 
 -- ---- the heads of LinkInfo, VolumeID and the network link, by what was put
 

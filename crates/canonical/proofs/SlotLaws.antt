@@ -4,8 +4,9 @@ use mathlib.Core.List.{List, [], ◌∷◌, ◌++◌, append-nil, append_assoc}
 use Prim.Native.Nat.{ℕ, ◌+◌, ◌-◌, ◌≤◌, ◌<◌}
 use native.Mathlib.Omega.{arith}
 use lib.ListN.{length, get_or}
-use Rattle.octets.specs.Steps.Puts.{Wrote}
-use Rattle.octets.proofs.WroteLaws.{Wrote-none, kept, join, reword}
+use Rattle.copies.specs.declared.output.Output.{Output}
+use Rattle.copies.specs.Steps.Writes.{HasRoom, Writes}
+use Rattle.copies.proofs.OutputLaws.{Writes-none, join, reword}
 use Rattle.format.specs.declared.Place.{Place}
 use Rattle.format.specs.Tests.{no_place}
 use Rattle.format.specs.Shortcut.{sum}
@@ -13,7 +14,6 @@ use Rattle.format.specs.Bodies.{BodyRow, along}
 use Rattle.format.specs.Writing.{end_to_end}
 use Rattle.format.specs.Steps.Shape.{rows_from}
 use Rattle.format.proofs.RowLaws.{along_split}
-use Rattle.canonical.specs.Steps.Puts.{Room}
 
 sum-append : (xs ys : List ℕ) → sum (xs ++ ys) ≡ sum xs + sum ys
 sum-append [] ys = omega arith
@@ -50,18 +50,20 @@ module _ (F : BodyRow → Place → List ℕ) (G : BodyRow → Place → ℕ) (p
   size_one : (k : ℕ) → sum (along no_place G k (rows_from row k 1) ps) ≡ G (row k) (place k)
   size_one k = omega arith
 
-  module _ {out₀ : List ℕ} {at : ℕ} where
-    pub none_put : at ≤ length out₀ → Wrote out₀ at (bytes_to from) (size_to from) out₀ at
-    none_put h = let e : from - from ≡ 0 = omega arith in rw e (Wrote-none out₀ at h)
+  pub none_put : (o : Output) → o.at ≤ length o.out.now → Writes o o (bytes_to from) (size_to from)
+  none_put o h = let e : from - from ≡ 0 = omega arith in rw e (Writes-none o h)
 
-    module _ {out : List ℕ} {p : ℕ} (k : ℕ) (h : from ≤ k) (w : Wrote out₀ at (bytes_to k) (size_to k) out p) where
-      pub more_put : {x : List ℕ} {r : ℕ} → Wrote out p (F (row k) (place k)) (G (row k) (place k)) x r → Wrote out₀ at (bytes_to (k + 1)) (size_to (k + 1)) x r
-      more_put v = reword (join w v) (bytes_more k h) (sym (size_split k 1 h ∙ ap (λ (n : ℕ). size_to k + n) (size_one k)))
+  module _ {o x : Output} (k : ℕ) (h : from ≤ k) (w : Writes o x (bytes_to k) (size_to k)) where
+    pub more_put : {y : Output} → Writes x y (F (row k) (place k)) (G (row k) (place k)) → Writes o y (bytes_to (k + 1)) (size_to (k + 1))
+    more_put v = reword (join w v) (bytes_more k h) (sym (size_split k 1 h ∙ ap (λ (n : ℕ). size_to k + n) (size_one k)))
 
-      -- the next has room where all have
-      pub Room-next : (to : ℕ) → k < to → Room out₀ at (size_to to) → Room out p (G (row k) (place k))
-      Room-next to l m =
-          let e : to ≡ k + 1 + (to - (k + 1)) = omega arith in
-          let s : size_to to ≡ size_to (k + 1) + sum (along no_place G (k + 1) (rows_from row (k + 1) (to - (k + 1))) ps) = ap size_to e ∙ size_split (k + 1) (to - (k + 1)) (omega arith) in
-          let t : size_to (k + 1) ≡ size_to k + G (row k) (place k) = size_split k 1 h ∙ ap (λ (n : ℕ). size_to k + n) (size_one k) in
-          record { room = omega (arith, kept w, w.next, m.room); few = omega (arith, m.few) }
+    -- the next has room where all have, and is no longer than all
+    pub next_size : (to : ℕ) → k < to → size_to k + G (row k) (place k) ≤ size_to to
+    next_size to l =
+        let e : to ≡ k + 1 + (to - (k + 1)) = omega arith in
+        let s : size_to to ≡ size_to (k + 1) + sum (along no_place G (k + 1) (rows_from row (k + 1) (to - (k + 1))) ps) = ap size_to e ∙ size_split (k + 1) (to - (k + 1)) (omega arith) in
+        let t : size_to (k + 1) ≡ size_to k + G (row k) (place k) = size_split k 1 h ∙ ap (λ (n : ℕ). size_to k + n) (size_one k) in
+        omega arith
+
+    pub Room-next : (to : ℕ) → k < to → HasRoom o (size_to to) → HasRoom x (G (row k) (place k))
+    Room-next to l m = record { room = omega (arith, next_size to l, w.kept, w.next, m.room) }

@@ -1,102 +1,113 @@
 // The heads of LinkInfo, of VolumeID and of the network link (FORMAT: Canonical LinkInfo).
-ghost use Rattle.std.specs.Prelude.{[], cond, ◌+◌, ◌≤◌, length, get_or};
-ghost use Rattle.octets.specs.Steps.Puts.{Wrote};
+ghost use Rattle.std.specs.Prelude.{[], cond, ◌+◌, ◌≤◌, get_or};
+ghost use Rattle.copies.specs.Steps.Writes.{HasRoom, Writes};
 ghost use Rattle.format.specs.Presence.{local_there, network_there};
 ghost use Rattle.format.specs.Shortcut.{most};
 ghost use Rattle.format.specs.Volume.{label_least};
 ghost use Rattle.format.specs.Bodies.{label_slot, written_head};
-ghost use Rattle.format.specs.Writing.{label_fields};
+ghost use Rattle.format.specs.Writing.{two_fields, label_fields};
 ghost use Rattle.format.specs.Steps.Lengths.{volume_part, network_part};
 ghost use Rattle.format.specs.Steps.Flat.{volume_head_bytes, network_to, network_head_bytes, info_to, info_head_bytes};
 
-use crate::numbers::{add_fields, add_u32};
+use copies::output::Output;
 use format::Link;
 
+// Two offset fields that are there or not.
+pub fn put_fields(w: &mut Output, there: bool, x: u32, y: u32)
+    requires { HasRoom w.old (cond there 8 0) }
+    ensures { Writes w.old w.new (two_fields there x y) (cond there 8 0) }
+{
+    if there {
+        w.put_u32(x);
+        w.put_u32(y);
+    }
+}
+
 // The label follows its offset fields.
-fn put_label_fields(out: &mut [u8], at: usize, unicode: bool) -> usize
-    requires { at + cond unicode 8 4 ≤ length out.old }
-    ensures { Wrote out.old at (label_fields unicode) (cond unicode 8 4) out.new result }
+fn put_label_fields(w: &mut Output, unicode: bool)
+    requires { HasRoom w.old (cond unicode 8 4) }
+    ensures { Writes w.old w.new (label_fields unicode) (cond unicode 8 4) }
 {
     if unicode {
-        let p = add_u32(out, at, 0x14);
-        return add_u32(out, p, 0x14);
+        w.put_u32(0x14);
+        w.put_u32(0x14);
+    } else {
+        w.put_u32(0x10);
     }
-    add_u32(out, at, 0x10)
 }
 
 // VolumeID's: size, drive type, serial, and where the label starts.
-fn put_volume_fields(out: &mut [u8], at: usize, l: Link, sizes: [u32; 17]) -> usize
-    requires room { at + (12 + cond l.label_unicode 8 4) ≤ length out.old }
+fn put_volume_fields(w: &mut Output, l: Link, sizes: [u32; 17])
+    requires room { HasRoom w.old (12 + cond l.label_unicode 8 4) }
     requires few { label_least l.label_unicode + get_or sizes label_slot 0 ≤ 131072 }
-    ensures written { Wrote out.old at
+    ensures { Writes w.old w.new
         (volume_head_bytes l sizes)
-        (12 + cond l.label_unicode 8 4) out.new result }
+        (12 + cond l.label_unicode 8 4) }
 {
-    let size = sizes::label_start(l.label_unicode) + sizes[format::LABEL];
-    let p = add_u32(out, at, size);
-    let p = add_u32(out, p, l.drive);
-    let p = add_u32(out, p, l.serial);
-    put_label_fields(out, p, l.label_unicode)
+    let size = format::label_least(l.label_unicode) + sizes[format::LABEL];
+    w.put_u32(size);
+    w.put_u32(l.drive);
+    w.put_u32(l.serial);
+    put_label_fields(w, l.label_unicode);
 }
 
-pub fn put_volume_head(out: &mut [u8], at: usize, l: Link, sizes: [u32; 17]) -> usize
-    requires room { at + volume_part l ≤ length out.old }
+// The sizes are a row beside the record: a type with the fact would ask more than the clause does.
+pub fn put_volume_head(w: &mut Output, l: Link, sizes: [u32; 17])
+    requires room { HasRoom w.old (volume_part l) }
     requires few { label_least l.label_unicode + get_or sizes label_slot 0 ≤ 131072 }
-    ensures written { Wrote out.old at
+    ensures { Writes w.old w.new
         (cond (local_there l.flags) (volume_head_bytes l sizes) [])
-        (volume_part l) out.new result }
+        (volume_part l) }
 {
     if format::local_there(l.flags) {
-        return put_volume_fields(out, at, l, sizes);
+        put_volume_fields(w, l, sizes);
     }
-    at
 }
 
 // The network link's: size, flags, offsets and provider.
-fn put_network_fields(out: &mut [u8], at: usize, l: Link, sizes: [u32; 17]) -> usize
-    requires room { at + (20 + cond l.network_unicode 8 0) ≤ length out.old }
+fn put_network_fields(w: &mut Output, l: Link, sizes: [u32; 17])
+    requires room { HasRoom w.old (20 + cond l.network_unicode 8 0) }
     requires few { network_to l sizes ≤ 131072 }
-    ensures written { Wrote out.old at
+    ensures { Writes w.old w.new
         (network_head_bytes l sizes)
-        (20 + cond l.network_unicode 8 0) out.new result }
+        (20 + cond l.network_unicode 8 0) }
 {
     let named = format::device_there(l.network_flags);
     let provider = format::number_if(format::provider_there(l.network_flags), l.provider);
-    let head = sizes::network_head(l.network_unicode);
+    let head = format::network_head(l.network_unicode);
     let device = head + sizes[format::NET];
     let net_unicode = device + sizes[format::DEVICE];
     let device_unicode = net_unicode + sizes[format::NET_UNICODE];
     let end = device_unicode + sizes[format::DEVICE_UNICODE];
     let first = format::number_if(named, device);
     let second = format::number_if(named, device_unicode);
-    let p = add_u32(out, at, end);
-    let p = add_u32(out, p, l.network_flags);
-    let p = add_u32(out, p, head);
-    let p = add_u32(out, p, first);
-    let p = add_u32(out, p, provider);
-    add_fields(out, p, l.network_unicode, net_unicode, second)
+    w.put_u32(end);
+    w.put_u32(l.network_flags);
+    w.put_u32(head);
+    w.put_u32(first);
+    w.put_u32(provider);
+    put_fields(w, l.network_unicode, net_unicode, second);
 }
 
-pub fn put_network_head(out: &mut [u8], at: usize, l: Link, sizes: [u32; 17]) -> usize
-    requires room { at + network_part l ≤ length out.old }
+pub fn put_network_head(w: &mut Output, l: Link, sizes: [u32; 17])
+    requires room { HasRoom w.old (network_part l) }
     requires few { network_to l sizes ≤ 131072 }
-    ensures written { Wrote out.old at
+    ensures { Writes w.old w.new
         (cond (network_there l.flags) (network_head_bytes l sizes) [])
-        (network_part l) out.new result }
+        (network_part l) }
 {
     if format::network_there(l.flags) {
-        return put_network_fields(out, at, l, sizes);
+        put_network_fields(w, l, sizes);
     }
-    at
 }
 
 // LinkInfo's: size, head size, flags and offsets, which lead past its further bytes.
-pub fn put_info_head(out: &mut [u8], at: usize, l: Link, sizes: [u32; 17]) -> usize
-    requires room { at + (28 + cond l.long 8 0) ≤ length out.old }
+pub fn put_info_head(w: &mut Output, l: Link, sizes: [u32; 17])
+    requires room { HasRoom w.old (28 + cond l.long 8 0) }
     requires few { info_to l sizes ≤ most }
-    ensures written { Wrote out.old at
+    ensures { Writes w.old w.new
         (info_head_bytes l sizes)
-        (28 + cond l.long 8 0) out.new result }
+        (28 + cond l.long 8 0) }
 {
     let here = format::local_there(l.flags);
     let away = format::network_there(l.flags);
@@ -116,12 +127,12 @@ pub fn put_info_head(out: &mut [u8], at: usize, l: Link, sizes: [u32; 17]) -> us
     let local_field = format::number_if(here, local);
     let network_field = format::number_if(away, network);
     let unicode_field = format::number_if(here, local_unicode);
-    let p = add_u32(out, at, end);
-    let p = add_u32(out, p, head);
-    let p = add_u32(out, p, l.flags);
-    let p = add_u32(out, p, volume_field);
-    let p = add_u32(out, p, local_field);
-    let p = add_u32(out, p, network_field);
-    let p = add_u32(out, p, suffix);
-    add_fields(out, p, l.long, unicode_field, suffix_unicode)
+    w.put_u32(end);
+    w.put_u32(head);
+    w.put_u32(l.flags);
+    w.put_u32(volume_field);
+    w.put_u32(local_field);
+    w.put_u32(network_field);
+    w.put_u32(suffix);
+    put_fields(w, l.long, unicode_field, suffix_unicode);
 }

@@ -1,26 +1,22 @@
 -- The way back without a search is the way back: each assigned byte is the candidate of its unit, by one computation over the table.
 use mathlib.Core.Path.{◌≡◌, refl, sym, ap, ◌∙◌}
-use mathlib.Core.List.{List, [], ◌∷◌}
 use mathlib.Core.Bool.{Bool, true, false, not, ◌||◌}
-use Prim.Native.Nat.{ℕ, zero, suc, ◌<◌}
+use Rattle.std.specs.Prelude.{Some, None}
+use Rattle.std.proofs.lemmas.List.{get_or_default}
+use Prim.Native.Nat.{ℕ, ◌<◌}
 use native.Mathlib.Omega.{arith}
 use native.Mathlib.Nat.{zero-add}
-use lib.ListN.{length, get_or}
+use lib.ListN.{get_or}
 use lib.Dec.{eqb, ltb}
 use borrow.Author.Tests.{ltb-false, lt-ltb, eqb-true, ne_eqb, not-true}
 use Rattle.format.specs.Codepage.{unassigned, no_byte, windows1252, unit_of, assigned, byte_of, in_table}
 use Rattle.format.proofs.Bools.{or-true, clash}
 use Rattle.format.proofs.CodepageLaws.{at_all, one_of_all, table_long, assigned_back, known_small, known_back, byte_most}
-use Rattle.codepage.specs.Steps.Candidates.{candidate_of}
-
-pub any_default : (xs : List ℕ) (k a b : ℕ) → k < length xs → get_or xs k a ≡ get_or xs k b
-any_default [] k a b h = absurd (omega arith)
-any_default (x ∷ xs) zero a b h = refl
-any_default (x ∷ xs) (suc k) a b h = any_default xs k a b (omega arith)
+use Rattle.codepage.specs.Steps.Candidates.{candidate_of, byte_if}
 
 pub table_read : (b : ℕ) → b < 256 → get_or windows1252 b 0 ≡ unit_of b
 unfolding unit_of
-table_read b h = any_default windows1252 b 0 unassigned (omega (arith, table_long))
+table_read b h = get_or_default windows1252 b 0 unassigned (omega (arith, table_long))
 
 abbrev leads : ℕ → ℕ → Bool
 leads b u = eqb u unassigned || eqb (candidate_of u) b
@@ -81,3 +77,17 @@ module _ (u : ℕ) {b : ℕ} (c : b ≡ candidate_of u) where
       go : (t : Bool) → in_table u ≡ t → no_byte ≡ byte_of u
       go true e = absurd (n (ap unit_of (c ∙ candidate_known u e) ∙ (known_back u e).0))
       go false e = omega (arith, byte_most u, ltb-false (byte_of u) no_byte e)
+
+-- the same of what has a byte, and of what has none
+byte_some : (u b : ℕ) → b < 256 → b ≡ byte_of u → Some b ≡ byte_if u
+byte_some u b h e = rw (← e, lt-ltb b no_byte h)
+
+pub byte_low : (u : ℕ) → u < 128 → Some u ≡ byte_if u
+byte_low u h = byte_some u u (omega arith) (low_byte u h)
+
+module _ (u : ℕ) {b : ℕ} (c : b ≡ candidate_of u) where
+  pub byte_found : b < 256 → unit_of b ≡ u → Some b ≡ byte_if u
+  byte_found h e = byte_some u b h (candidate_found u c h e)
+
+  pub byte_missing : (unit_of b ≡ u → ⊥) → None ≡ byte_if u
+  byte_missing n = rw (← candidate_missing u c n)

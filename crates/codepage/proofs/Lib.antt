@@ -1,3 +1,4 @@
 pub mod CandidateLaws
 pub mod TextLaws
+pub mod PutLaws
 pub mod OneOutcome

@@ -1,24 +1,21 @@
--- Texts character by character: what is left to test after i of them, and what is put after i of them.
+-- Texts character by character: what is left to test after i of them.
 use mathlib.Core.Path.{◌≡◌, refl, sym, ap, ◌∙◌}
-use mathlib.Core.List.{List, [], ◌∷◌, ◌++◌, map, map-append, append-nil}
-use mathlib.Core.Bool.{Bool, true, false, not, ◌&&◌, ◌||◌}
-use Prim.Native.Nat.{ℕ, zero, suc, ◌+◌, ◌*◌, ◌/◌, ◌%◌, ◌≤◌, ◌<◌}
+use mathlib.Core.List.{List, [], ◌∷◌, map}
+use mathlib.Core.Bool.{Bool, true, false, ◌&&◌, cond}
+use Rattle.std.specs.Prelude.{Some, None}
+use Prim.Native.Nat.{ℕ, zero, suc, ◌+◌, ◌*◌, ◌/◌, ◌%◌, ◌<◌}
 use native.Mathlib.Omega.{arith}
-use native.Mathlib.Numerals.{add-one}
-use lib.ListN.{length, take, drop, get_or, set, drop_of_length-le}
-use lib.Seq.{drop-cons, take-suc, take-length}
+use lib.ListN.{length, get_or}
 use lib.Dec.{eqb}
-use borrow.Author.Tests.{eqb-true, eq-eqb, ne_eqb, lt-ltb, le-ltb, not-true}
+use borrow.Author.Tests.{eqb-true, eq-eqb, ne_eqb}
 use Rattle.octets.specs.Numbers.{Bytes, number, number_at, u16_at, little, same_numbers}
 use Rattle.octets.specs.Characters.{units}
-use Rattle.octets.specs.Parts.{put}
-use Rattle.octets.specs.Steps.Puts.{Wrote}
-use Rattle.octets.proofs.NumberLaws.{number_drop}
-use Rattle.octets.proofs.WroteLaws.{Wrote-none, Wrote-number, Wrote-one, join, reword}
+use Rattle.octets.proofs.NumberLaws.{number_drop, Bytes-tail}
 use Rattle.format.specs.Writing.{every}
-use Rattle.format.specs.Codepage.{unassigned, no_byte, unit_of, assigned, byte_of, in_table, to_units, all_assigned, to_bytes, all_in_table, is_translation}
-use Rattle.format.proofs.Bools.{and-true, and_both, and_assoc, or-true, by_order, same_truth, clash}
-use Rattle.format.proofs.CodepageLaws.{unit_small, units_long, units_append, byte_most, same_equal}
+use Rattle.format.specs.Codepage.{unit_of, assigned, in_table, to_units, all_assigned, all_in_table, is_translation}
+use Rattle.format.proofs.Bools.{and-true, and_both, and_assoc, and_no, same_truth}
+use Rattle.codepage.specs.Steps.Candidates.{unit_if}
+use Rattle.format.proofs.CodepageLaws.{unit_small, units_long, same_equal}
 
 -- ---- the units of a text by their places
 
@@ -37,65 +34,35 @@ unit_at (a ∷ b ∷ x) (suc i) h =
     let e : 2 * suc i ≡ 2 + 2 * i = omega arith in
     unit_at x i (omega arith) ∙ rw e (number_drop 2 2 (a ∷ b ∷ x) (2 * i))
 
--- ---- a test of every character: what is left after i of them decides
+-- ---- a test of every character
 
-module _ (f : ℕ → Bool) (xs : List ℕ) (i : ℕ) where
-  every_next : i < length xs → every (map f (drop i xs)) ≡ (f (get_or xs i 0) && every (map f (drop (i + 1) xs)))
-  every_next h = rw (add-one i, drop-cons xs i 0)
+module _ (f : ℕ → Bool) where
+  every_each : (xs : List ℕ) → ((j : ℕ) → j < length xs → f (get_or xs j 0) ≡ true) → true ≡ every (map f xs)
+  every_each [] h = refl
+  every_each (x ∷ xs) h = every_each xs (λ j k. h (suc j) (omega arith)) ∙ sym (rw (h 0 (omega arith)))
 
-  module _ {r : Bool} (inv : every (map f (drop i xs)) ≡ r) where
-    pub every_fails : i < length xs → {x : ℕ} → x ≡ get_or xs i 0 → f x ≡ false → false ≡ r
-    every_fails h e k = sym (every_next h ∙ rw (← e, k)) ∙ inv
+  every_one : (xs : List ℕ) (j : ℕ) → j < length xs → f (get_or xs j 0) ≡ false → false ≡ every (map f xs)
+  every_one [] j h e = absurd (omega arith)
+  every_one (x ∷ xs) zero h e = sym (rw e)
+  every_one (x ∷ xs) (suc j) h e = sym (ap (λ (t : Bool). f x && t) (sym (every_one xs j (omega arith) e)) ∙ and_no (f x))
 
-    pub every_goes : i < length xs → {x : ℕ} → x ≡ get_or xs i 0 → f x ≡ true → every (map f (drop (i + 1) xs)) ≡ r
-    every_goes h e k = sym (every_next h ∙ rw (← e, k)) ∙ inv
+pub assigned_each : (x : List ℕ) → ((j : ℕ) → j < length x → assigned (get_or x j 0) ≡ true) → true ≡ all_assigned x
+assigned_each = every_each assigned
 
-    pub every_ends : length xs ≤ i → true ≡ r
-    every_ends h = sym (ap (λ (l : List ℕ). every (map f l)) (drop_of_length-le xs h)) ∙ inv
+pub assigned_one : (x : List ℕ) (j : ℕ) → j < length x → assigned (get_or x j 0) ≡ false → false ≡ all_assigned x
+assigned_one = every_one assigned
 
-assigned_no : (b : ℕ) {u : ℕ} → u ≡ unit_of b → u ≡ unassigned → assigned b ≡ false
-assigned_no b e m = ap not (eq-eqb (unit_of b) unassigned (sym e ∙ m))
+module _ (x : List ℕ) where
+  inside : (i : ℕ) → i < length x / 2 → i < length (units x)
+  inside i h = omega (arith, units_count x)
 
-assigned_yes : (b : ℕ) {u : ℕ} → u ≡ unit_of b → (u ≡ unassigned → ⊥) → assigned b ≡ true
-assigned_yes b e m = ap not (ne_eqb (unit_of b) unassigned (λ z. m (e ∙ z)))
+  pub known_each : ((j : ℕ) → j < length x / 2 → in_table (u16_at x (2 * j)) ≡ true) → true ≡ all_in_table x
+  known_each h = every_each in_table (units x) (λ j k. let i : j < length x / 2 = omega (arith, units_count x) in rw (unit_at x j i) (h j i))
 
-module _ (x : List ℕ) (i : ℕ) (inv : every (map assigned (drop i x)) ≡ all_assigned x) where
-  pub assigned_ends : length x ≤ i → true ≡ all_assigned x
-  assigned_ends h = every_ends assigned x i inv h
-
-  module _ (h : i < length x) {u : ℕ} (e : u ≡ unit_of (get_or x i 0)) where
-    pub assigned_fails : u ≡ unassigned → false ≡ all_assigned x
-    assigned_fails m = every_fails assigned x i inv h refl (assigned_no (get_or x i 0) e m)
-
-    pub assigned_goes : (u ≡ unassigned → ⊥) → every (map assigned (drop (i + 1) x)) ≡ all_assigned x
-    assigned_goes m = every_goes assigned x i inv h refl (assigned_yes (get_or x i 0) e m)
-
-known_no : (u : ℕ) {b : ℕ} → b ≡ byte_of u → b ≡ no_byte → in_table u ≡ false
-known_no u e m = le-ltb (byte_of u) no_byte (omega arith)
-
-known_yes : (u : ℕ) {b : ℕ} → b ≡ byte_of u → (b ≡ no_byte → ⊥) → in_table u ≡ true
-known_yes u {b} e m = by_order no_byte (byte_of u) (λ h. absurd (m (omega (arith, byte_most u)))) (λ h. lt-ltb (byte_of u) no_byte h)
-
-module _ (x : List ℕ) (i : ℕ) where
-  inside : i < length x / 2 → i < length (units x)
-  inside h = omega (arith, units_count x)
-
-  module _ (inv : every (map in_table (drop i (units x))) ≡ all_in_table x) where
-    pub known_ends : length x / 2 ≤ i → true ≡ all_in_table x
-    known_ends h = every_ends in_table (units x) i inv (omega (arith, units_count x))
-
-    module _ (h : i < length x / 2) {w b : ℕ} (e : w ≡ u16_at x (2 * i)) (f : b ≡ byte_of w) where
-      pub known_fails : b ≡ no_byte → false ≡ all_in_table x
-      known_fails m = every_fails in_table (units x) i inv (inside h) (e ∙ sym (unit_at x i h)) (known_no w f m)
-
-      pub known_goes : (b ≡ no_byte → ⊥) → every (map in_table (drop (i + 1) (units x))) ≡ all_in_table x
-      known_goes m = every_goes in_table (units x) i inv (inside h) (e ∙ sym (unit_at x i h)) (known_yes w f m)
+  pub known_one : (j : ℕ) → j < length x / 2 → in_table (u16_at x (2 * j)) ≡ false → false ≡ all_in_table x
+  known_one j h e = every_one in_table (units x) j (inside j h) (rw (unit_at x j h) e)
 
 -- ---- a translation
-
--- what is left to compare
-abbrev pub rest : List ℕ → List ℕ → ℕ → Bool
-rest x y i = all_assigned (drop i x) && same_numbers (drop (2 * i) y) (to_units (drop i x))
 
 -- a unit by its two bytes
 two_bytes : (a b u : ℕ) → a < 256 → b < 256 → u < 65536 → (eqb a (u % 256) && eqb b (u / 256 % 256)) ≡ eqb (a + 256 * b) u
@@ -117,108 +84,68 @@ regroup true false true false s = refl
 regroup true false false r s = refl
 regroup false a q r s = refl
 
-module _ (x y : List ℕ) (i : ℕ) where
-  module _ (bs : Bytes y) (h : i < length x) (k : 2 * i + 2 ≤ length y) where
-    abbrev u : ℕ
-    u = unit_of (get_or x i 0)
+agrees : ℕ → ℕ → Bool
+agrees b u = assigned b && eqb u (unit_of b)
 
-    y_cons : drop (2 * i) y ≡ get_or y (2 * i) 0 ∷ (get_or y (2 * i + 1) 0 ∷ drop (2 * (i + 1)) y)
-    y_cons =
-        let e : suc (suc (2 * i)) ≡ 2 * (i + 1) = omega arith in
-        drop-cons y (2 * i) 0 (omega arith)
-        ∙ ap (λ (l : List ℕ). get_or y (2 * i) 0 ∷ l) (drop-cons y (suc (2 * i)) 0 (omega arith) ∙ rw (e, ← add-one (2 * i)))
+-- the first character, and the others
+translation_next : (b c d : ℕ) (x y : List ℕ) → c < 256 → d < 256 → is_translation (b ∷ x) (c ∷ d ∷ y) ≡ (agrees b (c + 256 * d) && is_translation x y)
+unfolding to_units little agrees
+translation_next b c d x y h k =
+    rw (← two_bytes c d (unit_of b) h k (unit_small b))
+    (regroup (assigned b) (all_assigned x) (eqb c (unit_of b % 256)) (eqb d (unit_of b / 256 % 256)) (same_numbers y (to_units x)))
 
-    number_is : u16_at y (2 * i) ≡ get_or y (2 * i) 0 + 256 * get_or y (2 * i + 1) 0
-    unfolding number_at number
-    number_is = rw y_cons (omega arith)
+agrees_if : (b u : ℕ) → unit_if b ≡ Some u → agrees b u ≡ true
+unfolding agrees
+agrees_if b u = go (assigned b)
+  where
+    go : (t : Bool) → cond t (Some (unit_of b)) None ≡ Some u → (t && eqb u (unit_of b)) ≡ true
+    go true e = eq-eqb u (unit_of b) (cc)
+    go false e = cc
 
-    rest_next : rest x y i ≡ ((assigned (get_or x i 0) && eqb (u16_at y (2 * i)) u) && rest x y (i + 1))
-    unfolding to_units little
-    rest_next =
-        let a = get_or y (2 * i) 0 in
-        let b = get_or y (2 * i + 1) 0 in
-        rw (number_is, ← two_bytes a b u (bs.at (2 * i)) (bs.at (2 * i + 1)) (unit_small (get_or x i 0)), y_cons, add-one i, drop-cons x i 0 h)
-        (regroup (assigned (get_or x i 0)) (all_assigned (drop (suc i) x)) (eqb a (u % 256)) (eqb b (u / 256 % 256)) (same_numbers (drop (2 * suc i) y) (to_units (drop (suc i) x))))
+agrees_not : (b u : ℕ) → (unit_if b ≡ Some u → ⊥) → agrees b u ≡ false
+unfolding agrees
+agrees_not b u = go (assigned b)
+  where
+    go : (t : Bool) → (cond t (Some (unit_of b)) None ≡ Some u → ⊥) → (t && eqb u (unit_of b)) ≡ false
+    go true n = ne_eqb u (unit_of b) (λ e. n (rw e refl))
+    go false n = refl
 
-    module _ (inv : rest x y i ≡ is_translation x y) {v w : ℕ} (e : v ≡ u) (f : w ≡ u16_at y (2 * i)) where
-      told : (b : Bool) → (eqb v unassigned || not (eqb w v)) ≡ b → (assigned (get_or x i 0) && eqb (u16_at y (2 * i)) u) ≡ not b
-      told b t = rw (← e, ← f) (go (eqb v unassigned) (eqb w v) t)
-        where
-          go : (p q : Bool) → (p || not q) ≡ b → (not p && q) ≡ not b
-          go true q z = ap not z
-          go false true z = ap not z
-          go false false z = ap not z
+first_unit : (c d : ℕ) (y : List ℕ) → u16_at (c ∷ d ∷ y) 0 ≡ c + 256 * d
+unfolding number_at number
+first_unit c d y = omega arith
 
-      pub rest_fails : (eqb v unassigned || not (eqb w v)) ≡ true → false ≡ is_translation x y
-      rest_fails t = sym (rest_next ∙ rw (told true t)) ∙ inv
+later_unit : (c d : ℕ) (y : List ℕ) (j : ℕ) → u16_at (c ∷ d ∷ y) (2 * suc j) ≡ u16_at y (2 * j)
+later_unit c d y j = let e : 2 * suc j ≡ 2 + 2 * j = omega arith in sym (rw e (number_drop 2 2 (c ∷ d ∷ y) (2 * j)))
 
-      pub rest_goes : (eqb v unassigned || not (eqb w v)) ≡ false → rest x y (i + 1) ≡ is_translation x y
-      rest_goes t = sym (rest_next ∙ rw (told false t)) ∙ inv
+pub translation_each : (x y : List ℕ) → Bytes y → length y ≡ 2 * length x → ((j : ℕ) → j < length x → unit_if (get_or x j 0) ≡ Some (u16_at y (2 * j))) → true ≡ is_translation x y
+unfolding to_units
+translation_each [] [] bs l h = refl
+translation_each [] (c ∷ y) bs l h = absurd (omega arith)
+translation_each (b ∷ x) [] bs l h = absurd (omega arith)
+translation_each (b ∷ x) (c ∷ []) bs l h = absurd (omega arith)
+translation_each (b ∷ x) (c ∷ d ∷ y) bs l h =
+    translation_each x y (Bytes-tail (Bytes-tail bs)) (omega arith) (λ j k. h (suc j) (omega arith) ∙ ap Some (later_unit c d y j))
+    ∙ sym (translation_next b c d x y (bs.at 0) (bs.at 1) ∙ rw (agrees_if b (c + 256 * d) (h 0 (omega arith) ∙ ap Some (first_unit c d y))))
 
-  pub rest_ends : rest x y i ≡ is_translation x y → length x ≤ i → length y ≡ 2 * length x → true ≡ is_translation x y
-  unfolding to_units
-  rest_ends inv h l =
-      let k : length y ≤ 2 * i = omega arith in
-      sym (rw (drop_of_length-le x h, drop_of_length-le y k)) ∙ inv
+pub translation_one : (x y : List ℕ) → Bytes y → length y ≡ 2 * length x → (j : ℕ) → j < length x → (unit_if (get_or x j 0) ≡ Some (u16_at y (2 * j)) → ⊥) → false ≡ is_translation x y
+translation_one [] y bs l j h n = absurd (omega arith)
+translation_one (b ∷ x) [] bs l j h n = absurd (omega arith)
+translation_one (b ∷ x) (c ∷ []) bs l j h n = absurd (omega arith)
+translation_one (b ∷ x) (c ∷ d ∷ y) bs l zero h n =
+    sym (translation_next b c d x y (bs.at 0) (bs.at 1) ∙ rw (agrees_not b (c + 256 * d) (λ e. n (e ∙ ap Some (sym (first_unit c d y))))))
+translation_one (b ∷ x) (c ∷ d ∷ y) bs l (suc j) h n =
+    sym
+    (translation_next b c d x y (bs.at 0) (bs.at 1)
+    ∙ ap (λ (t : Bool). agrees b (c + 256 * d) && t) (sym (translation_one x y (Bytes-tail (Bytes-tail bs)) (omega arith) j (omega arith) (λ e. n (e ∙ ap Some (sym (later_unit c d y j))))))
+    ∙ and_no (agrees b (c + 256 * d)))
 
 -- texts of other lengths
-pub other_length : (x y : List ℕ) → (not (eqb (length y % 2) 0) || not (eqb (length y / 2) (length x))) ≡ true → false ≡ is_translation x y
-other_length x y e = go (is_translation x y) refl
+pub translation_long : (x y : List ℕ) → (length y ≡ 2 * length x → ⊥) → false ≡ is_translation x y
+translation_long x y n = go (is_translation x y) refl
   where
     go : (t : Bool) → is_translation x y ≡ t → false ≡ t
-    go true i =
-        let (p, q) = and-true (all_assigned x) (same_numbers y (to_units x)) i in
-        let l : length y ≡ 2 * length x = ap length (same_equal y (to_units x) q) ∙ units_long x in
-        or-true (not (eqb (length y % 2) 0)) (not (eqb (length y / 2) (length x))) e
-        (λ n. clash (eq-eqb (length y % 2) 0 (omega arith)) (not-true (eqb (length y % 2) 0) n))
-        (λ n. clash (eq-eqb (length y / 2) (length x) (omega arith)) (not-true (eqb (length y / 2) (length x)) n))
+    go true i = absurd (n (ap length (same_equal y (to_units x) (and-true (all_assigned x) (same_numbers y (to_units x)) i).1) ∙ units_long x))
     go false i = refl
-
-pub same_length : (x y : List ℕ) → (not (eqb (length y % 2) 0) || not (eqb (length y / 2) (length x))) ≡ false → length y ≡ 2 * length x
-same_length x y e = go (eqb (length y % 2) 0) refl (eqb (length y / 2) (length x)) refl e
-  where
-    go : (p : Bool) → eqb (length y % 2) 0 ≡ p → (q : Bool) → eqb (length y / 2) (length x) ≡ q → (not p || not q) ≡ false → length y ≡ 2 * length x
-    go true i true j z =
-        let a : length y % 2 ≡ 0 = eqb-true (length y % 2) 0 i in
-        let b : length y / 2 ≡ length x = eqb-true (length y / 2) (length x) j in
-        omega arith
-    go true i false j z = clash refl z
-    go false i q j z = clash refl z
-
--- ---- texts as they are put
-
-module _ (out₀ : List ℕ) (at : ℕ) (x : List ℕ) where
-  pub no_units : at ≤ length out₀ → Wrote out₀ at (to_units (take 0 x)) (2 * 0) out₀ at
-  unfolding to_units
-  no_units h = Wrote-none out₀ at h
-
-  pub no_bytes : at ≤ length out₀ → Wrote out₀ at (map byte_of (take 0 (units x))) 0 out₀ (at + 0)
-  no_bytes h = let e : at + 0 ≡ at = omega arith in rw e (Wrote-none out₀ at h)
-
-  module _ (i : ℕ) {out : List ℕ} {p : ℕ} (w : Wrote out₀ at (to_units (take i x)) (2 * i) out p) where
-    pub more_units : i < length x → {u : ℕ} {out' : List ℕ} → u ≡ unit_of (get_or x i 0) → p + 2 ≤ length out → out' ≡ put out p (little 2 u)
-        → Wrote out₀ at (to_units (take (i + 1) x)) (2 * (i + 1)) out' (p + 2)
-    unfolding to_units
-    more_units h {u} {out'} e l f =
-        let s : to_units (take (i + 1) x) ≡ to_units (take i x) ++ little 2 u
-        = rw (add-one i, take-suc x i 0 h) (units_append (take i x) (get_or x i 0 ∷ []) ∙ rw (e, append-nil)) in
-        reword (join w (Wrote-number 2 out p u f l)) (sym s) (omega arith)
-
-    pub all_units : i ≡ length x → Wrote out₀ at (to_units x) (2 * length x) out p
-    all_units e = reword w (rw (e, take-length x)) (ap (λ (n : ℕ). 2 * n) e)
-
-  module _ (i : ℕ) {out : List ℕ} (w : Wrote out₀ at (map byte_of (take i (units x))) i out (at + i)) where
-    pub more_bytes : i < length x / 2 → {v b : ℕ} → v ≡ u16_at x (2 * i) → b ≡ byte_of v → at + i + 1 ≤ length out
-        → Wrote out₀ at (map byte_of (take (i + 1) (units x))) (i + 1) (set out (at + i) b) (at + (i + 1))
-    more_bytes h {v} {b} e f l =
-        let n : at + i + 1 ≡ at + (i + 1) = omega arith in
-        let s : map byte_of (take (i + 1) (units x)) ≡ map byte_of (take i (units x)) ++ (b ∷ [])
-        = rw (add-one i, take-suc (units x) i 0 (inside x i h), map-append, unit_at x i h, ← e, ← f) in
-        rw n at (reword (join w (Wrote-one out (at + i) b l)) (sym s) refl)
-
-    pub all_bytes : i ≡ length x / 2 → Wrote out₀ at (to_bytes x) (length x / 2) out (at + i)
-    unfolding to_bytes
-    all_bytes e = reword w (rw (e, ← units_count x, take-length (units x))) e
 
 -- each character of a text that is all in the table is in it
 pub known_at : (x : List ℕ) → all_in_table x ≡ true → (i : ℕ) → i < length x / 2 → {v : ℕ} → v ≡ u16_at x (2 * i) → in_table v ≡ true

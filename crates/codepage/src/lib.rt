@@ -4,14 +4,11 @@
 pub mod texts;
 
 ghost use Rattle.std.specs.Prelude.{◌≡◌};
-ghost use Rattle.format.specs.Codepage.{windows1252, unit_of, byte_of};
-ghost use Rattle.codepage.specs.Steps.Candidates.{by_remainder, candidate_of};
+ghost use Rattle.format.specs.Codepage.{windows1252, unit_of};
+ghost use Rattle.codepage.specs.Steps.Candidates.{by_remainder, candidate_of, unit_if, byte_if};
 
 // The mark of the five unassigned bytes, which is no byte's unit.
 const UNASSIGNED: u16 = 0xFFFF;
-
-// What stands for the byte of a unit that is not in the table.
-const NO_BYTE: u16 = 256;
 
 // The unit of each byte.
 const UNITS: [u16; 256] = [
@@ -49,6 +46,7 @@ const BYTES: [u8; 79] = [
 ];
 
 // Whoever goes over a text has one copy of each constant and lends it, since a constant is copied wherever it is indexed.
+#[tactic(auto, using(crate::proofs::CandidateLaws::table_read))]
 fn unit_of(units: &[u16; 256], b: u8) -> u16
     requires { units.now ≡ windows1252 }
     ensures { result ≡ unit_of b }
@@ -56,28 +54,42 @@ fn unit_of(units: &[u16; 256], b: u8) -> u16
     units[b as usize]
 }
 
+// The unit of a byte that is assigned.
+fn assigned(units: &[u16; 256], b: u8) -> Option<u16>
+    requires { units.now ≡ windows1252 }
+    ensures { result ≡ unit_if b }
+{
+    let u = unit_of(units, b);
+    if u == UNASSIGNED { None } else { Some(u) }
+}
+
 // The only byte that can have this unit.
+#[tactic(auto, unfolding(crate::specs::Steps::Candidates::candidate_of))]
 fn candidate(bytes: &[u8; 79], u: u16) -> u8
     requires { bytes.now ≡ by_remainder }
     ensures { result ≡ candidate_of u }
 {
     if u < 256 {
-        return u as u8;
+        u as u8
+    } else {
+        bytes[(u % 79) as usize]
     }
-    bytes[(u % 79) as usize]
 }
 
-fn byte_of(units: &[u16; 256], bytes: &[u8; 79], u: u16) -> u16
+// The byte of a unit that is in the table.
+#[tactic(auto, using(crate::proofs::CandidateLaws::byte_low, crate::proofs::CandidateLaws::byte_found, crate::proofs::CandidateLaws::byte_missing))]
+fn byte_of(units: &[u16; 256], bytes: &[u8; 79], u: u16) -> Option<u8>
     requires { (units.now ≡ windows1252) × (bytes.now ≡ by_remainder) }
-    ensures { result ≡ byte_of u }
+    ensures { result ≡ byte_if u }
 {
     // Most characters need neither table.
     if u < 128 {
-        return u;
+        return Some(u as u8);
     }
     let b = candidate(bytes, u);
     if unit_of(units, b) == u {
-        return b as u16;
+        Some(b)
+    } else {
+        None
     }
-    NO_BYTE
 }

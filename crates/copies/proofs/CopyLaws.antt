@@ -5,43 +5,19 @@ use Prim.Native.Nat.{ℕ, ◌+◌, ◌-◌, ◌≤◌}
 use native.Mathlib.Omega.{arith}
 use lib.ListN.{length, take, drop, length-append, length-drop}
 use lib.Seq.{take-length, length-take-le, drop-drop, take-add, take_at, drop-append-add}
-use Rattle.octets.specs.Numbers.{Bytes, number, number_at, little}
 use Rattle.octets.specs.Parts.{put}
 use Rattle.octets.specs.Steps.Puts.{part}
-use Rattle.octets.proofs.NumberLaws.{Bytes-drop, Bytes-take, little-number}
-use Rattle.octets.proofs.PartLaws.{part_in, put-put, length-put}
+use borrow.Rule.Slice.PartMut.{put_mid}
+use Rattle.octets.proofs.PartLaws.{part_in, put-put, length-put, put_over_part}
 use Rattle.octets.proofs.WroteLaws.{put-nil}
 
--- ---- a number that was read is put as the bytes that it was read from
+-- ---- a part of the buffer that is written over
 
 pub length-part : (s : List ℕ) (i n : ℕ) → i + n ≤ length s → length (part s i n) ≡ n
 length-part s i n h = ap length (sym (part_in s i n h)) ∙ length-take-le n (drop i s) (omega (arith, length-drop i s))
 
-pub number_part : (w : ℕ) (s : List ℕ) (i : ℕ) → Bytes s → i + w ≤ length s → little w (number_at w s i) ≡ part s i w
-unfolding number_at
-number_part w s i b h =
-    let x : List ℕ = take w (drop i s) in
-    let l : length x ≡ w = length-take-le w (drop i s) (omega (arith, length-drop i s)) in
-    let e : little w (number x) ≡ x = rw l at (little-number x (Bytes-take w (drop i s) (Bytes-drop i s b))) in
-    e ∙ part_in s i w h
-
-pub put_number : (w : ℕ) (s : List ℕ) (i : ℕ) (d : List ℕ) (k : ℕ) {n : ℕ} {x : List ℕ} → Bytes s → i + w ≤ length s → n ≡ number_at w s i → x ≡ put d k (little w n) → x ≡ put d k (part s i w)
-put_number w s i d k b h e p = p ∙ ap (λ (m : ℕ). put d k (little w m)) e ∙ ap (put d k) (number_part w s i b h)
-
--- ---- parts that adjoin
-
-pub part-part : (s : List ℕ) (i a b : ℕ) → i + (a + b) ≤ length s → part s i a ++ part s (i + a) b ≡ part s i (a + b)
-part-part s i a b h =
-    let p : part s i a ≡ take a (drop i s) = sym (part_in s i a (omega arith)) in
-    let q : part s (i + a) b ≡ take b (drop a (drop i s)) = sym (part_in s (i + a) b (omega arith)) ∙ ap (take b) (sym (drop-drop a i s)) in
-    rw (p, q) (sym (take-add a b (drop i s)) ∙ part_in s i (a + b) h)
-
-pub put_parts : (d : List ℕ) (k : ℕ) (s : List ℕ) (i a b : ℕ) {x y : List ℕ} {l : ℕ} → x ≡ put d k (part s i a) → y ≡ put x l (part s (i + a) b)
-    → l ≡ k + a → i + (a + b) ≤ length s → k + (a + b) ≤ length d → y ≡ put d k (part s i (a + b))
-put_parts d k s i a b {x} {y} {l} p q e h m =
-    let la : length (part s i a) ≡ a = length-part s i a (omega arith) in
-    let lb : length (part s (i + a) b) ≡ b = length-part s (i + a) b (omega arith) in
-    q ∙ ap (λ (z : List ℕ). put z l (part s (i + a) b)) p ∙ put-put d k (part s i a) (part s (i + a) b) (omega (arith, la, e)) (omega (arith, lb, e)) ∙ ap (put d k) (part-part s i a b h)
+pub put_span_lem : (d : List ℕ) (k w : ℕ) (s : List ℕ) (i : ℕ) {x : List ℕ} → i + w ≤ length s → x ≡ take w (drop i s) → put_mid k (k + w - k) d x ≡ put d k (part s i w)
+put_span_lem d k w s i h e = put_over_part d k w (length-part s i w h) (e ∙ part_in s i w h)
 
 -- ---- bytes that are put over others
 
@@ -78,7 +54,7 @@ put_over d i s j k w {x} {y} p q hk hj hs hd =
     q ∙ ap (λ (z : List ℕ). put z (i + k) c) (p ∙ ap (put d i) e ∙ f) ∙ g ∙ h ∙ ap (put d i) t
 
 -- the last step ends where the bytes do
-put_last : (d : List ℕ) (i : ℕ) (s : List ℕ) (j k w : ℕ) {x y : List ℕ} → x ≡ put d i (take j s) → y ≡ put x (i + k) (part s k w)
+pub put_last : (d : List ℕ) (i : ℕ) (s : List ℕ) (j k w : ℕ) {x y : List ℕ} → x ≡ put d i (take j s) → y ≡ put x (i + k) (part s k w)
     → k ≤ j → j ≤ k + w → k + w ≡ length s → i + length s ≤ length d → y ≡ put d i s
 put_last d i s j k w p q hk hj e hd = put_over d i s j k w p q hk hj (omega arith) hd ∙ ap (put d i) (ap (λ (n : ℕ). take n s) e ∙ take-length s)
 
@@ -88,12 +64,3 @@ pub put_two : (d : List ℕ) (i : ℕ) (s : List ℕ) (w k : ℕ) {x y : List �
 put_two d i s w k p q hk e hd =
     let first = put_over d i s 0 0 w (put-nil d i) p (omega arith) (omega arith) (omega arith) hd in
     put_last d i s (0 + w) k w first q (omega arith) (omega arith) e hd
-
--- two spans that adjoin, and end where the bytes do, stand back over bytes that were put before
-pub put_last_two : (d : List ℕ) (i : ℕ) (s : List ℕ) (j k w m : ℕ) {x y z : List ℕ} → x ≡ put d i (take j s) → y ≡ put x (i + k) (part s k w)
-    → z ≡ put y (i + m) (part s m w) → k ≤ j → j ≤ length s → m ≡ k + w → m + w ≡ length s → i + length s ≤ length d → z ≡ put d i s
-put_last_two d i s j k w m {x} p q r hk hj em e hd =
-    let lj : length (take j s) ≡ j = length-take-le j s hj in
-    let lx : length x ≡ length d = ap length p ∙ length-put d i (take j s) (omega (arith, lj)) in
-    let both = put_parts x (i + k) s k w w q (rw em at r) (omega arith) (omega arith) (omega arith) in
-    put_last d i s j k (w + w) p both hk (omega arith) (omega arith) hd

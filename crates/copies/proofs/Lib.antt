@@ -1,2 +1,3 @@
 pub mod CopyLaws
+pub mod OutputLaws
 pub mod OneOutcome

@@ -2,61 +2,28 @@
 // span would pass the end it stands back, and puts some bytes a second time.
 #![tactic(auto)]
 
-ghost use Rattle.std.specs.Prelude.{◌≡◌, ◌+◌, ◌*◌, ◌/◌, ◌≤◌, ◌<◌, length, take};
+pub mod output;
+
+ghost use Rattle.std.specs.Prelude.{◌≡◌, ◌+◌, ◌*◌, ◌/◌, ◌≤◌, ◌<◌, length, take, drop};
 ghost use Rattle.octets.specs.Parts.{put};
 ghost use Rattle.octets.specs.Steps.Puts.{part};
 
-fn put_four(out: &mut [u8], at: usize, src: &[u8], i: usize)
-    requires { (i + 4 ≤ length src.now) × (at + length src.now ≤ length out.old) }
-    ensures { out.new ≡ put out.old (at + i) (part src.now i 4) }
+// W bytes, a number that the compiler knows, so that it makes few loads and stores of them. All are read before the first is
+// put: only so does it test nothing.
+fn put_span<const W: usize>(out: &mut [u8], at: usize, src: &[u8], i: usize)
+    requires { (i + W ≤ length src.now) × (at + length src.now ≤ length out.old) }
+    ensures { out.new ≡ put out.old (at + i) (part src.now i W) }
 {
-    octets::put_u32(out, at + i, octets::u32_at(src, i));
-}
-
-fn put_eight(out: &mut [u8], at: usize, src: &[u8], i: usize)
-    requires { (i + 8 ≤ length src.now) × (at + length src.now ≤ length out.old) }
-    ensures { out.new ≡ put out.old (at + i) (part src.now i 8) }
-{
-    octets::put_u64(out, at + i, octets::u64_at(src, i));
-}
-
-// Both halves are read before the first is put: only so does the compiler make one load and one store of them.
-fn put_sixteen(out: &mut [u8], at: usize, src: &[u8], i: usize)
-    requires { (i + 16 ≤ length src.now) × (at + length src.now ≤ length out.old) }
-    ensures { out.new ≡ put out.old (at + i) (part src.now i 16) }
-{
-    let low = octets::u64_at(src, i);
-    let high = octets::u64_at(src, i + 8);
-    octets::put_u64(out, at + i, low);
-    octets::put_u64(out, at + i + 8, high);
-}
-
-fn put_thirty_two(out: &mut [u8], at: usize, src: &[u8], i: usize)
-    requires { (i + 32 ≤ length src.now) × (at + length src.now ≤ length out.old) }
-    ensures { out.new ≡ put out.old (at + i) (part src.now i 32) }
-{
-    put_sixteen(out, at, src, i);
-    put_sixteen(out, at, src, i + 16);
-}
-
-fn put_sixty_four(out: &mut [u8], at: usize, src: &[u8], i: usize)
-    requires { (i + 64 ≤ length src.now) × (at + length src.now ≤ length out.old) }
-    ensures { out.new ≡ put out.old (at + i) (part src.now i 64) }
-{
-    put_sixteen(out, at, src, i);
-    put_sixteen(out, at, src, i + 16);
-    put_sixteen(out, at, src, i + 32);
-    put_sixteen(out, at, src, i + 48);
+    let span: [u8; W] = *src[i..i + W].as_array().unwrap();
+    out[at + i..at + i + W].copy_from_slice(&span);
 }
 
 fn put_each(out: &mut [u8], at: usize, src: &[u8])
     requires { at + length src.now ≤ length out.old }
     ensures { out.new ≡ put out.old at src.now }
 {
-    let mut i: usize = 0;
-    while i < src.len() {
+    for i in 0..src.len() {
         out[at + i] = src[i];
-        i += 1;
     }
 }
 
@@ -67,37 +34,31 @@ fn put_few(out: &mut [u8], at: usize, src: &[u8])
 {
     let n = src.len();
     if 8 <= n {
-        put_eight(out, at, src, 0);
-        put_eight(out, at, src, n - 8);
+        put_span::<8>(out, at, src, 0);
+        put_span::<8>(out, at, src, n - 8);
         return;
     }
     if 4 <= n {
-        put_four(out, at, src, 0);
-        put_four(out, at, src, n - 4);
+        put_span::<4>(out, at, src, 0);
+        put_span::<4>(out, at, src, n - 4);
         return;
     }
     put_each(out, at, src);
 }
 
-// As many bytes as whole turns of 128 have: three instructions of a turn copy nothing.
+// As many bytes as whole turns of 128 have.
 fn put_turns(out: &mut [u8], at: usize, src: &[u8])
     requires { at + length src.now ≤ length out.old }
     ensures { out.new ≡ put out.old at (take (128 * (length src.now / 128)) src.now) }
 {
-    if src.len() < 128 {
-        return;
-    }
-    // The last place where a turn can start: up to it i + 128 cannot wrap.
-    let last = src.len() - 128;
-    let mut i: usize = 0;
-    while i <= last {
-        put_sixty_four(out, at, src, i);
-        put_sixty_four(out, at, src, i + 64);
-        i += 128;
+    for turn in 0..src.len() / 128 {
+        put_span::<128>(out, at, src, 128 * turn);
     }
 }
 
 // Two spans that may overlap, first and last, cost less than a loop of sixteens; over 128 bytes whole turns come first.
+// Merged into its callers, it would have them keep all that they hold in memory.
+#[inline(never)]
 pub fn put_bytes(out: &mut [u8], at: usize, src: &[u8])
     requires { at + length src.now ≤ length out.old }
     ensures { out.new ≡ put out.old at src.now }
@@ -108,21 +69,20 @@ pub fn put_bytes(out: &mut [u8], at: usize, src: &[u8])
         return;
     }
     if n <= 32 {
-        put_sixteen(out, at, src, 0);
-        put_sixteen(out, at, src, n - 16);
+        put_span::<16>(out, at, src, 0);
+        put_span::<16>(out, at, src, n - 16);
         return;
     }
     if n <= 64 {
-        put_thirty_two(out, at, src, 0);
-        put_thirty_two(out, at, src, n - 32);
+        put_span::<32>(out, at, src, 0);
+        put_span::<32>(out, at, src, n - 32);
         return;
     }
     if n <= 128 {
-        put_sixty_four(out, at, src, 0);
-        put_sixty_four(out, at, src, n - 64);
+        put_span::<64>(out, at, src, 0);
+        put_span::<64>(out, at, src, n - 64);
         return;
     }
     put_turns(out, at, src);
-    put_sixty_four(out, at, src, n - 128);
-    put_sixty_four(out, at, src, n - 64);
+    put_span::<128>(out, at, src, n - 128);
 }

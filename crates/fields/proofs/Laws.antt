@@ -1,16 +1,14 @@
 -- What the tests of the numbers tell, and the parts of a record put together.
-use mathlib.Core.Path.{◌≡◌, refl, sym, ap, ◌∙◌}
-use mathlib.Core.List.{List, [], ◌∷◌, ◌++◌, append-nil}
+use mathlib.Core.Path.{◌≡◌, refl, sym, ◌∙◌}
+use mathlib.Core.List.{List, [], ◌∷◌}
 use mathlib.Core.Bool.{Bool, true, ◌&&◌}
 use Prim.Native.Nat.{ℕ, zero, suc, ◌+◌, ◌*◌, ◌<◌}
 use native.Mathlib.Omega.{arith}
 use native.Mathlib.Nat.{zero-add, add-zero}
-use lib.ListN.{length, get_or, set, replicate, get_or-replicate, drop_of_length-le, length-set}
+use lib.ListN.{length, get_or}
 use lib.Seq.{ext_get_or}
 use lib.IntN.{ℤ}
 use borrow.Author.Tests.{ltb-true}
-use Rattle.octets.specs.Parts.{put}
-use Rattle.octets.proofs.PartLaws.{putting, put_none, put_more, put_whole}
 use Rattle.format.specs.declared.Place.{Place}
 use Rattle.format.specs.declared.Header.{Header}
 use Rattle.format.specs.declared.Link.{Link}
@@ -18,8 +16,7 @@ use Rattle.format.specs.declared.Record.{Record}
 use Rattle.format.specs.Tests.{no_place}
 use Rattle.format.specs.Header.{signed}
 use Rattle.format.proofs.Bools.{and-true, every_out}
-use Rattle.fields.specs.Fields.{field_count, pairs, word_at, header_numbers, info_numbers, are_record, header_from, link_from, slot_at, row_from, places_from, record_from}
-use Rattle.fields.specs.Steps.Putting.{with_place}
+use Rattle.fields.specs.Fields.{pairs, word_at, header_numbers, info_numbers, are_record, header_from, link_from, slot_at, row_from, places_from, record_from}
 
 module _ (f : List ℕ) where
   abbrev Word : ℕ → Type 0
@@ -136,34 +133,3 @@ pairs_len (p ∷ ps) (suc k) = let e : 2 * suc k + 1 ≡ suc (suc (2 * k + 1)) =
 pub length-pairs : (ps : List Place) → length (pairs ps) ≡ 2 * length ps
 length-pairs [] = refl
 length-pairs (p ∷ ps) = omega (arith, length-pairs ps)
-
--- ---- zeros put over all
-
--- a put as long as the buffer leaves nothing of what was there
-put_over : (d w : List ℕ) → length d ≡ length w → put d 0 w ≡ w
-unfolding put
-put_over d w e = ap (λ (t : List ℕ). w ++ t) (drop_of_length-le d {i = 0 + length w} (omega arith)) ∙ append-nil w
-
-abbrev zeros : List ℕ
-zeros = replicate field_count 0
-
-unfoldable pub cleared : List ℕ → ℕ → List ℕ
-cleared d i = putting d 0 zeros i
-
-pub cleared_none : (d : List ℕ) → d ≡ cleared d 0
-unfolding cleared
-cleared_none d = put_none d 0 zeros
-
-module _ (d : List ℕ) (size : length d ≡ field_count) (i : ℕ) {x : List ℕ} (e : x ≡ cleared d i) where
-  pub cleared_more : i < length d → set x i 0 ≡ cleared d (i + 1)
-  unfolding cleared
-  cleared_more h = rw (zero-add i, get_or-replicate {A = ℕ} field_count i 0 0 (omega arith)) at (put_more d 0 zeros i e (omega arith) (omega arith))
-
-  pub cleared_whole : i ≡ length d → x ≡ zeros
-  unfolding cleared
-  cleared_whole h = put_whole d 0 zeros i e (omega arith) ∙ put_over d zeros size
-
--- a place that is put leaves the length as it is
-pub place_keeps : (f : List ℕ) (k : ℕ) (b : Place) {g : List ℕ} → g ≡ with_place f k b → length g ≡ length f
-unfolding with_place
-place_keeps f k b e = ap length e ∙ simp length-set

@@ -73,11 +73,7 @@ pub fn clear(f: &mut [u64])
     requires { length f.old ≡ field_count }
     ensures { f.new ≡ replicate field_count 0 }
 {
-    let mut i: usize = 0;
-    while i < f.len() {
-        f[i] = 0;
-        i += 1;
-    }
+    f.fill(0);
 }
 
 // The place in slot k of the record.
@@ -112,10 +108,8 @@ fn places_from(f: &[u64]) -> [Place; 17]
     ensures { result ≡ places_from f.now }
 {
     let mut row = [format::NO_PLACE; 17];
-    let mut k: usize = 0;
-    while k < 17 {
-        row[k] = slot_at(f, k);
-        k += 1;
+    for (k, place) in row.iter_mut().enumerate() {
+        *place = slot_at(f, k);
     }
     row
 }

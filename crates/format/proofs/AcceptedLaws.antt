@@ -13,8 +13,6 @@ use Rattle.format.specs.declared.Record.{Record}
 use Rattle.format.specs.declared.Reading.{Reading}
 use Rattle.format.specs.declared.Fault.{Fault}
 use Rattle.format.specs.declared.Fault.TheVariants.{Long as LONG, Trail as TRAIL}
-use Rattle.format.specs.declared.Verdict.{Verdict}
-use Rattle.format.specs.declared.Verdict.TheVariants.{Accepted, Refused}
 use Rattle.format.specs.declared.Spot.{Spot}
 use Rattle.format.specs.Tests.{Outcome, got, refused, ◌else◌at◌, tests, and_then, section, no_section}
 use Rattle.format.specs.Shortcut.{Sections, most, sections, shortcut, record_of, no_record, verdict_of, held_by, reading}
@@ -22,10 +20,13 @@ use Rattle.format.specs.Bodies.{place_in, all_inside, placed}
 use Rattle.format.specs.Contents.{Contents, present, bodies_of, contents}
 use Rattle.format.specs.Demands.{Refuses}
 use Rattle.format.proofs.Chains.{passed, got_elim, no_value}
+use Rattle.format.proofs.VerdictLaws.{same_fault, same_position}
 use Rattle.format.proofs.WholeLaws.{decode}
 use Rattle.format.proofs.PlaceLaws.{mapped, slot_inside}
 use Rattle.format.proofs.ReadingLaws.{decode_is}
 use Rattle.format.proofs.FoundLaws.{read_present, read_inside}
+use Rattle.format.specs.Verdicts.{Verdict, refused_at}
+use Rattle.std.specs.Prelude.{Ok}
 
 pub record Whole (profile : Profile) (s : List ℕ) (c : Sections) (n : ℕ) : Type 0 where
   pub limit : length s ≤ most
@@ -50,18 +51,18 @@ pub record Read (profile : Profile) (s : List ℕ) (r : Record) (n : ℕ) : Type
   pub is : shortcut profile s ≡ got sections n
   pub held : record_of sections ≡ r
 
-pub accepted_Read : (profile : Profile) (s : List ℕ) (r : Record) (n : ℕ) → reading profile s ≡ record { verdict = Accepted n; held = r } → Read profile s r n
+pub accepted_Read : (profile : Profile) (s : List ℕ) (r : Record) (n : ℕ) → reading profile s ≡ record { verdict = Ok n; held = r } → Read profile s r n
 unfolding reading
 accepted_Read profile s r n e = go (shortcut profile s) refl (ap (λ (x : Reading). x.verdict) e) (ap (λ (x : Reading). x.held) e)
   where
-    go : (o : Outcome Sections) → shortcut profile s ≡ o → verdict_of o ≡ Accepted n → held_by o ≡ r → Read profile s r n
+    go : (o : Outcome Sections) → shortcut profile s ≡ o → verdict_of o ≡ Ok n → held_by o ≡ r → Read profile s r n
     go (got c m) i v h =
         let q : m ≡ n = cc in
         record { sections = c; is = i ∙ ap (got c) q; held = h }
     go (refused f p) i v h = absurd (let z : ◌≡◌ {A = ℕ} 0 1 = cc in omega arith)
 
 -- what a call holds that has read
-pub accepted_held : (profile : Profile) (s : List ℕ) {g : Reading} {n : ℕ} → g ≡ reading profile s → g.verdict ≡ Accepted n → reading profile s ≡ record { verdict = Accepted n; held = g.held }
+pub accepted_held : (profile : Profile) (s : List ℕ) {g : Reading} {n : ℕ} → g ≡ reading profile s → g.verdict ≡ Ok n → reading profile s ≡ record { verdict = Ok n; held = g.held }
 accepted_held profile s {g} e q = sym e ∙ ap (λ (v : Verdict). record { verdict = v; held = g.held }) q
 
 -- a refused one
@@ -70,22 +71,20 @@ pub record RefusedWith (profile : Profile) (s : List ℕ) (f : Fault) (p : ℕ) 
   pub is : shortcut profile s ≡ refused f spot
   pub told : spot.position ≡ p
 
-pub refused_read : (profile : Profile) (s : List ℕ) {f : Fault} {p : ℕ} → (reading profile s).verdict ≡ Refused f p → RefusedWith profile s f p
+pub refused_read : (profile : Profile) (s : List ℕ) {f : Fault} {p : ℕ} → (reading profile s).verdict ≡ refused_at f p → RefusedWith profile s f p
 unfolding reading
 refused_read profile s {f} {p} e = go (shortcut profile s) refl e
   where
-    go : (o : Outcome Sections) → shortcut profile s ≡ o → verdict_of o ≡ Refused f p → RefusedWith profile s f p
+    go : (o : Outcome Sections) → shortcut profile s ≡ o → verdict_of o ≡ refused_at f p → RefusedWith profile s f p
     go (got c n) i h = absurd (let z : ◌≡◌ {A = ℕ} 0 1 = cc in omega arith)
-    go (refused x y) i h =
-        let a : x ≡ f = cc in
-        record { spot = y; is = i ∙ ap (λ (g : Fault). refused g y) a; told = cc }
+    go (refused x y) i h = record { spot = y; is = i ∙ ap (λ (g : Fault). refused g y) (same_fault h); told = same_position h }
 
 -- ---- what holds of an accepted one
 
 abbrev In : ℕ → Place → Type 0
 In n b = b.at + b.len ≤ n
 
-module _ (profile : Profile) (s : List ℕ) (r : Record) (n : ℕ) (e : reading profile s ≡ record { verdict = Accepted n; held = r }) where
+module _ (profile : Profile) (s : List ℕ) (r : Record) (n : ℕ) (e : reading profile s ≡ record { verdict = Ok n; held = r }) where
   reads : Read profile s r n
   reads = accepted_Read profile s r n e
 
@@ -128,7 +127,7 @@ contents_is s r = refl
 -- what reads for its contents is accepted
 pub record Found (profile : Profile) (s : List ℕ) (c : Contents) (n : ℕ) : Type 0 where
   pub held : Record
-  pub is : reading profile s ≡ record { verdict = Accepted n; held = held }
+  pub is : reading profile s ≡ record { verdict = Ok n; held = held }
   pub same : contents s held ≡ c
 
 pub decode_accepted : (profile : Profile) (s : List ℕ) (c : Contents) (n : ℕ) → decode profile s ≡ got c n → Found profile s c n
@@ -139,7 +138,7 @@ decode_accepted profile s c n e = go (shortcut profile s) refl (sym (decode_is p
     go (got a m) i h =
         let q : m ≡ n = cc in
         let b : bodies_of s (record_of a) ≡ c = cc in
-        let v : reading profile s ≡ record { verdict = Accepted n; held = record_of a } = rw (i, q) in
+        let v : reading profile s ≡ record { verdict = Ok n; held = record_of a } = rw (i, q) in
         let z : contents s (record_of a) ≡ bodies_of s (record_of a) = same_contents (record_of a) (accepted_present profile s (record_of a) n v) in
         record { held = record_of a; is = v; same = z ∙ b }
       where
@@ -152,7 +151,7 @@ pub decode-refused : (profile : Profile) (s : List ℕ) (f : Fault) (p : Spot) �
 unfolding Refuses reading
 decode-refused profile s f p e = go (shortcut profile s) refl (sym (decode_is profile s) ∙ e)
   where
-    go : (o : Outcome Sections) → shortcut profile s ≡ o → mapped (λ c. bodies_of s (record_of c)) o ≡ refused f p → reading profile s ≡ record { verdict = Refused f p.position; held = no_record }
+    go : (o : Outcome Sections) → shortcut profile s ≡ o → mapped (λ c. bodies_of s (record_of c)) o ≡ refused f p → reading profile s ≡ record { verdict = refused_at f p.position; held = no_record }
     go (got a m) i h = absurd (let z : ◌≡◌ {A = ℕ} 0 1 = cc in omega arith)
     go (refused x y) i h =
         let a : x ≡ f = cc in

@@ -17,7 +17,6 @@ use Rattle.format.specs.declared.Fault.TheVariants.{Cut as CUT, Lost as LOST}
 use Rattle.format.specs.declared.Record.{Record}
 use Rattle.format.specs.declared.Reading.{Reading}
 use Rattle.format.specs.declared.Rescue.{Rescue}
-use Rattle.format.specs.declared.Verdict.TheVariants.{Accepted, Refused}
 use Rattle.format.specs.Numbers.{number_of}
 use Rattle.format.specs.Tests.{Test, got, refused}
 use Rattle.format.specs.Store.{part_tests, storage_tests, store_tests}
@@ -30,9 +29,9 @@ use Rattle.format.specs.Target.{target, target_answer, target_output}
 use Rattle.format.specs.Key.{key, key_answer, key_output}
 use Rattle.format.specs.StoreList.{store_list, store_list_answer, store_list_output}
 use Rattle.format.specs.Moving.{to_unicode, to_unicode_answer, to_unicode_output, to_byte_strings, to_bytes_answer, to_bytes_output}
-use Rattle.format.specs.Salvage.{at_block, before, refused_by, rescue_of, rescue, rescued, salvaging, salvage_answer, salvage_output, Saved, Lost}
+use Rattle.format.specs.Salvage.{at_block, before, refused_by, rescue_of, rescue, rescued, salvaging, salvage_verdict, salvage_answer, salvage_output, Saved, Lost}
 use Rattle.format.specs.Beginnings.{BeginningStopped, BeginningSaved}
-use Rattle.format.proofs.Bools.{by_order, and-true}
+use Rattle.format.proofs.Bools.{by_order}
 use Rattle.format.proofs.Chains.{Pass, drop-take}
 use Rattle.format.proofs.StoreLaws.{parts_split}
 use Rattle.format.proofs.BlockLaws.{blocks_Walked}
@@ -41,9 +40,11 @@ use Rattle.format.proofs.AcceptedLaws.{Whole, Read, accepted_Read, shortcut-Whol
 use Rattle.format.proofs.Demands.{beginning_cut}
 use Rattle.format.proofs.SharedLaws.{sections-Shared}
 use Rattle.format.proofs.SalvageLaws.{front_rows, body_rows, rows_split, body_longer, sections_end}
-use Rattle.format.proofs.SalvageDemands.{rescue_is, rescue-Saves, fit, unfit_Lost, Lost-exactly, with_terminal}
+use Rattle.format.proofs.SalvageDemands.{rescue_is, rescue-Saves, unfit_Lost, Lost-exactly, with_terminal}
 use Rattle.format.proofs.SalvageKeyDemands.{Saved-key}
 use Rattle.format.proofs.BeginningLaws.{sum-append, next_size, Hit, sections-Hit}
+use Rattle.format.specs.Verdicts.{refused_at}
+use Rattle.std.specs.Prelude.{Option, Some, None, Ok}
 
 -- ---- every call refuses a proper beginning of an accepted shortcut with CUT, at a position not after the cut, and touches no buffer
 
@@ -77,8 +78,8 @@ no_other_begins profile s t r q a b e =
     sym e ∙ ap (λ (i : ℕ). take i t) n ∙ take-length t)
     (λ h.
     let z = beginning_cut profile t q b (length s) h in
-    let y : reading profile s ≡ record { verdict = Refused CUT z.position; held = no_record } = rw e at z.refusal in
-    let v : Accepted (length s) ≡ Refused CUT z.position = ap (λ (x : Reading). x.verdict) (sym a ∙ y) in
+    let y : reading profile s ≡ record { verdict = refused_at CUT z.position; held = no_record } = rw e at z.refusal in
+    let v : Ok (length s) ≡ refused_at CUT z.position = ap (λ (x : Reading). x.verdict) (sym a ∙ y) in
     absurd (let i : ◌≡◌ {A = ℕ} 0 1 = cc in omega arith))
 
 -- a zero size
@@ -93,19 +94,18 @@ module _ (s : List ℕ) (r : Record) (a : Accepts Strict s r) where
   abbrev b : ℕ
   b = (place_in r blocks_slot).at
 
-  pub beginning_lost : (k : ℕ) → k < b → (out : List ℕ) → (salvage_answer (take k s) out).verdict ≡ Refused LOST 0
+  pub beginning_lost : (k : ℕ) → k < b → (out : List ℕ) → salvage_verdict (salvage_answer (take k s) out) ≡ refused_at LOST 0
   unfolding Accepts
-  beginning_lost k h out = (Lost-exactly (take k s) out).1 (go (fit (take k s) (rescue (take k s))) refl)
+  beginning_lost k h out = (Lost-exactly (take k s) out).1 (go (rescue (take k s)) refl)
     where
       t : List ℕ
       t = take k s
 
-      kept : fit t (rescue t) ≡ true → b ≤ k
-      kept e =
-          let (can, l) = and-true (rescue t).can (leb (length (rescued t (rescue t))) most) e in
-          let x : Saved t (rescue t).kept (rescued t (rescue t)) = ((rescue-Saves t).saves can).1 (leb-true (length (rescued t (rescue t))) most l) in
-          let w : List ℕ = rescued t (rescue t) in
-          let n : ℕ = (rescue t).kept in
+      kept : (q : Rescue) → rescue t ≡ Some q → leb (length (rescued t q)) most ≡ true → b ≤ k
+      kept q e l =
+          let w : List ℕ = rescued t q in
+          let n : ℕ = q.kept in
+          let x : Saved t n w = ((rescue-Saves t).saves q e).1 (leb-true (length w) most l) in
           let y = accepted_Read Strict w x.held (length w) x.accepted in
           let z = accepted_Read Strict s r (length s) a in
           let i = (shortcut-Whole Strict w y.sections (length w) y.is).read in
@@ -118,9 +118,13 @@ module _ (s : List ℕ) (r : Record) (a : Accepts Strict s r) where
           let c : (blocks_of z.sections).start ≡ b = ap (λ (q : Record). (place_in q blocks_slot).at) z.held in
           omega (arith, start, c, (sections_end w y.sections (length w) i).1, x.reach)
 
-      go : (o : Bool) → fit t (rescue t) ≡ o → Lost t
-      go true e = absurd (omega (arith, kept e))
-      go false e = unfit_Lost t e
+      by : (q : Rescue) → rescue t ≡ Some q → (o : Bool) → leb (length (rescued t q)) most ≡ o → Lost t
+      by q e true l = absurd (omega (arith, kept q e l))
+      by q e false l = unfit_Lost t (rw e l)
+
+      go : (o : Option Rescue) → rescue t ≡ o → Lost t
+      go None e = unfit_Lost t (rw e)
+      go (Some q) e = by q e (leb (length (rescued t q)) most) refl
 
 -- ---- and else all that stands before the block that the cut hit
 
@@ -185,7 +189,7 @@ module _ (s : List ℕ) (r : Record) (a : Accepts Strict s r) (k : ℕ) (l : k <
   saved : Saved t n (take n s ++ little 4 0)
   saved =
       let v : n ≤ length t = omega (arith, long, kept) in
-      rw (keeps, same) at (((rescue-Saves t).saves (ap (λ (x : Rescue). x.can) keeps)).1 (rw (keeps, with_terminal t n v) (omega (arith, behind, whole.limit))))
+      rw same at (((rescue-Saves t).saves (record { number = 2; kept = n; mended = true }) keeps).1 (rw (with_terminal t n v) (omega (arith, behind, whole.limit))))
 
   cut_saved : BeginningSaved s k
   unfolding listing salvage_answer salvage_output output_of

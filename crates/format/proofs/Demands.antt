@@ -15,10 +15,9 @@ use Rattle.format.specs.declared.Record.{Record}
 use Rattle.format.specs.declared.Reading.{Reading}
 use Rattle.format.specs.declared.Fault.{Fault}
 use Rattle.format.specs.declared.Fault.TheVariants.{Cut as CUT, Place as PLACE, Unwritable as UNWRITABLE, Room as ROOM}
-use Rattle.format.specs.declared.Verdict.{Verdict}
-use Rattle.format.specs.declared.Verdict.TheVariants.{Accepted, Refused}
 use Rattle.format.specs.Tests.{Outcome, got, refused}
 use Rattle.format.proofs.AnswerLaws.{nowhere}
+use Rattle.format.proofs.VerdictLaws.{same_fault}
 use Rattle.format.specs.Shortcut.{Sections, shortcut, record_of, verdict_of, reading}
 use Rattle.format.specs.Bodies.{placed}
 use Rattle.format.specs.Contents.{Contents, present, contents, Same}
@@ -31,6 +30,8 @@ use Rattle.format.proofs.WholeLaws.{shortest, writes, refuses, beginning, can_Va
 use Rattle.format.proofs.FoundLaws.{read_EndToEnd}
 use Rattle.format.proofs.TypedLaws.{record_Typed}
 use Rattle.format.proofs.AcceptedLaws.{accepted_Read, shortcut-Whole, accepted_length, accepted_present, accepted_inside, accepted_decode, decode_accepted, decode-refused}
+use Rattle.format.specs.Verdicts.{Verdict, refused_at}
+use Rattle.std.specs.Prelude.{Ok}
 
 -- ---- Demand 1: every input is answered, with one answer
 
@@ -56,11 +57,11 @@ one_answer profile s a b p q = p ∙ sym q
 -- ---- Demand 2: what is shown is what is there
 
 -- an accepted shortcut is accepted whole
-pub accepted_whole : (profile : Profile) (s : List ℕ) (r : Record) (n : ℕ) → reading profile s ≡ record { verdict = Accepted n; held = r } → Accepts profile s r
+pub accepted_whole : (profile : Profile) (s : List ℕ) (r : Record) (n : ℕ) → reading profile s ≡ record { verdict = Ok n; held = r } → Accepts profile s r
 unfolding Accepts
 accepted_whole profile s r n e =
     let q : n ≡ length s = accepted_length profile s r n e in
-    e ∙ ap (λ (k : ℕ). record { verdict = Accepted k; held = r }) q
+    e ∙ ap (λ (k : ℕ). record { verdict = Ok k; held = r }) q
 
 -- its bodies lie inside it, and what is absent is zero
 pub bodies_inside : (profile : Profile) (s : List ℕ) (r : Record) → Accepts profile s r → placed (length s) r ≡ true
@@ -171,17 +172,17 @@ module _ (profile : Profile) (r : Record) (d : List ℕ) where
 -- what it comes to for a call that has ended so, if no present body passes its buffer
 module _ (profile : Profile) {r : Record} {d out : List ℕ} (p : placed (length d) r ≡ true) where
   -- UNWRITABLE exactly if no accepted shortcut reads as the record
-  pub unwritable_exactly : {v : Verdict} {x : List ℕ} → Ends profile r d out v x → (v ≡ Refused UNWRITABLE 0) ↔ ((s : List ℕ) → ReadsAs profile s r d → ⊥)
+  pub unwritable_exactly : {v : Verdict} {x : List ℕ} → Ends profile r d out v x → (v ≡ refused_at UNWRITABLE 0) ↔ ((s : List ℕ) → ReadsAs profile s r d → ⊥)
   unwritable_exactly (misplaced q) = clash p q
   unwritable_exactly (unwritable q h) = (λ e. h, λ k. refl)
-  unwritable_exactly (no_room w q y h) = (λ e. absurd (let z : ◌≡◌ {A = ℕ} 0 1 = cc in omega arith), λ k. absurd (k w y))
+  unwritable_exactly (no_room w q y h) = (λ e. absurd (let f = same_fault e in let z : ◌≡◌ {A = ℕ} 0 1 = cc in omega arith), λ k. absurd (k w y))
   unwritable_exactly (written w q y l h) = (λ e. absurd (let z : ◌≡◌ {A = ℕ} 0 1 = cc in omega arith), λ k. absurd (k w y))
 
   -- ROOM exactly if some do but none as short as the room
   pub room_exactly : {v : Verdict} {x : List ℕ} → Ends profile r d out v x
-      → (v ≡ Refused ROOM 0) ↔ (((w : List ℕ) × ReadsAs profile w r d) × ((s : List ℕ) → ReadsAs profile s r d → length out < length s))
+      → (v ≡ refused_at ROOM 0) ↔ (((w : List ℕ) × ReadsAs profile w r d) × ((s : List ℕ) → ReadsAs profile s r d → length out < length s))
   room_exactly (misplaced q) = clash p q
-  room_exactly (unwritable q h) = (λ e. absurd (let z : ◌≡◌ {A = ℕ} 0 1 = cc in omega arith), λ k. absurd (h k.0.0 k.0.1))
+  room_exactly (unwritable q h) = (λ e. absurd (let f = same_fault e in let z : ◌≡◌ {A = ℕ} 0 1 = cc in omega arith), λ k. absurd (h k.0.0 k.0.1))
   room_exactly (no_room w q y h) = (λ e. ((w, y), h), λ k. refl)
   room_exactly (written w q y l h) = (λ e. absurd (let z : ◌≡◌ {A = ℕ} 0 1 = cc in omega arith), λ k. absurd (let z = k.1 w y in omega arith))
 

@@ -7,6 +7,7 @@ use native.Mathlib.Omega.{arith}
 use lib.ListN.{length, take, drop}
 use lib.Dec.{leb, ltb, eqb}
 use borrow.Author.Tests.{leb-true, ltb-true}
+use Rattle.std.specs.Prelude.{IfSome, Some}
 use Rattle.octets.specs.Numbers.{u32_at}
 use Rattle.format.specs.declared.Fault.{Fault}
 use Rattle.format.specs.declared.Fault.TheVariants.{Piece as PIECE}
@@ -59,11 +60,11 @@ module _ (X : Fault → ℕ → Type 0) where
       ((λ z. g t.fault t.field (ltb-true t.field n a)), λ z. Each-below n ts g b)
 
   -- the first wrong field is one of those
-  pub Each-wrong : (ts : List Test) → Each X ts → (Y : ℕ → Type 0) → Y 0 → ((f : Fault) (i : ℕ) → X f i → Y i) → Y (wrong ts)
-  Each-wrong [] h Y none some = none
-  Each-wrong (t ∷ ts) h Y none some = go t.holds refl (λ e. Each-wrong ts (h.1 e) Y none some)
+  pub Each-wrong : (ts : List Test) → Each X ts → (Y : ℕ → Type 0) → ((f : Fault) (i : ℕ) → X f i → Y i) → IfSome (wrong ts) Y
+  Each-wrong [] h Y some = tt
+  Each-wrong (t ∷ ts) h Y some = go t.holds refl (λ e. Each-wrong ts (h.1 e) Y some)
     where
-      go : (b : Bool) → t.holds ≡ b → (t.holds ≡ true → Y (wrong ts)) → Y (cond b (wrong ts) t.field)
+      go : (b : Bool) → t.holds ≡ b → (t.holds ≡ true → IfSome (wrong ts) Y) → IfSome (cond b (wrong ts) (Some t.field)) Y
       go true e f = f e
       go false e f = some t.fault t.field (h.0 e)
 

@@ -8,6 +8,8 @@ use lib.ListN.{length, take, drop, length-append, length-drop}
 use lib.Seq.{take_at}
 use lib.Dec.{leb, ltb, eqb}
 use borrow.Author.Tests.{eqb-true, ltb-true, lt-ltb, leb-true, le-leb}
+use Rattle.std.specs.Prelude.{IfSome, Some, None}
+use Rattle.std.proofs.lemmas.Option.{IfSome_then}
 use Rattle.octets.specs.Numbers.{Bytes, number_at, u16_at, little}
 use Rattle.octets.proofs.NumberLaws.{Bytes-append, Bytes-drop, Bytes-take, Bytes-nil, Bytes-cons, Bytes-little, length-little, number_back, number_below, number_same}
 use Rattle.format.specs.declared.Fault.{Fault}
@@ -53,43 +55,43 @@ tests_walk f i zero (a ∷ b ∷ l) = go (eqb (a + 256 * b) 0) (tests_walk f (i 
 tests_walk f i (suc k) [] = refl
 tests_walk f i (suc k) (a ∷ l) = tests_walk f i k l
 
--- all tests of a list have its fault, and stand at its place or after it
-pub item_Faults : (f : Fault) (i k : ℕ) (l : List ℕ) → 0 < i → Faults f (item_tests f i k l)
+-- all tests of a list have its fault
+pub item_Faults : (f : Fault) (i k : ℕ) (l : List ℕ) → Faults f (item_tests f i k l)
 unfolding item_tests
-item_Faults f i zero [] h = (refl, (h, tt))
-item_Faults f i zero (a ∷ []) h = (refl, (h, tt))
-item_Faults f i zero (a ∷ b ∷ l) h = go (eqb (a + 256 * b) 0) (item_Faults f (i + (a + 256 * b)) (a + 256 * b - 2) l (omega arith))
+item_Faults f i zero [] = (refl, tt)
+item_Faults f i zero (a ∷ []) = (refl, tt)
+item_Faults f i zero (a ∷ b ∷ l) = go (eqb (a + 256 * b) 0) (item_Faults f (i + (a + 256 * b)) (a + 256 * b - 2) l)
   where
     go : (t : Bool) → Faults f (item_tests f (i + (a + 256 * b)) (a + 256 * b - 2) l)
         → Faults f (cond t (eqb (length l) 0 else f at i ∷ []) (leb 2 (a + 256 * b) else f at i ∷ leb (a + 256 * b - 2) (length l) else f at i ∷ item_tests f (i + (a + 256 * b)) (a + 256 * b - 2) l))
-    go true r = (refl, (h, tt))
-    go false r = (refl, (h, (refl, (h, r))))
-item_Faults f i (suc k) [] h = (refl, (h, tt))
-item_Faults f i (suc k) (a ∷ l) h = item_Faults f i k l h
+    go true r = (refl, tt)
+    go false r = (refl, (refl, r))
+item_Faults f i (suc k) [] = (refl, tt)
+item_Faults f i (suc k) (a ∷ l) = item_Faults f i k l
 
 -- the wrong place is none after the list's end
-pub item_wrong_inside : (f : Fault) (i k : ℕ) (l : List ℕ) → wrong (item_tests f i k l) ≤ i + (length l - k)
+pub item_wrong_inside : (f : Fault) (i k : ℕ) (l : List ℕ) → IfSome (wrong (item_tests f i k l)) (λ j. j ≤ i + (length l - k))
 unfolding item_tests
 item_wrong_inside f i zero [] = omega arith
 item_wrong_inside f i zero (a ∷ []) = omega arith
 item_wrong_inside f i zero (a ∷ b ∷ l) = go (eqb (a + 256 * b) 0) (leb 2 (a + 256 * b)) refl (leb (a + 256 * b - 2) (length l)) refl (item_wrong_inside f (i + (a + 256 * b)) (a + 256 * b - 2) l)
   where
-    end : (t : Bool) → cond t 0 i ≤ i + (length (a ∷ b ∷ l) - 0)
-    end true = omega arith
+    end : (t : Bool) → IfSome (cond t None (Some i)) (λ j. j ≤ i + (length (a ∷ b ∷ l) - 0))
+    end true = tt
     end false = omega arith
 
     go : (t u : Bool) → leb 2 (a + 256 * b) ≡ u → (v : Bool) → leb (a + 256 * b - 2) (length l) ≡ v
-        → wrong (item_tests f (i + (a + 256 * b)) (a + 256 * b - 2) l) ≤ i + (a + 256 * b) + (length l - (a + 256 * b - 2))
-        → wrong (cond t (eqb (length l) 0 else f at i ∷ []) (u else f at i ∷ v else f at i ∷ item_tests f (i + (a + 256 * b)) (a + 256 * b - 2) l)) ≤ i + (length (a ∷ b ∷ l) - 0)
+        → IfSome (wrong (item_tests f (i + (a + 256 * b)) (a + 256 * b - 2) l)) (λ j. j ≤ i + (a + 256 * b) + (length l - (a + 256 * b - 2)))
+        → IfSome (wrong (cond t (eqb (length l) 0 else f at i ∷ []) (u else f at i ∷ v else f at i ∷ item_tests f (i + (a + 256 * b)) (a + 256 * b - 2) l))) (λ j. j ≤ i + (length (a ∷ b ∷ l) - 0))
     go true u eu v ev r = end (eqb (length l) 0)
     go false true eu true ev r =
         let m = leb-true 2 (a + 256 * b) eu in
         let n = leb-true (a + 256 * b - 2) (length l) ev in
-        omega arith
+        IfSome_then (wrong (item_tests f (i + (a + 256 * b)) (a + 256 * b - 2) l)) r (λ j q. omega arith)
     go false true eu false ev r = omega arith
     go false false eu v ev r = omega arith
 item_wrong_inside f i (suc k) [] = omega arith
-item_wrong_inside f i (suc k) (a ∷ l) = omega (arith, item_wrong_inside f i k l)
+item_wrong_inside f i (suc k) (a ∷ l) = IfSome_then (wrong (item_tests f i k l)) (item_wrong_inside f i k l) (λ j q. omega arith)
 
 -- what passes ends in two zero bytes
 pub ends : (k : ℕ) (l : List ℕ) → walk k l ≡ true → (x : List ℕ) × (l ≡ x ++ 0 ∷ 0 ∷ [])

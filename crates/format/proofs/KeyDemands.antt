@@ -15,7 +15,6 @@ use Rattle.format.specs.declared.Record.{Record}
 use Rattle.format.specs.declared.Reading.{Reading}
 use Rattle.format.specs.declared.Fault.{Fault}
 use Rattle.format.specs.declared.Fault.TheVariants.{Cut as CUT, Room as ROOM}
-use Rattle.format.specs.declared.Verdict.TheVariants.{Accepted, Refused}
 use Rattle.format.specs.declared.Spot.{Spot}
 use Rattle.format.specs.Tests.{Outcome, got, refused}
 use Rattle.format.proofs.AnswerLaws.{nowhere}
@@ -30,6 +29,8 @@ use Rattle.format.specs.Key.{Part, no_part, some_part, part_if, Key, key_of, key
 use Rattle.format.proofs.AcceptedLaws.{accepted_Read, refused_read}
 use Rattle.format.proofs.Demands.{beginning_cut}
 use Rattle.format.proofs.KeyLaws.{equal_keys}
+use Rattle.format.specs.Verdicts.{refused_at}
+use Rattle.std.specs.Prelude.{Ok}
 
 -- ---- what a call wrote
 
@@ -45,21 +46,21 @@ key_of_lem : (profile : Profile) (s : List ℕ) (c : Sections) (k room : ℕ) �
 unfolding key
 key_of_lem profile s c k room e b h = rw (e, h)
 
-key-refused : (profile : Profile) (s : List ℕ) (room : ℕ) {f : Fault} {p : Spot} → shortcut profile s ≡ refused f p → verdict_of (key profile s room) ≡ Refused f p.position
+key-refused : (profile : Profile) (s : List ℕ) (room : ℕ) {f : Fault} {p : Spot} → shortcut profile s ≡ refused f p → verdict_of (key profile s room) ≡ refused_at f p.position
 unfolding key
 key-refused profile s room e = rw e
 
-pub keyed : (profile : Profile) (s out : List ℕ) (n : ℕ) → key_answer profile s out ≡ Accepted n → Keyed profile s out n
+pub keyed : (profile : Profile) (s out : List ℕ) (n : ℕ) → key_answer profile s out ≡ Ok n → Keyed profile s out n
 unfolding key_answer key_output key_in output_of put
 keyed profile s out n e = go (shortcut profile s) refl
   where
-    none : {f : Fault} {p : ℕ} → Refused f p ≡ Accepted n → ⊥
+    none : {f : Fault} {p : ℕ} → refused_at f p ≡ Ok n → ⊥
     none v = let z : ◌≡◌ {A = ℕ} 0 1 = cc in omega arith
 
     fits : (c : Sections) (k : ℕ) → shortcut profile s ≡ got c k → key profile s (length out) ≡ got (key_bytes (key_of s c)) (length (key_bytes (key_of s c))) → Keyed profile s out n
     fits c k i q =
         let w = key_bytes (key_of s c) in
-        let v : Accepted (length w) ≡ Accepted n = ap verdict_of (sym q) ∙ e in
+        let v : Ok (length w) ≡ Ok n = ap verdict_of (sym q) ∙ e in
         let l : length w ≡ n = cc in
         let o : output_of (key profile s (length out)) out ≡ put out 0 w = ap (λ (x : Outcome (List ℕ)). output_of x out) q in
         record { sections = c; count = k; is = i; parts = ap (key_by s) i; written = ap (take n) o ∙ rw (← l) (take-append_seam w (drop (0 + length w) out)) }
@@ -74,7 +75,7 @@ keyed profile s out n e = go (shortcut profile s) refl
 
 -- ---- keys of accepted shortcuts are equal exactly if all that they are made of is: bit 7, and each part with its presence
 
-pub same_key : (profile : Profile) (s t out other : List ℕ) (n m : ℕ) → key_answer profile s out ≡ Accepted n → key_answer profile t other ≡ Accepted m
+pub same_key : (profile : Profile) (s t out other : List ℕ) (n m : ℕ) → key_answer profile s out ≡ Ok n → key_answer profile t other ≡ Ok m
     → (take n (key_output profile s out) ≡ take m (key_output profile t other)) ↔ SameParts (key_in profile s) (key_in profile t)
 same_key profile s t out other n m e f =
     let x = keyed profile s out n e in
@@ -110,7 +111,7 @@ record_Tells profile s r e =
 
 -- two shortcuts whose arguments differ, in being there, in length or in any character, have different keys
 pub other_arguments : (profile : Profile) (s t out other : List ℕ) (r q : Record) (n m : ℕ) → Accepts profile s r → Accepts profile t q → (arguments_of s r ≡ arguments_of t q → ⊥)
-    → key_answer profile s out ≡ Accepted n → key_answer profile t other ≡ Accepted m → take n (key_output profile s out) ≡ take m (key_output profile t other) → ⊥
+    → key_answer profile s out ≡ Ok n → key_answer profile t other ≡ Ok m → take n (key_output profile s out) ≡ take m (key_output profile t other) → ⊥
 other_arguments profile s t out other r q n m a b differ e f same =
     let p = (same_key profile s t out other n m e f).0 same in
     let k = record_Tells profile s r a in
@@ -129,7 +130,7 @@ other_arguments profile s t out other r q n m a b differ e f same =
 -- so do two that differ in one character of the arguments
 pub one_character : (profile : Profile) (s t out other : List ℕ) (r q : Record) (n m i : ℕ) (x y : List ℕ) → Accepts profile s r → Accepts profile t q
     → arguments_of s r ≡ some_part x → arguments_of t q ≡ some_part y → (get_or x i 0 ≡ get_or y i 0 → ⊥)
-    → key_answer profile s out ≡ Accepted n → key_answer profile t other ≡ Accepted m → take n (key_output profile s out) ≡ take m (key_output profile t other) → ⊥
+    → key_answer profile s out ≡ Ok n → key_answer profile t other ≡ Ok m → take n (key_output profile s out) ≡ take m (key_output profile t other) → ⊥
 one_character profile s t out other r q n m i x y a b ex ey differ =
     other_arguments profile s t out other r q n m a b (λ z.
     let w : some_part x ≡ some_part y = sym ex ∙ z ∙ ey in
@@ -137,7 +138,7 @@ one_character profile s t out other r q n m i x y a b ex ey differ =
     differ (rw v))
 
 -- a shortcut cut short never has a key: it is refused with 2, and the buffer stays as it was
-pub cut_no_key : (profile : Profile) (s out : List ℕ) (r : Record) (k : ℕ) → Accepts profile s r → k < length s → (p : ℕ) × ((key_answer profile (take k s) out ≡ Refused CUT p) × (key_output profile (take k s) out ≡ out))
+pub cut_no_key : (profile : Profile) (s out : List ℕ) (r : Record) (k : ℕ) → Accepts profile s r → k < length s → (p : ℕ) × ((key_answer profile (take k s) out ≡ refused_at CUT p) × (key_output profile (take k s) out ≡ out))
 unfolding key_answer key_output key output_of Refuses
 cut_no_key profile s out r k e h =
     let z = beginning_cut profile s r e k h in

@@ -14,7 +14,6 @@ use Rattle.octets.proofs.NumberLaws.{length-little}
 use Rattle.format.specs.declared.Profile.{Profile}
 use Rattle.format.specs.declared.Place.{Place}
 use Rattle.format.specs.declared.Record.{Record}
-use Rattle.format.specs.declared.Verdict.TheVariants.{Accepted}
 use Rattle.format.specs.Tests.{got, bit, place}
 use Rattle.format.specs.Presence.{info_there, workdir_bit, arguments_bit, string_there, strings_unicode, local_there, network_there}
 use Rattle.format.specs.Blocks.{blocks, first_place}
@@ -34,6 +33,7 @@ use Rattle.format.proofs.FoundLaws.{read_Walk}
 use Rattle.format.proofs.AcceptedLaws.{shortcut-Whole, accepted_Read, accepted_present, accepted_decode}
 use Rattle.format.proofs.TargetLaws.{separator_few}
 use Rattle.format.proofs.KeyDemands.{record_Tells}
+use Rattle.std.specs.Prelude.{Ok}
 
 -- ---- what a key is made of: the contents, and the text of a block
 
@@ -209,7 +209,7 @@ target_short profile s r bs e h =
     omega (arith, length_key (key_in profile s), ap bytes_in t)
 
 -- a buffer as long as the shortcut always has room for its key
-pub room_enough : (profile : Profile) (s out : List ℕ) (r : Record) → Bytes s → Accepts profile s r → length s ≤ length out → key_answer profile s out ≡ Accepted (length (key_bytes (key_in profile s)))
+pub room_enough : (profile : Profile) (s out : List ℕ) (r : Record) → Bytes s → Accepts profile s r → length s ≤ length out → key_answer profile s out ≡ Ok (length (key_bytes (key_in profile s)))
 unfolding Accepts key_answer key key_in
 room_enough profile s out r bs e h =
     let x = accepted_Read profile s r (length s) e in

@@ -8,7 +8,6 @@ pub mod Holds
 pub mod Sized
 pub mod HotkeyLaws
 pub mod HeaderLaws
-pub mod SignedLaws
 pub mod ItemsLaws
 pub mod StringLaws
 pub mod PieceLaws
@@ -68,4 +67,5 @@ pub mod BeginningLaws
 pub mod BeginningDemands
 pub mod BlindLaws
 pub mod AnswerLaws
+pub mod VerdictLaws
 pub mod OneOutcome

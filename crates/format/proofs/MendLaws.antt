@@ -75,7 +75,7 @@ Other f i = NoTrail f
 -- what holds of a fault holds of all tests that give it
 pub Each-fault : (X : Fault → Type 0) (f : Fault) (ts : List Test) → X f → Faults f ts → Each (λ g i. X g) ts
 Each-fault X f [] h g = tt
-Each-fault X f (t ∷ ts) h g = ((λ e. rw g.0 h), λ e. Each-fault X f ts h g.1.1)
+Each-fault X f (t ∷ ts) h g = ((λ e. rw g.0 h), λ e. Each-fault X f ts h g.1)
 
 -- ---- readers of what stands before the blocks
 
@@ -165,7 +165,7 @@ Front-items =
     Front-sized 1 2 items_length (λ n. []) items_rules items_value _ _ items_Law (λ p s. place (p + 2) (items_length s - 4)) (λ p s t e u. rw e) (omega arith)
     (λ s. (
       (λ e. not_cut),
-      λ e. ((λ e. not_cut), λ e. Each-fault NoTrail ITEMS (items_rules (take (items_length s) s)) not_items (item_Faults ITEMS 2 0 (drop 2 (take (items_length s) s)) (omega arith))),
+      λ e. ((λ e. not_cut), λ e. Each-fault NoTrail ITEMS (items_rules (take (items_length s) s)) not_items (item_Faults ITEMS 2 0 (drop 2 (take (items_length s) s)))),
     ))
 
 Front-string : (k : ℕ) (u : Bool) → k < 8 → Front (string k u)

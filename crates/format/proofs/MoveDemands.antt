@@ -14,7 +14,6 @@ use Rattle.format.specs.declared.Profile.{Profile}
 use Rattle.format.specs.declared.Link.{Link}
 use Rattle.format.specs.declared.Record.{Record}
 use Rattle.format.specs.declared.Fault.TheVariants.{Unwritable as UNWRITABLE, Room as ROOM, NoTarget as NOTARGET, NoMap as NOMAP}
-use Rattle.format.specs.declared.Verdict.TheVariants.{Accepted}
 use Rattle.format.specs.Tests.{Outcome, got, refused, ◌else◌at◌, no_section, tests}
 use Rattle.format.specs.Presence.{info_there, workdir_bit, arguments_bit, string_there, strings_unicode}
 use Rattle.format.specs.Shortcut.{most, record_of, verdict_of}
@@ -32,6 +31,7 @@ use Rattle.format.proofs.AcceptedLaws.{accepted_Read, accepted_present, accepted
 use Rattle.format.proofs.KeyRoom.{whole_text, key_from, environment_of, made}
 use Rattle.format.proofs.KeySame.{same_environment}
 use Rattle.format.proofs.MoveLaws.{SameBits, set_bits, set_unicode, clear_bits, clear_unicode, bit_clear, bit_set, maps_unicode, unicode_Valid, maps_bytes, bytes_Valid, can_further, Valid-writable, there_and_back, maps_home}
+use Rattle.std.specs.Prelude.{Ok}
 
 -- ---- target text and key by the contents
 
@@ -166,7 +166,7 @@ module _ (profile : Profile) {move : Contents → Contents} {maps : Contents →
       }
 
   -- so it is of every call that answers with a length
-  moves : (out : List ℕ) (n : ℕ) {o : Outcome (List ℕ)} → Ended profile (maps c) (move c) (length out) o → verdict_of o ≡ Accepted n → Moved profile move set translate s r out n (output_of o out)
+  moves : (out : List ℕ) (n : ℕ) {o : Outcome (List ℕ)} → Ended profile (maps c) (move c) (length out) o → verdict_of o ≡ Ok n → Moved profile move set translate s r out n (output_of o out)
   unfolding output_of
   moves out n (no_map p) e = absurd (let z : ◌≡◌ {A = ℕ} 0 1 = cc in omega arith)
   moves out n (unwritable p q) e = absurd (let z : ◌≡◌ {A = ℕ} 0 1 = cc in omega arith)
@@ -206,7 +206,7 @@ moves_to_bytes profile s bs out r n a e =
 -- ---- there and back
 
 -- what a call answered that has moved
-maps_then : (profile : Profile) {maps : Bool} {m : Contents} {room n : ℕ} {o : Outcome (List ℕ)} → Ended profile maps m room o → verdict_of o ≡ Accepted n → maps ≡ true
+maps_then : (profile : Profile) {maps : Bool} {m : Contents} {room n : ℕ} {o : Outcome (List ℕ)} → Ended profile maps m room o → verdict_of o ≡ Ok n → maps ≡ true
 maps_then profile (no_map p) e = absurd (let z : ◌≡◌ {A = ℕ} 0 1 = cc in omega arith)
 maps_then profile (unwritable p q) e = p
 maps_then profile (no_room p q d) e = p
@@ -223,7 +223,7 @@ head_kept s r short e = rw e (short e)
 
 -- a shortcut whose LinkInfo, if it has one, has the short head, and which was moved to Unicode, into t
 module _ (profile : Profile) (s : List ℕ) (r : Record) (bs : Bytes s) (a : Accepts profile s r) (short : info_there r.header.flags ≡ true → r.link.long ≡ false)
-    (out : List ℕ) (n : ℕ) (e : to_unicode_answer profile s out ≡ Accepted n) where
+    (out : List ℕ) (n : ℕ) (e : to_unicode_answer profile s out ≡ Ok n) where
   abbrev c₀ : Contents
   c₀ = contents s r
 
@@ -262,7 +262,7 @@ module _ (profile : Profile) (s : List ℕ) (r : Record) (bs : Bytes s) (a : Acc
 
   -- moved home, with room enough, it reads as the same record
   pub home_again : (home : List ℕ) → length (canonical (contents s r)) ≤ length home
-      → (m : ℕ) × ((to_bytes_answer profile t home ≡ Accepted m) × ReadsAs profile (take m (to_bytes_output profile t home)) r s)
+      → (m : ℕ) × ((to_bytes_answer profile t home ≡ Ok m) × ReadsAs profile (take m (to_bytes_output profile t home)) r s)
   unfolding to_bytes_answer to_bytes_output output_of Accepts Same
   home_again home h =
       let i = back_is (length home) h in

@@ -1,12 +1,15 @@
 -- Any two outcomes that the contract of a public call allows are equal.
 use mathlib.Core.Path.{sym, ◌∙◌}
+use Prim.Native.Nat.{ℕ}
+use native.Mathlib.Omega.{arith}
+use denote.Param.{number}
+use mir.Syntax.{w32}
+use mir.Val.{Fits}
 use Rattle.octets.proofs.Outcomes.{OneAnswer}
 use Rattle.format.proofs.number_of as number_of_lem
 use Rattle.format.specs.contracts.number_of as number_of_lem_contract
-use Rattle.format.proofs.bit_0
-use Rattle.format.specs.contracts.bit_0 as bit_0_contract
-use Rattle.format.proofs.bit_1
-use Rattle.format.specs.contracts.bit_1 as bit_1_contract
+use Rattle.format.proofs.bit
+use Rattle.format.specs.contracts.bit as bit_contract
 use Rattle.format.proofs.items_there
 use Rattle.format.specs.contracts.items_there as items_there_contract
 use Rattle.format.proofs.info_there
@@ -37,6 +40,10 @@ use Rattle.format.proofs.device_unicode_there
 use Rattle.format.specs.contracts.device_unicode_there as device_unicode_there_contract
 use Rattle.format.proofs.shape_of
 use Rattle.format.specs.contracts.shape_of as shape_of_contract
+use Rattle.format.proofs.label_least
+use Rattle.format.specs.contracts.label_least as label_least_contract
+use Rattle.format.proofs.network_head
+use Rattle.format.specs.contracts.network_head as network_head_contract
 use Rattle.format.proofs.number_if
 use Rattle.format.specs.contracts.number_if as number_if_contract
 use Rattle.format.proofs.one_or_0
@@ -45,27 +52,31 @@ use Rattle.format.proofs.signed
 use Rattle.format.specs.contracts.signed as signed_contract
 use Rattle.format.proofs.bits_of
 use Rattle.format.specs.contracts.bits_of as bits_of_contract
-use Rattle.format.proofs.label_of
-use Rattle.format.specs.contracts.label_of as label_of_contract
-use Rattle.format.proofs.label_unicode
-use Rattle.format.specs.contracts.label_unicode as label_unicode_contract
-use Rattle.format.proofs.label_place
-use Rattle.format.specs.contracts.label_place as label_place_contract
-use Rattle.format.proofs.spot_at
-use Rattle.format.specs.contracts.spot_at as spot_at_contract
-use Rattle.format.proofs.unless
-use Rattle.format.specs.contracts.unless as unless_contract
-use Rattle.format.proofs.first
-use Rattle.format.specs.contracts.first as first_contract
+use Rattle.format.proofs.Label.of as label_of
+use Rattle.format.specs.contracts.Label.of as label_of_contract
+use Rattle.format.proofs.Label.is_unicode as label_is_unicode
+use Rattle.format.specs.contracts.Label.is_unicode as label_is_unicode_contract
+use Rattle.format.proofs.Label.place as label_place
+use Rattle.format.specs.contracts.Label.place as label_place_contract
+use Rattle.format.proofs.Refusal.at as refusal_at
+use Rattle.format.specs.contracts.Refusal.at as refusal_at_contract
+use Rattle.format.proofs.Refused.at as refused_at
+use Rattle.format.specs.contracts.Refused.at as refused_at_contract
+use Rattle.format.proofs.demand
+use Rattle.format.specs.contracts.demand as demand_contract
 
 pub number_of_one_outcome : OneAnswer number_of_lem_contract.ended number_of_lem.Reads.Post
 number_of_one_outcome κs a r q s t p o = p ∙ sym o
 
-pub bit_0_one_outcome : OneAnswer bit_0_contract.ended bit_0.Reads.Post
-bit_0_one_outcome κs a r q s t p o = p ∙ sym o
+-- of the bit of each number K
+pub bit_one_outcome : (K : ℕ) (w : Fits w32 K) → OneAnswer (bit_contract.ended (number K)) (bit.Reads.Post K w)
+bit_one_outcome K w κs a r q s t p o = p ∙ sym o
 
-pub bit_1_one_outcome : OneAnswer bit_1_contract.ended bit_1.Reads.Post
-bit_1_one_outcome κs a r q s t p o = p ∙ sym o
+pub bit_0_one_outcome : OneAnswer (bit_contract.ended (number 0)) (bit.Reads.Post 0 (omega arith))
+bit_0_one_outcome = bit_one_outcome 0 (omega arith)
+
+pub bit_1_one_outcome : OneAnswer (bit_contract.ended (number 1)) (bit.Reads.Post 1 (omega arith))
+bit_1_one_outcome = bit_one_outcome 1 (omega arith)
 
 pub items_there_one_outcome : OneAnswer items_there_contract.ended items_there.Reads.Post
 items_there_one_outcome κs a r q s t p o = p ∙ sym o
@@ -112,6 +123,12 @@ device_unicode_there_one_outcome κs a r q s t p o = p ∙ sym o
 pub shape_of_one_outcome : OneAnswer shape_of_contract.ended shape_of.Reads.Post
 shape_of_one_outcome κs a r q s t p o = p ∙ sym o
 
+pub label_least_one_outcome : OneAnswer label_least_contract.ended label_least.Reads.Post
+label_least_one_outcome κs a r q s t p o = p ∙ sym o
+
+pub network_head_one_outcome : OneAnswer network_head_contract.ended network_head.Reads.Post
+network_head_one_outcome κs a r q s t p o = p ∙ sym o
+
 pub number_if_one_outcome : OneAnswer number_if_contract.ended number_if.Reads.Post
 number_if_one_outcome κs a r q s t p o = p ∙ sym o
 
@@ -127,17 +144,17 @@ bits_of_one_outcome κs a r q s t p o = p ∙ sym o
 pub label_of_one_outcome : OneAnswer label_of_contract.ended label_of.Reads.Post
 label_of_one_outcome κs a r q s t p o = p ∙ sym o
 
-pub label_unicode_one_outcome : OneAnswer label_unicode_contract.ended label_unicode.Reads.Post
-label_unicode_one_outcome κs a r q s t p o = p ∙ sym o
+pub label_is_unicode_one_outcome : OneAnswer label_is_unicode_contract.ended label_is_unicode.Reads.Post
+label_is_unicode_one_outcome κs a r q s t p o = p ∙ sym o
 
 pub label_place_one_outcome : OneAnswer label_place_contract.ended label_place.Reads.Post
 label_place_one_outcome κs a r q s t p o = p ∙ sym o
 
-pub spot_at_one_outcome : OneAnswer spot_at_contract.ended spot_at.Reads.Post
-spot_at_one_outcome κs a r q s t p o = p ∙ sym o
+pub refusal_at_one_outcome : OneAnswer refusal_at_contract.ended refusal_at.Reads.Post
+refusal_at_one_outcome κs a r q s t p o = p ∙ sym o
 
-pub unless_one_outcome : OneAnswer unless_contract.ended unless.Reads.Post
-unless_one_outcome κs a r q s t p o = p ∙ sym o
+pub refused_at_one_outcome : OneAnswer refused_at_contract.ended refused_at.Reads.Post
+refused_at_one_outcome κs a r q s t p o = p ∙ sym o
 
-pub first_one_outcome : OneAnswer first_contract.ended first.Reads.Post
-first_one_outcome κs a r q s t p o = p ∙ sym o
+pub demand_one_outcome : OneAnswer demand_contract.ended demand.Reads.Post
+demand_one_outcome κs a r q s t p o = p ∙ sym o

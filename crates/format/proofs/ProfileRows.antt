@@ -10,8 +10,6 @@ use Rattle.octets.specs.Parts.{put}
 use Rattle.format.specs.declared.Profile.{Profile}
 use Rattle.format.specs.declared.Profile.TheVariants.{Strict, NinetyFive}
 use Rattle.format.specs.declared.Fault.TheVariants.{Head as HEAD, Info as INFO, Unwritable as UNWRITABLE}
-use Rattle.format.specs.declared.Verdict.{Verdict}
-use Rattle.format.specs.declared.Verdict.TheVariants.{Accepted, Refused}
 use Rattle.format.specs.Tests.{Outcome, got, refused, section, spot_at}
 use Rattle.format.specs.Numbers.{number_of, answer_number, answer_value}
 use Rattle.format.specs.Header.{identifier_ok, signed}
@@ -27,6 +25,8 @@ use Rattle.format.specs.PathWriting.{path_block, blocks_in, with_block, with_pat
 use Rattle.format.specs.Codepage.{windows1252, unit_of, byte_of, to_units, to_bytes}
 use Rattle.format.specs.Moving.{in_unicode, in_bytes, moving, to_unicode, to_byte_strings}
 use Rattle.format.specs.Probes.{Probe, reads, writes, holds, all_hold, zeros, with_section, lent}
+use Rattle.format.specs.Verdicts.{Verdict, refused_at}
+use Rattle.std.specs.Prelude.{Ok}
 
 -- Z with these attributes
 abbrev attributed : ℕ → List ℕ
@@ -110,6 +110,6 @@ call_rows = refl
 abbrev with_environment : Profile → Verdict
 with_environment profile = path_answer profile (reading NinetyFive (attributed 0x8000)).held (attributed 0x8000) 0xA0000001 [] [] (lent 868)
 
-pub path_rows : with_environment Strict ∷ with_environment NinetyFive ∷ [] ≡ Refused UNWRITABLE 0 ∷ Accepted 868 ∷ []
+pub path_rows : with_environment Strict ∷ with_environment NinetyFive ∷ [] ≡ refused_at UNWRITABLE 0 ∷ Ok 868 ∷ []
 unfolding number number_at little units before_zero put identifier_ok signed item_tests part_tests is_named store_tests slot_of size_fits inside_tests blocks_from sections shortcut reading present placed contents bits header_bytes items_bytes volume_bytes network_bytes info_bytes bytes_of_string canonical writable path_block blocks_in with_block with_path path_writing path_answer
 path_rows = refl

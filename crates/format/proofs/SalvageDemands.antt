@@ -19,23 +19,24 @@ use Rattle.format.specs.declared.Fault.TheVariants.{Long, Cut, Magic, Head, Item
 use Rattle.format.specs.declared.Spot.{Spot}
 use Rattle.format.specs.declared.Record.{Record}
 use Rattle.format.specs.declared.Rescue.{Rescue}
-use Rattle.format.specs.declared.Verdict.{Verdict}
-use Rattle.format.specs.declared.Verdict.TheVariants.{Accepted, Refused}
 use Rattle.format.specs.Numbers.{number_of, answer_number}
 use Rattle.format.specs.Tests.{◌else◌at◌, section, no_section, spot_at, tests, Outcome, got, refused, and_then}
 use Rattle.format.specs.Blocks.{block_size}
 use Rattle.format.specs.Shortcut.{most, Sections, sections, shortcut, verdict_of, reading, faulted_by, faulted}
 use Rattle.format.specs.Writing.{output_of}
 use Rattle.format.specs.Demands.{Accepts}
-use Rattle.format.specs.Salvage.{at_block, mendable, up_to, before, nothing, refused_by, rescue_of, rescue, rescued, salvaging, salvaged_by, salvage_answer, salvage_output, Saved, Lost, elsewhere, too_long, SalvageEnds, lost, no_room, saved}
+use Rattle.format.specs.Salvage.{at_block, mendable, up_to, before, nothing, refused_by, rescue_of, rescue, rescued, salvaging_by, salvaging, salvaged_by, salvage_verdict, salvage_answer, salvage_output, Saved, Lost, elsewhere, too_long, SalvageEnds, lost, no_room, saved}
 use Rattle.format.proofs.Bools.{and-true, or-true, clash}
 use Rattle.format.proofs.Chains.{no_true}
 use Rattle.format.proofs.BlockLaws.{zero_alone}
 use Rattle.format.proofs.AnswerLaws.{nowhere}
+use Rattle.format.proofs.VerdictLaws.{same_fault}
 use Rattle.format.proofs.AcceptedLaws.{accepted_Read, shortcut-Whole}
 use Rattle.format.proofs.PositionDemands.{four_read, positions_small, starts_before}
 use Rattle.format.proofs.MendLaws.{refused_elim, no_refusal, Mends-sections, Own-sections}
 use Rattle.format.proofs.SalvageLaws as laws
+use Rattle.format.specs.Verdicts.{Verdict, refused_at}
+use Rattle.std.specs.Prelude.{Option, Some, None, Ok}
 
 -- ---- why a shortcut is refused: too long, or its sections are, or bytes follow its terminal
 
@@ -60,7 +61,7 @@ broken s {f} {w} e = go (leb (length s) most) refl (sections Strict 0 s) refl e
     go false l r i e = refused_elim (Broken s) e long
 
 -- 9 is the number of TRAIL alone
-nine : (f : Fault) → eqb (number_of f) 9 ≡ true → f ≡ Trail
+pub nine : (f : Fault) → eqb (number_of f) 9 ≡ true → f ≡ Trail
 unfolding number_of
 nine Long e = no_true e
 nine Cut e = no_true e
@@ -92,9 +93,9 @@ pub rescue_is : (s : List ℕ) (o : Outcome Sections) → shortcut Strict s ≡ 
 unfolding rescue faulted
 rescue_is s o e = rw e
 
--- r is what can be kept of s, which has this verdict
-pub record Saves (s : List ℕ) (r : Rescue) (v : Verdict) : Type 0 where
-  pub saves : r.can ≡ true → (r.number ≡ answer_number v) × (length (rescued s r) ≤ most → Saved s r.kept (rescued s r))
+-- o is what can be kept of s, which has this verdict
+pub record Saves (s : List ℕ) (o : Option Rescue) (v : Verdict) : Type 0 where
+  pub saves : (r : Rescue) → o ≡ Some r → (r.number ≡ answer_number v) × (length (rescued s r) ≤ most → Saved s r.kept (rescued s r))
 
 zeros_end : (x : List ℕ) → block_size (drop (length x) (x ++ little 4 0)) < 4
 zeros_end x = rw (drop_at x (little 4 0) (length x) refl) zero_alone
@@ -134,25 +135,28 @@ module _ (s : List ℕ) where
   -- ---- by the outcome of reading
 
   none : (v : Verdict) → Saves s nothing v
-  none v = record { saves = λ e. no_true e }
+  none v = record { saves = λ r e. cc }
 
-  taken : (c : Sections) (n : ℕ) → shortcut Strict s ≡ got c n → Saves s (rescue_of (faulted_by (got c n))) (Accepted n)
+  one : {v : Verdict} (x : Rescue) → x.number ≡ answer_number v → (length (rescued s x) ≤ most → Saved s x.kept (rescued s x)) → Saves s (Some x) v
+  one x n f = record { saves = λ r e. let q : r ≡ x = cc in rw q (n, f) }
+
+  taken : (c : Sections) (n : ℕ) → shortcut Strict s ≡ got c n → Saves s (rescue_of (faulted_by (got c n))) (Ok n)
   unfolding rescue_of answer_number
-  taken c n i = record { saves = λ e. (refl, up_to_lem n c (shortcut-Whole Strict s c n i).read) }
+  taken c n i = one (record { number = 0; kept = n; mended = false }) refl (up_to_lem n c (shortcut-Whole Strict s c n i).read)
 
-  given : {f : Fault} {w : Spot} → Broken s f w → Saves s (rescue_of (faulted_by {A = Sections} (refused f w))) (Refused f w.position)
+  given : {f : Fault} {w : Spot} → Broken s f w → Saves s (rescue_of (faulted_by {A = Sections} (refused f w))) (refused_at f w.position)
   unfolding refused_by rescue_of answer_number number_of
-  given long = none (Refused Long most)
+  given long = none (refused_at Long most)
   given (followed c n l i) =
       let z : n - 4 + 4 ≡ n = omega (arith, four_read Strict s c n i) in
-      rw z (record { saves = λ e. (refl, up_to_lem n c i) })
+      rw z (one (record { number = 9; kept = n; mended = false }) refl (up_to_lem n c i))
   given {f} {w} (damaged i) = go (eqb (number_of f) 9) refl (mendable (number_of f) && at_block w.section) refl
     where
       go : (a : Bool) → eqb (number_of f) 9 ≡ a → (b : Bool) → (mendable (number_of f) && at_block w.section) ≡ b
-          → Saves s (cond a (up_to (number_of f) (w.start + 4)) (cond b (before (number_of f) w.start) nothing)) (Refused f w.position)
+          → Saves s (cond a (up_to (number_of f) (w.start + 4)) (cond b (before (number_of f) w.start) nothing)) (refused_at f w.position)
       go true e b h = absurd (((Mends-sections Strict).mends 0 s i).0 (nine f e))
-      go false e true h = record { saves = λ z. (refl, mended i (at_block_lem w.section (and-true (mendable (number_of f)) (at_block w.section) h).1)) }
-      go false e false h = none (Refused f w.position)
+      go false e true h = one (record { number = number_of f; kept = w.start; mended = true }) refl (mended i (at_block_lem w.section (and-true (mendable (number_of f)) (at_block w.section) h).1))
+      go false e false h = none (refused_at f w.position)
 
   pub rescue-Saves : Saves s (rescue s) (reading Strict s).verdict
   unfolding reading
@@ -166,14 +170,15 @@ module _ (s : List ℕ) where
 
 module _ (s : List ℕ) where
   -- what can be kept and is no longer than a shortcut
-  abbrev pub fit : Rescue → Bool
-  fit r = r.can && leb (length (rescued s r)) most
+  abbrev pub fit : Option Rescue → Bool
+  fit None = false
+  fit (Some r) = leb (length (rescued s r)) most
 
   own_fits : (n : ℕ) → length s ≤ most → fit (up_to 0 n) ≡ true
   own_fits n h = le-leb (length (take n s ++ [])) most (omega (arith, length-append (take n s) [], length-take n s))
 
   -- a damaged one by its two tests
-  abbrev damaged_rescue : Fault → Spot → Bool → Bool → Rescue
+  abbrev damaged_rescue : Fault → Spot → Bool → Bool → Option Rescue
   damaged_rescue f w a b = cond a (up_to (number_of f) (w.start + 4)) (cond b (before (number_of f) w.start) nothing)
 
   start_within : {f : Fault} {w : Spot} → sections Strict 0 s ≡ refused f w → (mendable (number_of f) && at_block w.section) ≡ true → w.start ≤ length s
@@ -213,9 +218,13 @@ module _ (s : List ℕ) where
 
 -- ---- what is kept is a beginning of the input, and no longer than a shortcut
 
-pub record Begins (s : List ℕ) (r : Rescue) : Type 0 where
-  pub within : r.kept ≤ length s
-  pub few : r.kept ≤ most
+abbrev pub kept_of : Option Rescue → ℕ
+kept_of None = 0
+kept_of (Some r) = r.kept
+
+pub record Begins (s : List ℕ) (o : Option Rescue) : Type 0 where
+  pub within : kept_of o ≤ length s
+  pub few : kept_of o ≤ most
 
 pub rescue-Begins : (s : List ℕ) → Begins s (rescue s)
 unfolding refused_by rescue_of number_of
@@ -245,44 +254,54 @@ rescue-Begins s = go (shortcut Strict s) refl
 -- ---- every call
 
 module _ (s out : List ℕ) where
-  abbrev w : List ℕ
-  w = rescued s (rescue s)
+  abbrev ended_by : Option Rescue → Outcome (List ℕ)
+  ended_by o = salvaging_by s o (length out)
 
-  abbrev ending : Bool → Bool → Outcome (List ℕ)
-  ending a b = cond a (cond b (got w (length w)) (refused Room nowhere)) (refused LostFault nowhere)
+  abbrev ending : List ℕ → Bool → Bool → Outcome (List ℕ)
+  ending w a b = cond a (cond b (got w (length w)) (refused Room nowhere)) (refused LostFault nowhere)
 
   -- the result is accepted and has all that stands before the damage; kept and dropped add up; LOST and ROOM only as they must
+  ends_by : (o : Option Rescue) → rescue s ≡ o → SalvageEnds s out (salvaged_by s o (ended_by o)) (output_of (ended_by o) out)
+  unfolding output_of
+  ends_by None e = lost (unfit_Lost s (rw e))
+  ends_by (Some r) e = go (leb (length w) most) refl (leb (length w) (length out)) refl
+    where
+      w : List ℕ
+      w = rescued s r
+
+      go : (a : Bool) → leb (length w) most ≡ a → (b : Bool) → leb (length w) (length out) ≡ b → SalvageEnds s out (salvaged_by s (Some r) (ending w a b)) (output_of (ending w a b) out)
+      go true l true q =
+          let (i, f) = (rescue-Saves s).saves r e in
+          let x = f (leb-true (length w) most l) in
+          rw i (saved r.kept (length s - r.kept) w x (leb-true (length w) (length out) q) (omega (arith, x.within)))
+      go true l false q = no_room r.kept w (((rescue-Saves s).saves r e).1 (leb-true (length w) most l)) (leb-false (length w) (length out) q)
+      go false l b q = lost (unfit_Lost s (rw e l))
+
   pub salvage_ends : SalvageEnds s out (salvage_answer s out) (salvage_output s out)
-  unfolding salvage_answer salvage_output salvaging output_of
-  salvage_ends = go (fit s (rescue s)) refl (leb (length w) (length out)) refl
+  unfolding salvage_answer salvage_output salvaging
+  salvage_ends = ends_by (rescue s) refl
+
+  lost_by : (o : Option Rescue) → rescue s ≡ o → (salvage_verdict (salvaged_by s o (ended_by o)) ≡ refused_at LostFault 0) ↔ Lost s
+  lost_by None e = ((λ z. unfit_Lost s (rw e)), λ x. refl)
+  lost_by (Some r) e = go (leb (length w) most) refl (leb (length w) (length out))
     where
-      kept : fit s (rescue s) ≡ true → ((rescue s).number ≡ answer_number (reading Strict s).verdict) × Saved s (rescue s).kept w
-      kept e =
-          let (can, l) = and-true (rescue s).can (leb (length w) most) e in
-          let (i, f) = (rescue-Saves s).saves can in
-          (i, f (leb-true (length w) most l))
+      w : List ℕ
+      w = rescued s r
 
-      go : (a : Bool) → fit s (rescue s) ≡ a → (b : Bool) → leb (length w) (length out) ≡ b → SalvageEnds s out (salvaged_by s (rescue s) (ending a b)) (output_of (ending a b) out)
-      go true e true q =
-          let (i, x) = kept e in
-          rw i (saved (rescue s).kept (length s - (rescue s).kept) w x (leb-true (length w) (length out) q) (omega (arith, x.within)))
-      go true e false q = no_room (rescue s).kept w (kept e).1 (leb-false (length w) (length out) q)
-      go false e b q = lost (unfit_Lost s e)
+      go : (a : Bool) → leb (length w) most ≡ a → (b : Bool) → (salvage_verdict (salvaged_by s (Some r) (ending w a b)) ≡ refused_at LostFault 0) ↔ Lost s
+      go true l true = ((λ z. absurd (let y : ◌≡◌ {A = ℕ} 0 1 = cc in omega arith)), λ x. clash (rw e l) (Lost-unfit s x))
+      go true l false = ((λ z. absurd (let f = same_fault z in let y : ◌≡◌ {A = ℕ} 0 1 = cc in omega arith)), λ x. clash (rw e l) (Lost-unfit s x))
+      go false l b = ((λ z. unfit_Lost s (rw e l)), λ x. refl)
 
-  pub Lost-exactly : ((salvage_answer s out).verdict ≡ Refused LostFault 0) ↔ Lost s
+  pub Lost-exactly : (salvage_verdict (salvage_answer s out) ≡ refused_at LostFault 0) ↔ Lost s
   unfolding salvage_answer salvaging
-  Lost-exactly = go (fit s (rescue s)) refl (leb (length w) (length out))
-    where
-      go : (a : Bool) → fit s (rescue s) ≡ a → (b : Bool) → ((salvaged_by s (rescue s) (ending a b)).verdict ≡ Refused LostFault 0) ↔ Lost s
-      go true e true = ((λ z. absurd (let y : ◌≡◌ {A = ℕ} 0 1 = cc in omega arith)), λ x. clash e (Lost-unfit s x))
-      go true e false = ((λ z. absurd (let y : ◌≡◌ {A = ℕ} 0 1 = cc in omega arith)), λ x. clash e (Lost-unfit s x))
-      go false e b = ((λ z. unfit_Lost s e), λ x. refl)
+  Lost-exactly = lost_by (rescue s) refl
 
 -- ---- what comes back as it was
 
 -- what salvage says of n bytes kept that end with their own terminal
 pub record Copies (s : List ℕ) (k n : ℕ) (out : List ℕ) : Type 0 where
-  pub answer : salvage_answer s out ≡ record { verdict = Accepted n; number = k; kept = n; dropped = length s - n }
+  pub answer : salvage_answer s out ≡ Ok (record { len = n; number = k; kept = n; dropped = length s - n })
   pub output : salvage_output s out ≡ put out 0 (take n s)
 
 copied : (s : List ℕ) (k n room : ℕ) → rescue s ≡ up_to k n → n ≤ length s → length s ≤ most → n ≤ room → salvaging s room ≡ got (take n s) n
@@ -297,17 +316,17 @@ copies s k n out e h l room =
 
 -- what is accepted is copied, and nothing of it dropped
 pub accepted_copied : (s : List ℕ) (r : Record) (out : List ℕ) → Accepts Strict s r → length s ≤ length out
-    → (salvage_answer s out ≡ record { verdict = Accepted (length s); number = 0; kept = length s; dropped = 0 }) × (salvage_output s out ≡ put out 0 s)
+    → (salvage_answer s out ≡ Ok (record { len = length s; number = 0; kept = length s; dropped = 0 })) × (salvage_output s out ≡ put out 0 s)
 unfolding Accepts rescue_of
 accepted_copied s r out e h =
     let x = accepted_Read Strict s r (length s) e in
     let y = copies s 0 (length s) out (rescue_is s (got x.sections (length s)) x.is) (omega arith) (shortcut-Whole Strict s x.sections (length s) x.is).limit h in
     let z : length s - length s ≡ 0 = omega arith in
-    (y.answer ∙ ap (λ (d : ℕ). record { verdict = Accepted (length s); number = 0; kept = length s; dropped = d }) z, y.output ∙ ap (put out 0) (take-length s))
+    (y.answer ∙ ap (λ (d : ℕ). Ok (record { len = length s; number = 0; kept = length s; dropped = d })) z, y.output ∙ ap (put out 0) (take-length s))
 
 -- so what was saved is copied when it is salvaged again
 pub Saved-copied : (s : List ℕ) (k : ℕ) (w : List ℕ) → Saved s k w → (out : List ℕ) → length w ≤ length out
-    → (salvage_answer w out ≡ record { verdict = Accepted (length w); number = 0; kept = length w; dropped = 0 }) × (salvage_output w out ≡ put out 0 w)
+    → (salvage_answer w out ≡ Ok (record { len = length w; number = 0; kept = length w; dropped = 0 })) × (salvage_output w out ≡ put out 0 w)
 Saved-copied s k w x out h = accepted_copied w x.held out x.accepted h
 
 -- an accepted shortcut with bytes behind it, of at most 65,536 in all, is refused with TRAIL
@@ -323,7 +342,7 @@ padded s r x e h l =
 
 -- it comes back as it was
 pub padded_back : (s : List ℕ) (r : Record) (x out : List ℕ) → Accepts Strict s r → 0 < length x → length (s ++ x) ≤ most → length s ≤ length out
-    → (salvage_answer (s ++ x) out ≡ record { verdict = Accepted (length s); number = 9; kept = length s; dropped = length x }) × (salvage_output (s ++ x) out ≡ put out 0 s)
+    → (salvage_answer (s ++ x) out ≡ Ok (record { len = length s; number = 9; kept = length s; dropped = length x })) × (salvage_output (s ++ x) out ≡ put out 0 s)
 unfolding Accepts rescue_of number_of
 padded_back s r x out e h l room =
     let y = accepted_Read Strict s r (length s) e in
@@ -332,6 +351,6 @@ padded_back s r x out e h l room =
     let i : rescue (s ++ x) ≡ up_to 9 (length s) = rescue_is (s ++ x) _ (padded s r x e h l) ∙ ap (up_to 9) z in
     let c = copies (s ++ x) 9 (length s) out i (omega arith) l room in
     let d : length (s ++ x) - length s ≡ length x = omega arith in (
-      c.answer ∙ ap (λ (d : ℕ). record { verdict = Accepted (length s); number = 9; kept = length s; dropped = d }) d,
+      c.answer ∙ ap (λ (d : ℕ). Ok (record { len = length s; number = 9; kept = length s; dropped = d })) d,
       c.output ∙ ap (put out 0) (take_at s x (length s) refl),
     )

@@ -8,7 +8,9 @@ use lib.Dec.{eqb}
 use Rattle.octets.specs.Numbers.{number, number_at, little, same_numbers}
 use Rattle.octets.specs.Characters.{units, before_zero}
 use Rattle.octets.specs.Parts.{put}
+use Rattle.format.specs.declared.Refused.{Refused}
 use Rattle.format.specs.declared.Salvaged.{Salvaged}
+use Rattle.std.specs.Prelude.{Result, Ok, Err}
 use Rattle.format.specs.Numbers.{number_of, answer_number, answer_value}
 use Rattle.format.specs.Header.{identifier_ok, signed}
 use Rattle.format.specs.Items.{item_tests}
@@ -20,7 +22,7 @@ use Rattle.format.specs.Salvage.{refused_by, rescue_of, rescue, salvaging, salva
 use Rattle.format.proofs.KeyRows.{environment_block}
 use Rattle.format.specs.Probes.{answers, header_of, with_section, Z, dash_g1, lent, zeros}
 
--- a file and a room; number and value of the answer, the number that the file was refused with, its bytes kept and dropped, and the buffer afterwards
+-- a file and a room; number and value of the answer, the number that the file was refused with, its bytes kept and dropped, all three 0 beside a refusal, and the buffer afterwards
 pub record SalvageRow : Type 0 where
   pub file : List ℕ
   pub room : ℕ
@@ -31,8 +33,9 @@ pub record SalvageRow : Type 0 where
   pub dropped : ℕ
   pub after : List ℕ
 
-abbrev reports : Salvaged → SalvageRow → Bool
-reports a x = answers a.verdict x.number x.value && eqb a.number x.was && eqb a.kept x.kept && eqb a.dropped x.dropped
+abbrev reports : Result Salvaged Refused → SalvageRow → Bool
+reports (Ok a) x = answers (Ok a.len) x.number x.value && eqb a.number x.was && eqb a.kept x.kept && eqb a.dropped x.dropped
+reports (Err r) x = answers (Err r) x.number x.value && eqb 0 x.was && eqb 0 x.kept && eqb 0 x.dropped
 
 abbrev row_holds : SalvageRow → Bool
 row_holds x = reports (salvage_answer x.file (lent x.room)) x && same_numbers (salvage_output x.file (lent x.room)) x.after

@@ -8,6 +8,7 @@ use lib.ListN.{length, take, drop, length-append, length-drop}
 use lib.Seq.{drop-drop, take_all, length-take-le, take-append-le, drop-append-le, take-append_seam, drop-append_seam}
 use lib.Dec.{leb, eqb}
 use borrow.Author.Tests.{leb-true, le-leb, eqb-true, eqb-false, ne_eqb}
+use Rattle.std.specs.Prelude.{IfSome}
 use Rattle.octets.specs.Numbers.{number, number_at, u32_at, little}
 use Rattle.octets.proofs.NumberLaws.{length-little, number_same, number_drop}
 use Rattle.format.specs.declared.Fault.{Fault}
@@ -114,10 +115,10 @@ module _ (least : ℕ) (own : ℕ → List ℕ → List Test) where
 
   -- ---- faults and fields
 
-  pub part_Faults : ((j : ℕ) (v : List ℕ) → 0 < j → Faults STORE (own j v)) → (i k : ℕ) (l : List ℕ) → 0 < i → Faults STORE (part_tests least own i k l)
+  pub part_Faults : ((j : ℕ) (v : List ℕ) → Faults STORE (own j v)) → (i k : ℕ) (l : List ℕ) → Faults STORE (part_tests least own i k l)
   unfolding part_tests
-  part_Faults f i zero [] h = (refl, (h, tt))
-  part_Faults f i zero (a ∷ l) h = (refl, (h, go (eqb n 0) (part_Faults f (i + n) (n - 1) l (omega arith))))
+  part_Faults f i zero [] = (refl, tt)
+  part_Faults f i zero (a ∷ l) = (refl, go (eqb n 0) (part_Faults f (i + n) (n - 1) l))
     where
       n : ℕ
       n = u32_at (a ∷ l) 0
@@ -125,10 +126,10 @@ module _ (least : ℕ) (own : ℕ → List ℕ → List Test) where
       go : (b : Bool) → Faults STORE (part_tests least own (i + n) (n - 1) l)
           → Faults STORE (cond b (eqb (length (a ∷ l)) 4 else STORE at i ∷ [])
           (leb least n else STORE at i ∷ leb n (length (a ∷ l)) else STORE at i ∷ own i (take n (a ∷ l)) ++ part_tests least own (i + n) (n - 1) l))
-      go true r = (refl, (h, tt))
-      go false r = (refl, (h, (refl, (h, Faults-join STORE (own i (take n (a ∷ l))) (part_tests least own (i + n) (n - 1) l) (f i (take n (a ∷ l)) h) r))))
-  part_Faults f i (suc k) [] h = (refl, (h, tt))
-  part_Faults f i (suc k) (a ∷ l) h = part_Faults f i k l h
+      go true r = (refl, tt)
+      go false r = (refl, (refl, Faults-join STORE (own i (take n (a ∷ l))) (part_tests least own (i + n) (n - 1) l) (f i (take n (a ∷ l))) r))
+  part_Faults f i (suc k) [] = (refl, tt)
+  part_Faults f i (suc k) (a ∷ l) = part_Faults f i k l
 
   -- what holds of parts holds wherever they stand
   pub parts_anywhere : ((i j : ℕ) (v : List ℕ) → all (own i v) ≡ all (own j v)) → (i j k : ℕ) (l : List ℕ) → all (part_tests least own i k l) ≡ all (part_tests least own j k l)
@@ -216,18 +217,18 @@ module _ (least : ℕ) (own : ℕ → List ℕ → List Test) where
 
 -- ---- values and storages
 
-pub value_Faults : (named : Bool) (j : ℕ) (v : List ℕ) → 0 < j → Faults STORE (value_tests named j v)
-value_Faults named j v h = (refl, (omega arith, (refl, (omega arith, tt))))
+pub value_Faults : (named : Bool) (j : ℕ) (v : List ℕ) → Faults STORE (value_tests named j v)
+value_Faults named j v = (refl, (refl, tt))
 
-pub values_Faults : (named : Bool) (i : ℕ) (l : List ℕ) → 0 < i → Faults STORE (values_tests named i l)
-values_Faults named i l h = part_Faults 9 (value_tests named) (value_Faults named) i 0 l h
+pub values_Faults : (named : Bool) (i : ℕ) (l : List ℕ) → Faults STORE (values_tests named i l)
+values_Faults named i l = part_Faults 9 (value_tests named) (value_Faults named) i 0 l
 
-pub storage_Faults : (j : ℕ) (v : List ℕ) → 0 < j → Faults STORE (storage_tests j v)
-storage_Faults j v h = (refl, (omega arith, values_Faults (is_named (identifier_of v)) (j + 24) (drop 24 v) (omega arith)))
+pub storage_Faults : (j : ℕ) (v : List ℕ) → Faults STORE (storage_tests j v)
+storage_Faults j v = (refl, values_Faults (is_named (identifier_of v)) (j + 24) (drop 24 v))
 
-pub store_Faults : (i : ℕ) (l : List ℕ) → 0 < i → Faults STORE (store_tests i l)
+pub store_Faults : (i : ℕ) (l : List ℕ) → Faults STORE (store_tests i l)
 unfolding store_tests
-store_Faults i l h = part_Faults 28 storage_tests storage_Faults i 0 l h
+store_Faults i l = part_Faults 28 storage_tests storage_Faults i 0 l
 
 pub values_anywhere : (named : Bool) (i j : ℕ) (l : List ℕ) → all (values_tests named i l) ≡ all (values_tests named j l)
 values_anywhere named i j l = parts_anywhere 9 (value_tests named) (λ i j v. refl) i j 0 l
@@ -284,7 +285,7 @@ unfolding store_tests
 store_four i l p = parts_split 28 storage_tests i l p (λ e. omega (arith, ap length e, length-little 4 0)) (λ n e some low fits four o q. four)
 
 -- the wrong field is none after the store's end
-pub store_wrong_inside : (i : ℕ) (l : List ℕ) → wrong (store_tests i l) ≤ i + length l
+pub store_wrong_inside : (i : ℕ) (l : List ℕ) → IfSome (wrong (store_tests i l)) (λ j. j ≤ i + length l)
 store_wrong_inside i l =
     Each-wrong (λ f j. j ≤ i + length l) (store_tests i l) (Each-store (λ f j. j ≤ i + length l) i l (λ j h. omega arith) (λ h. omega arith) (λ d h. omega arith))
-    (λ j. j ≤ i + length l) (omega arith) (λ f j h. h)
+    (λ j. j ≤ i + length l) (λ f j h. h)

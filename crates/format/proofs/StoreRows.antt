@@ -1,8 +1,9 @@
--- Small stores by computation: right and wrong in each way, with the first wrong field, counted from the start of the block, or 0; listed and written.
+-- Small stores by computation: right and wrong in each way, with the first wrong field, counted from the start of the block; listed and written.
 use mathlib.Core.Path.{◌≡◌, refl}
 use mathlib.Core.List.{List, [], ◌∷◌, ◌++◌, map}
 use Prim.Native.Nat.{ℕ, ◌+◌}
 use lib.ListN.{length}
+use Rattle.std.specs.Prelude.{Some, None}
 use Rattle.octets.specs.Numbers.{number, number_at, little}
 use Rattle.format.specs.declared.Profile.TheVariants.{Strict}
 use Rattle.format.specs.declared.Fault.TheVariants.{Store as STORE, Block as BLOCK, Place as PLACE, Unwritable as UNWRITABLE, Room as ROOM}
@@ -39,7 +40,7 @@ one identifier values = storage (28 + length values) identifier (values ++ end) 
 -- ---- the rows
 
 -- an empty store; no size at all; three bytes of one; a byte after the zero size
-pub store_ends : map (λ l. wrong (store_tests 8 l)) (end ∷ [] ∷ zeros 3 ∷ zeros 5 ∷ []) ≡ 0 ∷ 8 ∷ 8 ∷ 8 ∷ []
+pub store_ends : map (λ l. wrong (store_tests 8 l)) (end ∷ [] ∷ zeros 3 ∷ zeros 5 ∷ []) ≡ None ∷ Some 8 ∷ Some 8 ∷ Some 8 ∷ []
 unfolding number number_at little is_named part_tests store_tests
 store_ends = refl
 
@@ -53,7 +54,7 @@ pub storages : map (λ l. wrong (store_tests 8 l))
     ∷ (storage 28 other_format end ++ zeros 2)
     ∷ (one other_format [] ++ zeros 1)
     ∷ [])
-    ≡ 0 ∷ 8 ∷ 8 ∷ 12 ∷ 36 ∷ 36 ∷ 36 ∷ []
+    ≡ None ∷ Some 8 ∷ Some 8 ∷ Some 12 ∷ Some 36 ∷ Some 36 ∷ Some 36 ∷ []
 unfolding number number_at little is_named part_tests store_tests
 storages = refl
 
@@ -70,7 +71,7 @@ pub values : map (λ l. wrong (store_tests 8 l))
     ∷ (one other_format (end ++ zeros 1))
     ∷ (storage 28 named_format end ++ one other_format (value 9 7 0 [] ++ value 9 8 1 []))
     ∷ [])
-    ≡ 0 ∷ 0 ∷ 32 ∷ 32 ∷ 40 ∷ 41 ∷ 41 ∷ 32 ∷ 77 ∷ []
+    ≡ None ∷ None ∷ Some 32 ∷ Some 32 ∷ Some 40 ∷ Some 41 ∷ Some 41 ∷ Some 32 ∷ Some 77 ∷ []
 unfolding number number_at little is_named part_tests store_tests
 values = refl
 
@@ -82,7 +83,7 @@ pub names : map (λ l. wrong (store_tests 8 l))
     ∷ one named_format (value 11 3 1 (zeros 2))
     ∷ one named_format (value 12 3 1 (zeros 3))
     ∷ [])
-    ≡ 0 ∷ 0 ∷ 36 ∷ 36 ∷ 40 ∷ []
+    ≡ None ∷ None ∷ Some 36 ∷ Some 36 ∷ Some 40 ∷ []
 unfolding number number_at little is_named part_tests store_tests
 names = refl
 

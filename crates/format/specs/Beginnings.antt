@@ -1,11 +1,9 @@
 -- FORMAT: Beginnings. What the calls answer to a shortcut that was cut short, and what salvage makes of it.
-use Rattle.std.specs.Prelude.{ℕ, ◌+◌, ◌-◌, ◌≤◌, ◌<◌, ◌≡◌, List, [], ◌∷◌, ◌++◌, length, take}
+use Rattle.std.specs.Prelude.{ℕ, ◌+◌, ◌-◌, ◌≤◌, ◌<◌, ◌≡◌, List, [], ◌∷◌, ◌++◌, length, take, Ok}
 use Rattle.octets.specs.Parts.{put}
 use Rattle.format.specs.declared.Profile.{Profile}
 use Rattle.format.specs.declared.Profile.TheVariants.{Strict}
 use Rattle.format.specs.declared.Fault.TheVariants.{Cut as CUT}
-use Rattle.format.specs.declared.Verdict.{Verdict}
-use Rattle.format.specs.declared.Verdict.TheVariants.{Accepted, Refused}
 use Rattle.format.specs.Listing.{Row, listing}
 use Rattle.format.specs.Demands.{Refuses}
 use Rattle.format.specs.Target.{target_answer, target_output}
@@ -13,10 +11,11 @@ use Rattle.format.specs.Key.{key_in, key_answer, key_output}
 use Rattle.format.specs.StoreList.{store_list_answer, store_list_output}
 use Rattle.format.specs.Moving.{to_unicode_answer, to_unicode_output, to_bytes_answer, to_bytes_output}
 use Rattle.format.specs.Salvage.{zero_terminal, salvage_answer, salvage_output, KeyKept}
+use Rattle.format.specs.Verdicts.{Verdict, refused_at}
 
 -- a call refuses with CUT at p, and its buffer is as it was
 abbrev pub StopsAt : ℕ → (List ℕ → Verdict) → (List ℕ → List ℕ) → Type 0
-StopsAt p answer output = (out : List ℕ) → (answer out ≡ Refused CUT p) × (output out ≡ out)
+StopsAt p answer output = (out : List ℕ) → (answer out ≡ refused_at CUT p) × (output out ≡ out)
 
 -- so do all calls that read s under this profile; nothing of it is listed, and so no section is shown
 pub record Stopped (profile : Profile) (s : List ℕ) (p : ℕ) : Type 0 where
@@ -44,7 +43,7 @@ pub record BeginningSaved (s : List ℕ) (k : ℕ) : Type 0 where
   pub starts : hit.start ≤ k
   pub ends : k < hit.start + hit.len
   pub answer : (out : List ℕ) → hit.start + 4 ≤ length out
-      → salvage_answer (take k s) out ≡ record { verdict = Accepted (hit.start + 4); number = 2; kept = hit.start; dropped = k - hit.start }
+      → salvage_answer (take k s) out ≡ Ok (record { len = hit.start + 4; number = 2; kept = hit.start; dropped = k - hit.start })
   pub output : (out : List ℕ) → hit.start + 4 ≤ length out → salvage_output (take k s) out ≡ put out 0 (take hit.start s ++ zero_terminal)
   -- the key is that of s, but that the environment may be gone
   pub key : KeyKept (key_in Strict (take hit.start s ++ zero_terminal)) (key_in Strict s)

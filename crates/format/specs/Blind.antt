@@ -1,13 +1,11 @@
 -- FORMAT: Blind spots. Where a shortcut can name its driver without the key telling it, as a number with a bit for each.
-use Rattle.std.specs.Prelude.{ℕ, ◌+◌, ◌%◌, ◌≡◌, List, [], ◌∷◌, Bool, true, false, not, ◌&&◌, ◌||◌, cond, length, set, leb, eqb}
+use Rattle.std.specs.Prelude.{ℕ, ◌+◌, ◌%◌, ◌≡◌, List, [], ◌∷◌, Bool, true, false, not, ◌&&◌, ◌||◌, cond, length, set, leb, eqb, Ok}
 use Rattle.octets.specs.Numbers.{same_numbers}
 use Rattle.octets.specs.Characters.{units}
 use Rattle.format.specs.declared.Profile.{Profile}
 use Rattle.format.specs.declared.Place.{Place}
 use Rattle.format.specs.declared.Record.{Record}
 use Rattle.format.specs.declared.StoreRow.{StoreRow}
-use Rattle.format.specs.declared.Verdict.{Verdict}
-use Rattle.format.specs.declared.Verdict.TheVariants.{Accepted}
 use Rattle.format.specs.Tests.{Outcome, got, refused, and_then}
 use Rattle.format.specs.Presence.{items_there, info_there, relative_bit, string_there, local_there, local_unicode_there}
 use Rattle.format.specs.Blocks.{first_place}
@@ -19,6 +17,7 @@ use Rattle.format.specs.Key.{Part, no_part, some_part, part_if, Key, block_text,
 use Rattle.format.specs.StoreList.{rows_of}
 use Rattle.format.specs.Codepage.{is_translation}
 use Rattle.format.specs.PathWriting.{unicode_text}
+use Rattle.format.specs.Verdicts.{Verdict}
 
 -- ---- 1: the key names no driver, and something else could
 
@@ -149,8 +148,8 @@ without_body k c = record { header = c.header; link = c.link; bodies = set c.bod
 
 -- two accepted shortcuts with one key, each with these bits and no other, that differ in one body and in nothing else
 pub record Untold (profile : Profile) (bits slot : ℕ) (s t : List ℕ) : Type 0 where
-  pub accepted : ((reading profile s).verdict ≡ Accepted (length s)) × ((reading profile t).verdict ≡ Accepted (length t))
+  pub accepted : ((reading profile s).verdict ≡ Ok (length s)) × ((reading profile t).verdict ≡ Ok (length t))
   pub keys : key_in profile s ≡ key_in profile t
-  pub blind : (key_blind_answer profile s ≡ Accepted bits) × (key_blind_answer profile t ≡ Accepted bits)
+  pub blind : (key_blind_answer profile s ≡ Ok bits) × (key_blind_answer profile t ≡ Ok bits)
   pub rest : without_body slot (contents s (reading profile s).held) ≡ without_body slot (contents t (reading profile t).held)
   pub other : same_numbers (text_in s (reading profile s).held slot) (text_in t (reading profile t).held slot) ≡ false

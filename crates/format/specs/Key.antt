@@ -5,7 +5,6 @@ use Rattle.octets.specs.Characters.{characters, before_zero}
 use Rattle.format.specs.declared.Profile.{Profile}
 use Rattle.format.specs.declared.Place.{Place}
 use Rattle.format.specs.declared.Record.{Record}
-use Rattle.format.specs.declared.Verdict.{Verdict}
 use Rattle.format.specs.declared.Fault.TheVariants.{Room as ROOM}
 use Rattle.format.specs.Tests.{Outcome, got, refused, ◌else◌at◌, no_section, tests, and_then, one_or_0}
 use Rattle.format.specs.Presence.{workdir_bit, arguments_bit, string_there, strings_unicode}
@@ -15,6 +14,7 @@ use Rattle.format.specs.Bodies.{place_in, string_slot}
 use Rattle.format.specs.Contents.{bytes_at}
 use Rattle.format.specs.Writing.{output_of}
 use Rattle.format.specs.Target.{has_target, target_text}
+use Rattle.format.specs.Verdicts.{Verdict}
 
 -- ---- what is in the key: flag bit 7 and four parts, each absent or present with its bytes
 

@@ -1,13 +1,11 @@
 -- FORMAT: Moving. A shortcut of byte strings as one of Unicode, and home again: when it can be done, the contents that it has then, and the calls.
-use Rattle.std.specs.Prelude.{ℕ, zero, suc, ◌+◌, ◌-◌, ◌≡◌, List, [], ◌∷◌, ◌++◌, map, Bool, true, false, not, ◌&&◌, ◌||◌, cond, length, leb}
+use Rattle.std.specs.Prelude.{ℕ, zero, suc, ◌+◌, ◌-◌, ◌≡◌, List, [], ◌∷◌, ◌++◌, map, Bool, true, false, not, ◌&&◌, ◌||◌, cond, length, leb, Ok}
 use Rattle.octets.specs.Numbers.{Bytes}
 use Rattle.octets.specs.Parts.{put}
 use Rattle.format.specs.declared.Profile.{Profile}
 use Rattle.format.specs.declared.Header.{Header}
 use Rattle.format.specs.declared.Link.{Link}
 use Rattle.format.specs.declared.Record.{Record}
-use Rattle.format.specs.declared.Verdict.{Verdict}
-use Rattle.format.specs.declared.Verdict.TheVariants.{Accepted}
 use Rattle.format.specs.declared.Fault.TheVariants.{NoMap as NOMAP, Unwritable as UNWRITABLE, Room as ROOM}
 use Rattle.format.specs.Tests.{Outcome, got, ◌else◌at◌, no_section, tests, and_then}
 use Rattle.format.specs.Presence.{info_there, name_bit, strings_unicode}
@@ -19,6 +17,7 @@ use Rattle.format.specs.Target.{target}
 use Rattle.format.specs.Key.{Part, no_part, some_part, Key, key_in}
 use Rattle.format.specs.Demands.{Accepts}
 use Rattle.format.specs.Codepage.{to_units, to_bytes, all_assigned, all_in_table, is_translation}
+use Rattle.format.specs.Verdicts.{Verdict}
 
 -- ---- what is moved
 
@@ -177,7 +176,7 @@ pub record Moved (profile : Profile) (move : Contents → Contents) (set : Bool)
 
 -- this of every shortcut s that is moved: v is the answer, x the buffer at the end
 abbrev pub MovesToUnicode : Profile → List ℕ → List ℕ → Verdict → List ℕ → Type 0
-MovesToUnicode profile s out v x = (r : Record) (n : ℕ) → Accepts profile s r → v ≡ Accepted n → Moved profile in_unicode true to_units s r out n x
+MovesToUnicode profile s out v x = (r : Record) (n : ℕ) → Accepts profile s r → v ≡ Ok n → Moved profile in_unicode true to_units s r out n x
 
 abbrev pub MovesToBytes : Profile → List ℕ → List ℕ → Verdict → List ℕ → Type 0
-MovesToBytes profile s out v x = (r : Record) (n : ℕ) → Accepts profile s r → v ≡ Accepted n → Moved profile in_bytes false to_bytes s r out n x
+MovesToBytes profile s out v x = (r : Record) (n : ℕ) → Accepts profile s r → v ≡ Ok n → Moved profile in_bytes false to_bytes s r out n x

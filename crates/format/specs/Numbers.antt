@@ -1,10 +1,9 @@
 -- FORMAT: Numbers. The number of each fault, and the number and the value of every answer.
-use Rattle.std.specs.Prelude.{ℕ, ◌≡◌}
+use Rattle.std.specs.Prelude.{ℕ, ◌≡◌, Ok, Err}
 use Rattle.format.specs.declared.Fault.{Fault}
 use Rattle.format.specs.declared.Fault.TheVariants.{Long, Cut, Magic, Head, Items, Info, Piece, Block, Trail, Place, Unwritable, Room, NoTarget, Twice, Store, NoMap, Shelf, Entry, Lost}
-use Rattle.format.specs.declared.Verdict.{Verdict}
-use Rattle.format.specs.declared.Verdict.TheVariants.{Accepted, Refused}
 use Rattle.format.specs.Tests.{Outcome, got, refused}
+use Rattle.format.specs.Verdicts.{Verdict}
 
 -- No | Name
 unfoldable pub number_of : Fault → ℕ
@@ -31,13 +30,13 @@ number_of Lost = 19
 -- an accepted answer is 0 OK
 unfoldable pub answer_number : Verdict → ℕ
 unfolding number_of
-answer_number (Accepted n) = 0
-answer_number (Refused f p) = number_of f
+answer_number (Ok n) = 0
+answer_number (Err r) = number_of r.fault
 
 -- the length of a success, the position of a refusal
 unfoldable pub answer_value : Verdict → ℕ
-answer_value (Accepted n) = n
-answer_value (Refused f p) = p
+answer_value (Ok n) = n
+answer_value (Err r) = r.position
 
 -- ---- the same of what reading or writing comes to
 

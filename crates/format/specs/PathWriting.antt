@@ -1,12 +1,10 @@
 -- FORMAT: Path block texts, Path block place, Path block call. A path block put into a record, and the shortcut that the record is then written as.
-use Rattle.std.specs.Prelude.{ℕ, ◌-◌, ◌≤◌, ◌<◌, ◌≡◌, List, [], ◌∷◌, ◌++◌, Bool, true, false, ◌&&◌, ◌||◌, cond, length, take, drop, replicate, set, leb, ltb, eqb}
+use Rattle.std.specs.Prelude.{ℕ, ◌-◌, ◌≤◌, ◌<◌, ◌≡◌, List, [], ◌∷◌, ◌++◌, Bool, true, false, ◌&&◌, ◌||◌, cond, length, take, drop, replicate, set, leb, ltb, eqb, Ok}
 use Rattle.octets.specs.Numbers.{Bytes, u32_at, little}
 use Rattle.octets.specs.Characters.{characters}
 use Rattle.octets.specs.Parts.{put}
 use Rattle.format.specs.declared.Profile.{Profile}
 use Rattle.format.specs.declared.Record.{Record}
-use Rattle.format.specs.declared.Verdict.{Verdict}
-use Rattle.format.specs.declared.Verdict.TheVariants.{Accepted, Refused}
 use Rattle.format.specs.declared.Fault.TheVariants.{Place as PLACE, Unwritable as UNWRITABLE, Room as ROOM}
 use Rattle.format.specs.Tests.{Outcome, got, refused, ◌else◌at◌, no_section, tests}
 use Rattle.format.specs.Pieces.{text_length}
@@ -16,6 +14,7 @@ use Rattle.format.specs.Bodies.{blocks_slot, placed}
 use Rattle.format.specs.Contents.{Contents, body_in, contents}
 use Rattle.format.specs.Demands.{Accepts, ReadsAs}
 use Rattle.format.specs.Writing.{end_to_end, blocks_bytes, canonical, writable_text, writable, output_of}
+use Rattle.format.specs.Verdicts.{Verdict, refused_at}
 
 -- ---- the block
 
@@ -127,15 +126,15 @@ pub record ReadsWith (profile : Profile) (s : List ℕ) (r : Record) (d : List �
 -- how a call may end: its answer, and the lent buffer afterwards
 pub data PathEnds (profile : Profile) (r : Record) (d : List ℕ) (signature : ℕ) (text unicode out : List ℕ) : Verdict → List ℕ → Type 0 where
   -- a present body does not lie inside the body buffer
-  misplaced : placed (length d) r ≡ false → PathEnds profile r d signature text unicode out (Refused PLACE 0) out
+  misplaced : placed (length d) r ≡ false → PathEnds profile r d signature text unicode out (refused_at PLACE 0) out
   -- no such block, or no accepted shortcut reads as the record before, or none as the record after
   unwritable : placed (length d) r ≡ true
       → (is_path signature ≡ true → path_text false text ≡ true → path_text true unicode ≡ true → (s : List ℕ) → ReadsAs profile s r d → (t : List ℕ) → ReadsWith profile t r d signature text unicode → ⊥)
-      → PathEnds profile r d signature text unicode out (Refused UNWRITABLE 0) out
+      → PathEnds profile r d signature text unicode out (refused_at UNWRITABLE 0) out
   -- some do, but none as short as the room
   no_room : (w : List ℕ) → placed (length d) r ≡ true → ReadsWith profile w r d signature text unicode → ((s : List ℕ) → ReadsWith profile s r d signature text unicode → length out < length s)
-      → PathEnds profile r d signature text unicode out (Refused ROOM 0) out
+      → PathEnds profile r d signature text unicode out (refused_at ROOM 0) out
   -- else what is written reads as the record with the block, nothing that reads so is shorter, and the rest of the buffer is as it was
   written : (w : List ℕ) → placed (length d) r ≡ true → ReadsWith profile w r d signature text unicode → length w ≤ length out
       → ((s : List ℕ) → ReadsWith profile s r d signature text unicode → length w ≤ length s)
-      → PathEnds profile r d signature text unicode out (Accepted (length w)) (put out 0 w)
+      → PathEnds profile r d signature text unicode out (Ok (length w)) (put out 0 w)

@@ -4,13 +4,13 @@ use Rattle.octets.specs.Numbers.{little, same_numbers}
 use Rattle.format.specs.declared.Profile.{Profile}
 use Rattle.format.specs.declared.Profile.TheVariants.{Strict}
 use Rattle.format.specs.declared.Record.{Record}
-use Rattle.format.specs.declared.Verdict.{Verdict}
 use Rattle.format.specs.Numbers.{answer_number, answer_value}
 use Rattle.format.specs.Tests.{place, no_place}
 use Rattle.format.specs.Shortcut.{reading, no_header}
 use Rattle.format.specs.Bodies.{local_slot}
 use Rattle.format.specs.Writing.{write_answer, write_output}
 use Rattle.format.specs.Listing.{Row, listing}
+use Rattle.format.specs.Verdicts.{Verdict}
 
 -- ---- the bytes
 

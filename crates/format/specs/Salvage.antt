@@ -1,5 +1,5 @@
 -- FORMAT: Salvage. Of a damaged shortcut the beginning that still reads, by the strict rules.
-use Rattle.std.specs.Prelude.{ℕ, ◌+◌, ◌-◌, ◌≤◌, ◌<◌, ◌≡◌, List, [], ◌∷◌, ◌++◌, Bool, true, false, ◌&&◌, ◌||◌, cond, length, take, leb, eqb}
+use Rattle.std.specs.Prelude.{ℕ, ◌+◌, ◌-◌, ◌≤◌, ◌<◌, ◌≡◌, List, [], ◌∷◌, ◌++◌, Bool, true, false, ◌&&◌, ◌||◌, cond, length, take, leb, eqb, Option, Some, None, Result, Ok, Err}
 use Rattle.octets.specs.Numbers.{little}
 use Rattle.octets.specs.Parts.{put}
 use Rattle.format.specs.declared.Profile.TheVariants.{Strict}
@@ -7,13 +7,12 @@ use Rattle.format.specs.declared.Fault.{Fault}
 use Rattle.format.specs.declared.Fault.TheVariants.{Lost as LOST, Room as ROOM}
 use Rattle.format.specs.declared.Record.{Record}
 use Rattle.format.specs.declared.Spot.{Spot}
-use Rattle.format.specs.declared.Verdict.{Verdict}
-use Rattle.format.specs.declared.Verdict.TheVariants.{Accepted, Refused}
-use Rattle.format.specs.declared.Faulted.{Faulted}
+use Rattle.format.specs.declared.Refusal.{Refusal}
+use Rattle.format.specs.declared.Refused.{Refused}
 use Rattle.format.specs.declared.Rescue.{Rescue}
 use Rattle.format.specs.declared.Salvaged.{Salvaged}
 use Rattle.format.specs.Numbers.{number_of, answer_number}
-use Rattle.format.specs.Tests.{Outcome, got, refused, ◌else◌at◌, no_section, tests}
+use Rattle.format.specs.Tests.{Outcome, got, refused, ◌else◌at◌, no_section, spot_at, tests}
 use Rattle.format.specs.Blocks.{is_among}
 use Rattle.format.specs.Shortcut.{most, shortcut, reading, faulted}
 use Rattle.format.specs.Contents.{bytes_at}
@@ -21,6 +20,7 @@ use Rattle.format.specs.Writing.{output_of}
 use Rattle.format.specs.Listing.{Row, listing, EndToEnd, section_place, section_bytes}
 use Rattle.format.specs.Demands.{Accepts}
 use Rattle.format.specs.Key.{Key, no_part}
+use Rattle.format.specs.Verdicts.{Verdict}
 
 -- ---- what can be kept, by the verdict of reading, the section at fault and its start
 
@@ -33,33 +33,30 @@ abbrev pub mendable : ℕ → Bool
 mendable number = is_among number (2 ∷ 8 ∷ 14 ∷ 15 ∷ [])
 
 -- the first n bytes, which end with their own terminal block
-abbrev pub up_to : ℕ → ℕ → Rescue
-up_to number n = record { can = true; number = number; kept = n; mended = false }
+abbrev pub up_to : ℕ → ℕ → Option Rescue
+up_to number n = Some (record { number = number; kept = n; mended = false })
 
 -- the first n bytes, and behind them a zero terminal
-abbrev pub before : ℕ → ℕ → Rescue
-before number n = record { can = true; number = number; kept = n; mended = true }
+abbrev pub before : ℕ → ℕ → Option Rescue
+before number n = Some (record { number = number; kept = n; mended = true })
 
-abbrev pub nothing : Rescue
-nothing = record { can = false; number = 0; kept = 0; mended = false }
+abbrev pub nothing : Option Rescue
+nothing = None
 
 -- with 9 up to the end of the terminal block; with 2, 8, 14 or 15 at a block or the missing terminal up to its start
-unfoldable pub refused_by : ℕ → ℕ → ℕ → Rescue
+unfoldable pub refused_by : ℕ → ℕ → ℕ → Option Rescue
 refused_by number section start =
     cond (eqb number 9) (up_to number (start + 4))
     (cond (mendable number && at_block section) (before number start)
     nothing)
 
 -- an accepted one whole
-abbrev pub rescue_by : Verdict → ℕ → ℕ → Rescue
-rescue_by (Accepted n) section start = up_to 0 n
-rescue_by (Refused f p) section start = refused_by (number_of f) section start
-
-unfoldable pub rescue_of : Faulted → Rescue
+unfoldable pub rescue_of : Result ℕ Refusal → Option Rescue
 unfolding number_of refused_by
-rescue_of g = rescue_by g.verdict g.section g.start
+rescue_of (Ok n) = up_to 0 n
+rescue_of (Err r) = refused_by (number_of r.fault) r.spot.section r.spot.start
 
-unfoldable pub rescue : List ℕ → Rescue
+unfoldable pub rescue : List ℕ → Option Rescue
 unfolding faulted rescue_of
 rescue s = rescue_of (faulted Strict s)
 
@@ -71,20 +68,34 @@ zero_terminal = little 4 0
 abbrev pub rescued : List ℕ → Rescue → List ℕ
 rescued s r = take r.kept s ++ cond r.mended zero_terminal []
 
+abbrev pub salvaging_by : List ℕ → Option Rescue → ℕ → Outcome (List ℕ)
+salvaging_by s None room = refused LOST (spot_at no_section 0)
+salvaging_by s (Some r) room =
+    let w = rescued s r in
+    tests no_section (leb (length w) most else LOST at 0 ∷ leb (length w) room else ROOM at 0 ∷ []) (got w (length w))
+
 unfoldable pub salvaging : List ℕ → ℕ → Outcome (List ℕ)
 unfolding rescue
-salvaging s room =
-    let r = rescue s in
-    let w = rescued s r in
-    tests no_section ((r.can && leb (length w) most) else LOST at 0 ∷ leb (length w) room else ROOM at 0 ∷ []) (got w (length w))
+salvaging s room = salvaging_by s (rescue s) room
 
--- the bytes kept and dropped are bytes of the input; where salvage refuses the three numbers are 0
-abbrev pub salvaged_by : List ℕ → Rescue → Outcome (List ℕ) → Salvaged
-salvaged_by s r (got w n) = record { verdict = Accepted n; number = r.number; kept = r.kept; dropped = length s - r.kept }
-salvaged_by s r (refused f p) = record { verdict = Refused f p.position; number = 0; kept = 0; dropped = 0 }
+abbrev pub unsaved : Fault → ℕ → Result Salvaged Refused
+unsaved f p = Err (record { fault = f; position = p })
+
+-- the bytes kept and dropped are bytes of the input
+abbrev pub salvaged_by : List ℕ → Option Rescue → Outcome (List ℕ) → Result Salvaged Refused
+salvaged_by s (Some r) (got w n) = Ok (record { len = n; number = r.number; kept = r.kept; dropped = length s - r.kept })
+salvaged_by s (Some r) (refused f p) = unsaved f p.position
+-- never met with bytes: of nothing none are saved
+salvaged_by s None (got w n) = unsaved LOST 0
+salvaged_by s None (refused f p) = unsaved f p.position
+
+-- the verdict: accepted with the length of the result
+abbrev pub salvage_verdict : Result Salvaged Refused → Verdict
+salvage_verdict (Ok g) = Ok g.len
+salvage_verdict (Err r) = Err r
 
 -- the answer, and the output buffer afterwards; the room is the buffer's length
-unfoldable pub salvage_answer : List ℕ → List ℕ → Salvaged
+unfoldable pub salvage_answer : List ℕ → List ℕ → Result Salvaged Refused
 unfolding rescue salvaging
 salvage_answer s out = salvaged_by s (rescue s) (salvaging s (length out))
 
@@ -121,11 +132,11 @@ pub data Lost (s : List ℕ) : Type 0 where
   too_long : (f : Fault) (w : Spot) → shortcut Strict s ≡ refused f w → eqb (number_of f) 9 ≡ false → most < w.start + 4 → Lost s
 
 -- how a call may end that salvages s into the lent buffer out: its answer, and that buffer afterwards
-pub data SalvageEnds (s out : List ℕ) : Salvaged → List ℕ → Type 0 where
-  lost : Lost s → SalvageEnds s out (record { verdict = Refused LOST 0; number = 0; kept = 0; dropped = 0 }) out
-  no_room : (k : ℕ) (w : List ℕ) → Saved s k w → length out < length w → SalvageEnds s out (record { verdict = Refused ROOM 0; number = 0; kept = 0; dropped = 0 }) out
+pub data SalvageEnds (s out : List ℕ) : Result Salvaged Refused → List ℕ → Type 0 where
+  lost : Lost s → SalvageEnds s out (unsaved LOST 0) out
+  no_room : (k : ℕ) (w : List ℕ) → Saved s k w → length out < length w → SalvageEnds s out (unsaved ROOM 0) out
   saved : (k dropped : ℕ) (w : List ℕ) → Saved s k w → length w ≤ length out → k + dropped ≡ length s
-      → SalvageEnds s out (record { verdict = Accepted (length w); number = answer_number (reading Strict s).verdict; kept = k; dropped = dropped }) (put out 0 w)
+      → SalvageEnds s out (Ok (record { len = length w; number = answer_number (reading Strict s).verdict; kept = k; dropped = dropped })) (put out 0 w)
 
 -- the key k of what was saved beside the key l of a shortcut that begins with the bytes kept: only the environment may be gone
 pub data EnvironmentKept (k l : Key) : Type 0 where

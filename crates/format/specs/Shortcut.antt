@@ -1,16 +1,14 @@
 -- FORMAT: Layout, Order of reading, The end. The whole shortcut: LONG first, then the sections in file order, TRAIL last.
-use Rattle.std.specs.Prelude.{ℕ, ◌+◌, ◌-◌, List, [], ◌∷◌, ◌++◌, Bool, true, false, length, replicate, leb, eqb, pos}
+use Rattle.std.specs.Prelude.{ℕ, ◌+◌, ◌-◌, List, [], ◌∷◌, ◌++◌, Bool, true, false, length, replicate, leb, eqb, pos, Result, Ok, Err}
 use Rattle.format.specs.declared.Profile.{Profile}
 use Rattle.format.specs.declared.Fault.TheVariants.{Long as LONG, Trail as TRAIL}
-use Rattle.format.specs.declared.Verdict.{Verdict}
-use Rattle.format.specs.declared.Verdict.TheVariants.{Accepted, Refused}
 use Rattle.format.specs.declared.Place.{Place}
 use Rattle.format.specs.declared.Header.{Header}
 use Rattle.format.specs.declared.Info.{Info}
 use Rattle.format.specs.declared.Link.{Link}
 use Rattle.format.specs.declared.Record.{Record}
 use Rattle.format.specs.declared.Reading.{Reading}
-use Rattle.format.specs.declared.Faulted.{Faulted}
+use Rattle.format.specs.declared.Refusal.{Refusal}
 use Rattle.format.specs.Tests.{◌else◌at◌, section, no_section, tests, Outcome, got, refused, Reader, and_then, chain, ◌then◌, optional, place, no_place}
 use Rattle.format.specs.Presence.{items_there, info_there, name_bit, relative_bit, workdir_bit, arguments_bit, icon_bit, string_there, strings_unicode}
 use Rattle.format.specs.Header.{header}
@@ -18,6 +16,7 @@ use Rattle.format.specs.Items.{items}
 use Rattle.format.specs.Info.{info, no_info, link_of, info_places}
 use Rattle.format.specs.Strings.{string}
 use Rattle.format.specs.Blocks.{blocks}
+use Rattle.format.specs.Verdicts.{Verdict, refused_at}
 
 -- the longest shortcut
 abbrev pub most : ℕ
@@ -116,8 +115,8 @@ no_record = record { header = no_header; link = no_link; places = replicate 17 n
 
 -- an accepted answer carries the length, a refusal its fault and position
 abbrev pub verdict_of : {A : Type 0} → Outcome A → Verdict
-verdict_of (got a n) = Accepted n
-verdict_of (refused f p) = Refused f p.position
+verdict_of (got a n) = Ok n
+verdict_of (refused f p) = refused_at f p.position
 
 abbrev pub held_by : Outcome Sections → Record
 held_by (got c n) = record_of c
@@ -129,11 +128,11 @@ reading profile s = record { verdict = verdict_of (shortcut profile s); held = h
 
 -- ---- where the fault stands
 
-abbrev pub faulted_by : {A : Type 0} → Outcome A → Faulted
-faulted_by (got a n) = record { verdict = Accepted n; section = 0; start = 0 }
-faulted_by (refused f w) = record { verdict = Refused f w.position; section = w.section; start = w.start }
+abbrev pub faulted_by : {A : Type 0} → Outcome A → Result ℕ Refusal
+faulted_by (got a n) = Ok n
+faulted_by (refused f w) = Err (record { fault = f; spot = w })
 
 -- the verdict of reading with the section at fault, for a block the block's own start
-unfoldable pub faulted : Profile → List ℕ → Faulted
+unfoldable pub faulted : Profile → List ℕ → Result ℕ Refusal
 unfolding shortcut
 faulted profile s = faulted_by (shortcut profile s)

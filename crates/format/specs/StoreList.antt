@@ -4,7 +4,6 @@ use Rattle.octets.specs.Numbers.{u32_at}
 use Rattle.format.specs.declared.Profile.{Profile}
 use Rattle.format.specs.declared.Place.{Place}
 use Rattle.format.specs.declared.StoreRow.{StoreRow}
-use Rattle.format.specs.declared.Verdict.{Verdict}
 use Rattle.format.specs.declared.Fault.TheVariants.{Room as ROOM}
 use Rattle.format.specs.Tests.{Outcome, got, refused, ◌else◌at◌, no_section, tests, and_then, place, no_place}
 use Rattle.format.specs.Store.{name_length, is_named, identifier_of}
@@ -12,6 +11,7 @@ use Rattle.format.specs.Blocks.{first_place}
 use Rattle.format.specs.Shortcut.{Sections, blocks_of, shortcut, verdict_of}
 use Rattle.format.specs.Contents.{bytes_at}
 use Rattle.format.specs.Writing.{output_of}
+use Rattle.format.specs.Verdicts.{Verdict}
 
 -- ---- rows
 

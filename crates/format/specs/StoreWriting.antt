@@ -1,10 +1,8 @@
 -- FORMAT: Store writing. The store that a list of rows makes, and when the writer gives up.
-use Rattle.std.specs.Prelude.{ℕ, zero, suc, ◌+◌, ◌/◌, ◌%◌, ◌≤◌, ◌<◌, ◌≡◌, List, [], ◌∷◌, ◌++◌, map, Bool, true, false, ◌&&◌, cond, length, get_or, leb, ltb, eqb}
+use Rattle.std.specs.Prelude.{ℕ, zero, suc, ◌+◌, ◌/◌, ◌%◌, ◌≤◌, ◌<◌, ◌≡◌, List, [], ◌∷◌, ◌++◌, map, Bool, true, false, ◌&&◌, cond, length, get_or, leb, ltb, eqb, Ok}
 use Rattle.octets.specs.Numbers.{Bytes, little}
 use Rattle.octets.specs.Parts.{put}
 use Rattle.format.specs.declared.Place.{Place}
-use Rattle.format.specs.declared.Verdict.{Verdict}
-use Rattle.format.specs.declared.Verdict.TheVariants.{Accepted, Refused}
 use Rattle.format.specs.declared.Fault.TheVariants.{Place as PLACE, Unwritable as UNWRITABLE, Room as ROOM}
 use Rattle.format.specs.Tests.{Outcome, got, ◌else◌at◌, no_section, tests, all, place}
 use Rattle.format.specs.declared.StoreRow.{StoreRow}
@@ -14,6 +12,7 @@ use Rattle.format.specs.Bodies.{all_inside}
 use Rattle.format.specs.Contents.{bytes_at}
 use Rattle.format.specs.Writing.{output_of}
 use Rattle.format.specs.StoreList.{store_rows}
+use Rattle.format.specs.Verdicts.{Verdict, refused_at}
 
 -- ---- what a row says: its bytes in its places' stead. Numbers that it does not use count for nothing
 
@@ -176,12 +175,12 @@ pub record StoreFor (l ns d : List ℕ) : Type 0 where
 -- how a call may end that writes these rows over the body buffer d into the lent buffer out: its answer, and that buffer afterwards
 pub data StoreEnds (ns d out : List ℕ) : Verdict → List ℕ → Type 0 where
   -- a used place does not lie inside the body buffer
-  misplaced : rows_placed (length d) (rows_from ns) ≡ false → StoreEnds ns d out (Refused PLACE 0) out
+  misplaced : rows_placed (length d) (rows_from ns) ≡ false → StoreEnds ns d out (refused_at PLACE 0) out
   -- none of the stores that a shortcut can hold reads as the list
-  unwritable : rows_placed (length d) (rows_from ns) ≡ true → ((l : List ℕ) → StoreFor l ns d → ⊥) → StoreEnds ns d out (Refused UNWRITABLE 0) out
+  unwritable : rows_placed (length d) (rows_from ns) ≡ true → ((l : List ℕ) → StoreFor l ns d → ⊥) → StoreEnds ns d out (refused_at UNWRITABLE 0) out
   -- one does, and no other, but it is longer than the room
   no_room : (w : List ℕ) → rows_placed (length d) (rows_from ns) ≡ true → StoreFor w ns d → ((l : List ℕ) → StoreFor l ns d → l ≡ w) → length out < length w
-      → StoreEnds ns d out (Refused ROOM 0) out
+      → StoreEnds ns d out (refused_at ROOM 0) out
   -- else that one is written, and the rest of the buffer is as it was
   written : (w : List ℕ) → rows_placed (length d) (rows_from ns) ≡ true → StoreFor w ns d → ((l : List ℕ) → StoreFor l ns d → l ≡ w) → length w ≤ length out
-      → StoreEnds ns d out (Accepted (length w)) (put out 0 w)
+      → StoreEnds ns d out (Ok (length w)) (put out 0 w)

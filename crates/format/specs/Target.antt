@@ -2,7 +2,6 @@
 use Rattle.std.specs.Prelude.{ℕ, ◌-◌, List, [], ◌∷◌, ◌++◌, Bool, not, ◌&&◌, ◌||◌, cond, length, get_or, leb, eqb}
 use Rattle.format.specs.declared.Profile.{Profile}
 use Rattle.format.specs.declared.Record.{Record}
-use Rattle.format.specs.declared.Verdict.{Verdict}
 use Rattle.format.specs.declared.Fault.TheVariants.{Room as ROOM, NoTarget as NOTARGET}
 use Rattle.format.specs.Tests.{Outcome, got, ◌else◌at◌, no_section, tests, and_then, bit}
 use Rattle.format.specs.Presence.{info_there, local_there, network_there}
@@ -10,6 +9,7 @@ use Rattle.format.specs.Shortcut.{shortcut, record_of, verdict_of}
 use Rattle.format.specs.Bodies.{place_in, local_slot, net_slot, suffix_slot}
 use Rattle.format.specs.Contents.{bytes_at}
 use Rattle.format.specs.Writing.{output_of}
+use Rattle.format.specs.Verdicts.{Verdict}
 
 -- there is a target unless flag bit 8 is set, LinkInfo is absent, or neither of its bits 0 and 1 is set
 abbrev pub targeted : ℕ → ℕ → Bool

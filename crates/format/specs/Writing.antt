@@ -7,7 +7,6 @@ use Rattle.format.specs.declared.Profile.{Profile}
 use Rattle.format.specs.declared.Header.{Header}
 use Rattle.format.specs.declared.Link.{Link}
 use Rattle.format.specs.declared.Record.{Record}
-use Rattle.format.specs.declared.Verdict.{Verdict}
 use Rattle.format.specs.declared.Fault.TheVariants.{Place as PLACE, Unwritable as UNWRITABLE, Room as ROOM}
 use Rattle.format.specs.Tests.{Outcome, got, refused, ◌else◌at◌, no_section, tests}
 use Rattle.format.specs.Presence.{items_there, info_there, name_bit, relative_bit, workdir_bit, arguments_bit, icon_bit, string_there, strings_unicode, local_there, network_there, local_unicode_there, device_there, provider_there, device_unicode_there}
@@ -21,6 +20,7 @@ use Rattle.format.specs.Blocks.{blocks}
 use Rattle.format.specs.Shortcut.{most, verdict_of}
 use Rattle.format.specs.Bodies.{BodyKind, items_kind, text_kind, string_kind, blocks_kind, further_kind, BodyRow, in_info, body_table, items_slot, string_slot, blocks_slot, along, placed, written_head}
 use Rattle.format.specs.Contents.{VolumeContents, NetworkContents, InfoContents, Contents, body_in, info_in, contents}
+use Rattle.format.specs.Verdicts.{Verdict}
 
 abbrev pub end_to_end : List (List ℕ) → List ℕ
 end_to_end [] = []

@@ -6,12 +6,11 @@ ghost use Rattle.format.specs.Numbers.{number_of};
 ghost use Rattle.format.specs.Tests.{section as section_from, spot_at, bit, one_or_0};
 ghost use Rattle.format.specs.Presence.{items_there, info_there, name_bit, relative_bit, workdir_bit, arguments_bit, icon_bit, string_there, strings_unicode, local_there, network_there, local_unicode_there, device_there, provider_there, device_unicode_there};
 ghost use Rattle.format.specs.Header.{signed};
-ghost use Rattle.format.specs.Volume.{label_of, label_place, label_kind};
+ghost use Rattle.format.specs.Volume.{label_of, label_place, label_kind, label_least};
+ghost use Rattle.format.specs.Network.{network_head};
 ghost use Rattle.format.specs.Writing.{bits};
-ghost use Rattle.format.specs.Steps.Wrong.{first};
+ghost use Rattle.format.specs.Steps.Answers.{refusal};
 ghost use Rattle.format.specs.Steps.Shape.{shape_of};
-
-use octets::Cursor;
 
 // Where a body stands in the body buffer, and how many bytes it has.
 #[derive(Clone, Copy)]
@@ -96,6 +95,7 @@ pub struct Record {
 }
 
 // ---- the slots, in the order of the fields at the boundary; a string's slot is 8 more than its flag bit
+// Numbers and no enum: rows are gone over by ranges of them, and C has the bodies in this order.
 
 pub const ITEMS: usize = 0;
 
@@ -127,14 +127,18 @@ pub const BLOCKS: usize = 15;
 
 pub const FURTHER: usize = 16;
 
-// Of each slot: whether its body is there, and whether its characters have two bytes each.
+// Of a slot: whether its body is there, and whether its characters have two bytes each.
 #[derive(Clone, Copy)]
-pub struct Shape {
-    pub there: [bool; 17],
-    pub wide: [bool; 17],
+pub struct Slot {
+    pub there: bool,
+    pub wide: bool,
 }
 
+// The whole row of them.
+pub type Shape = [Slot; 17];
+
 // A row of a store's list: a storage (kind 0), or a value named by number (1) or by string (2).
+// Rows come from C, and any kind is a row.
 #[derive(Clone, Copy)]
 pub struct StoreRow {
     pub kind: u64,
@@ -150,35 +154,28 @@ pub enum Profile {
     NinetyFive,
 }
 
-// Why a call refuses: the names of the table of numbers.
+// Why a call refuses: the table of numbers (FORMAT: Numbers).
 #[derive(Clone, Copy)]
 pub enum Fault {
-    Long,
-    Cut,
-    Magic,
-    Head,
-    Items,
-    Info,
-    Piece,
-    Block,
-    Trail,
-    Place,
-    Unwritable,
-    Room,
-    NoTarget,
-    Twice,
-    Store,
-    NoMap,
-    Shelf,
-    Entry,
-    Lost,
-}
-
-// Accepted with the length, or refused with the fault and its position.
-#[derive(Clone, Copy)]
-pub enum Verdict {
-    Accepted(usize),
-    Refused(Fault, usize),
+    Long = 1,
+    Cut = 2,
+    Magic = 3,
+    Head = 4,
+    Items = 5,
+    Info = 6,
+    Piece = 7,
+    Block = 8,
+    Trail = 9,
+    Place = 10,
+    Unwritable = 11,
+    Room = 12,
+    NoTarget = 13,
+    Twice = 14,
+    Store = 15,
+    NoMap = 16,
+    Shelf = 17,
+    Entry = 18,
+    Lost = 19,
 }
 
 // Where a refusal stands: the number of the section at fault as in the listing, its first byte, and the first byte of the field found wrong.
@@ -189,22 +186,24 @@ pub struct Spot {
     pub position: usize,
 }
 
-// A section of one body: the body and the cursor after the section, or why it is refused and where.
+// A section is refused: why, and where.
 #[derive(Clone, Copy)]
-pub enum Taken {
-    Got(Place, Cursor),
-    Refused(Fault, Spot),
+pub struct Refusal {
+    pub fault: Fault,
+    pub spot: Spot,
 }
 
-// The verdict on a shortcut beside the section at fault: its number in the listing and its first byte; zeros where it is accepted.
+// A call refuses: why, and the position that goes with the fault.
 #[derive(Clone, Copy)]
-pub struct Faulted {
-    pub verdict: Verdict,
-    pub section: u32,
-    pub start: usize,
+pub struct Refused {
+    pub fault: Fault,
+    pub position: usize,
 }
 
-// What reading answers: the record stands beside the verdict, all zeros where that is a refusal.
+// Accepted with the length, or refused.
+pub type Verdict = Result<usize, Refused>;
+
+// What reading answers: the record stands beside the verdict, all zeros where that is a refusal, as in the definition `reading`.
 #[derive(Clone, Copy)]
 pub struct Reading {
     pub verdict: Verdict,
@@ -214,16 +213,16 @@ pub struct Reading {
 // What can be kept of a shortcut: the number it was refused with, how many of its first bytes, and whether a zero terminal goes behind them.
 #[derive(Clone, Copy)]
 pub struct Rescue {
-    pub can: bool,
     pub number: u8,
     pub kept: usize,
+    // Both ways to be kept have the number and the length, so this is a flag and no case.
     pub mended: bool,
 }
 
-// What salvage answers: its verdict, the number that the shortcut was refused with, and how many of its bytes are kept and dropped.
+// What salvage answers where something is saved: the length of the result, the number that the shortcut was refused with, and how many of its bytes are kept and dropped.
 #[derive(Clone, Copy)]
 pub struct Salvaged {
-    pub verdict: Verdict,
+    pub len: usize,
     pub number: u8,
     pub kept: usize,
     pub dropped: usize,
@@ -262,133 +261,125 @@ pub const NO_RECORD: Record = Record {
     places: [NO_PLACE; 17],
 };
 
-// The number of a fault (FORMAT: Numbers).
+// The number of a fault.
+#[tactic(auto, unfolding(crate::specs::Numbers::number_of))]
 pub fn number_of(f: Fault) -> u8
     ensures { result ≡ number_of f }
 {
-    match f {
-        Fault::Long => 1,
-        Fault::Cut => 2,
-        Fault::Magic => 3,
-        Fault::Head => 4,
-        Fault::Items => 5,
-        Fault::Info => 6,
-        Fault::Piece => 7,
-        Fault::Block => 8,
-        Fault::Trail => 9,
-        Fault::Place => 10,
-        Fault::Unwritable => 11,
-        Fault::Room => 12,
-        Fault::NoTarget => 13,
-        Fault::Twice => 14,
-        Fault::Store => 15,
-        Fault::NoMap => 16,
-        Fault::Shelf => 17,
-        Fault::Entry => 18,
-        Fault::Lost => 19,
+    f as u8
+}
+
+// Whether the number has bit K.
+fn bit<const K: u32>(n: u32) -> bool
+    requires { K < 32 }
+    ensures { result ≡ bit K n }
+{
+    (n >> K) % 2 == 1
+}
+
+impl Refusal {
+    // For the field that stands so many bytes after the start of its section.
+    pub fn at(fault: Fault, section: u32, start: usize, field: usize) -> Self
+        requires { start + field < 2 ^ 64 }
+        ensures { result ≡ refusal fault (spot_at (section_from section start) field) }
+    {
+        Refusal {
+            fault,
+            spot: Spot {
+                section,
+                start,
+                position: start + field,
+            },
+        }
     }
 }
 
-pub fn bit_0(n: u32) -> bool
-    ensures { result ≡ bit 0 n }
-{
-    n % 2 == 1
-}
-
-pub fn bit_1(n: u32) -> bool
-    ensures { result ≡ bit 1 n }
-{
-    n / 2 % 2 == 1
-}
-
-// The field that stands so many bytes after the start of its section.
-pub fn spot_at(section: u32, start: usize, field: usize) -> Spot
-    requires { start + field < 2 ^ 64 }
-    ensures { result ≡ spot_at (section_from section start) field }
-{
-    Spot {
-        section,
-        start,
-        position: start + field,
+impl Refused {
+    pub fn at(fault: Fault, position: usize) -> Self
+        ensures { result ≡ record { fault = fault; position = position } }
+    {
+        Refused { fault, position }
     }
 }
 
-// The field of a test that fails; where it holds, what the tests after it give.
-pub fn unless(holds: bool, field: usize, rest: usize) -> usize
-    ensures { result ≡ cond holds rest field }
-{
-    if holds { rest } else { field }
+// Of where a section is refused, a call tells the position alone.
+impl From<Refusal> for Refused {
+    ghost from_gives = { λ r e. e ≡ record { fault = r.fault; position = r.spot.position } };
+
+    fn from(r: Refusal) -> Refused {
+        Refused::at(r.fault, r.spot.position)
+    }
 }
 
-// Of two fields found wrong the first; 0 is none.
-pub fn first(a: usize, b: usize) -> usize
-    ensures { result ≡ first a b }
+// A test, with the field that it is of.
+pub fn demand(holds: bool, field: usize) -> Result<(), usize>
+    ensures { result ≡ cond holds (Ok tt) (Err field) }
 {
-    if a == 0 { b } else { a }
+    if holds { Ok(()) } else { Err(field) }
 }
 
 // ---- what makes each part present
 
-// By LinkFlags.
+// By LinkFlags. Each has a name, as in the rules and the definitions.
 pub fn items_there(flags: u32) -> bool
     ensures { result ≡ items_there flags }
 {
-    bit_0(flags)
+    bit::<0>(flags)
 }
 
 pub fn info_there(flags: u32) -> bool
     ensures { result ≡ info_there flags }
 {
-    bit_1(flags)
+    bit::<1>(flags)
 }
 
 pub fn name_there(flags: u32) -> bool
     ensures { result ≡ string_there name_bit flags }
 {
-    flags / 4 % 2 == 1
+    bit::<2>(flags)
 }
 
 pub fn relative_there(flags: u32) -> bool
     ensures { result ≡ string_there relative_bit flags }
 {
-    flags / 8 % 2 == 1
+    bit::<3>(flags)
 }
 
 pub fn workdir_there(flags: u32) -> bool
     ensures { result ≡ string_there workdir_bit flags }
 {
-    flags / 16 % 2 == 1
+    bit::<4>(flags)
 }
 
 pub fn arguments_there(flags: u32) -> bool
     ensures { result ≡ string_there arguments_bit flags }
 {
-    flags / 32 % 2 == 1
+    bit::<5>(flags)
 }
 
 pub fn icon_there(flags: u32) -> bool
     ensures { result ≡ string_there icon_bit flags }
 {
-    flags / 64 % 2 == 1
+    bit::<6>(flags)
 }
 
 pub fn strings_unicode(flags: u32) -> bool
     ensures { result ≡ strings_unicode flags }
 {
-    flags / 128 % 2 == 1
+    bit::<7>(flags)
 }
 
 // By LinkInfo's flags, and by whether its head is long.
 pub fn local_there(flags: u32) -> bool
     ensures { result ≡ local_there flags }
 {
-    bit_0(flags)
+    bit::<0>(flags)
 }
 
 pub fn network_there(flags: u32) -> bool
     ensures { result ≡ network_there flags }
 {
-    bit_1(flags)
+    bit::<1>(flags)
 }
 
 pub fn local_unicode_there(long: bool, flags: u32) -> bool
@@ -401,13 +392,13 @@ pub fn local_unicode_there(long: bool, flags: u32) -> bool
 pub fn device_there(flags: u32) -> bool
     ensures { result ≡ device_there flags }
 {
-    bit_0(flags)
+    bit::<0>(flags)
 }
 
 pub fn provider_there(flags: u32) -> bool
     ensures { result ≡ provider_there flags }
 {
-    bit_1(flags)
+    bit::<1>(flags)
 }
 
 pub fn device_unicode_there(unicode: bool, flags: u32) -> bool
@@ -416,64 +407,66 @@ pub fn device_unicode_there(unicode: bool, flags: u32) -> bool
     unicode & device_there(flags)
 }
 
+impl Slot {
+    fn of(there: bool, wide: bool) -> Self
+        ensures { result ≡ record { there = there; wide = wide } }
+    {
+        Slot { there, wide }
+    }
+}
+
 // The whole row, slot by slot.
+#[tactic(auto, unfolding(crate::specs::Steps::Shape::shape_of))]
 pub fn shape_of(flags: u32, l: Link) -> Shape
     ensures { result ≡ shape_of flags l }
 {
     let info = info_there(flags);
     let local = info & local_there(l.flags);
-    let network = network_there(l.flags);
+    let network = info & network_there(l.flags);
     let unicode = strings_unicode(flags);
-    Shape {
-        there: [
-            items_there(flags),
-            local,
-            local,
-            info & network,
-            info & (network & device_there(l.network_flags)),
-            info & (network & l.network_unicode),
-            info & (network & device_unicode_there(l.network_unicode, l.network_flags)),
-            info,
-            info & local_unicode_there(l.long, l.flags),
-            info & l.long,
-            name_there(flags),
-            relative_there(flags),
-            workdir_there(flags),
-            arguments_there(flags),
-            icon_there(flags),
+    [
+        Slot::of(items_there(flags), false),
+        Slot::of(local, l.label_unicode),
+        Slot::of(local, false),
+        Slot::of(network, false),
+        Slot::of(network & device_there(l.network_flags), false),
+        Slot::of(network & l.network_unicode, true),
+        Slot::of(
+            network & device_unicode_there(l.network_unicode, l.network_flags),
             true,
-            info,
-        ],
-        wide: [
-            false,
-            l.label_unicode,
-            false,
-            false,
-            false,
-            true,
-            true,
-            false,
-            true,
-            true,
-            unicode,
-            unicode,
-            unicode,
-            unicode,
-            unicode,
-            false,
-            false,
-        ],
-    }
+        ),
+        Slot::of(info, false),
+        Slot::of(info & local_unicode_there(l.long, l.flags), true),
+        Slot::of(info & l.long, true),
+        Slot::of(name_there(flags), unicode),
+        Slot::of(relative_there(flags), unicode),
+        Slot::of(workdir_there(flags), unicode),
+        Slot::of(arguments_there(flags), unicode),
+        Slot::of(icon_there(flags), unicode),
+        Slot::of(true, false),
+        Slot::of(info, false),
+    ]
+}
+
+// Where VolumeID's label can start: behind the offset fields.
+pub fn label_least(unicode: bool) -> u32
+    ensures { result ≡ label_least unicode }
+{
+    if unicode { 0x14 } else { 0x10 }
+}
+
+// Where the network link's head ends.
+pub fn network_head(unicode: bool) -> u32
+    ensures { result ≡ network_head unicode }
+{
+    if unicode { 0x1C } else { 0x14 }
 }
 
 // What is absent counts as 0.
 pub fn number_if(there: bool, n: u32) -> u32
     ensures { result ≡ cond there n 0 }
 {
-    if there {
-        return n;
-    }
-    0
+    if there { n } else { 0 }
 }
 
 // ---- numbers and labels
@@ -481,57 +474,48 @@ pub fn number_if(there: bool, n: u32) -> u32
 pub fn one_or_0(b: bool) -> u8
     ensures { result ≡ one_or_0 b }
 {
-    if b {
-        return 1;
-    }
-    0
+    u8::from(b)
 }
 
-// A number's 32 bits as a signed number. `!` asks for no sum that could leave the type.
+// A number's 32 bits as a signed number.
+#[tactic(auto, unfolding(crate::specs::Header::signed))]
 pub fn signed(x: u32) -> i32
     ensures { result ≡ signed x }
 {
-    if x < 0x8000_0000 {
-        x as i32
-    } else {
-        !((0xFFFF_FFFF - x) as i32)
-    }
+    x.cast_signed()
 }
 
 // The 32 bits of a signed number.
+#[tactic(auto, unfolding(crate::specs::Writing::bits))]
 pub fn bits_of(n: i32) -> u32
     ensures { result ≡ bits n }
 {
-    if n < 0 {
-        return 4294967295 - (!n as u32);
-    }
-    n as u32
+    n.cast_unsigned()
 }
 
-pub fn label_of(unicode: bool, b: Place) -> Label
-    ensures { result ≡ label_of unicode b }
-{
-    if unicode {
-        Label::Unicode(b)
-    } else {
-        Label::Byte(b)
+impl Label {
+    // Of that kind, at that place.
+    pub fn of(unicode: bool, place: Place) -> Self
+        ensures { result ≡ label_of unicode place }
+    {
+        if unicode {
+            Label::Unicode(place)
+        } else {
+            Label::Byte(place)
+        }
     }
-}
 
-pub fn label_unicode(l: Label) -> bool
-    ensures { result ≡ label_kind l }
-{
-    match l {
-        Label::Byte(_) => false,
-        Label::Unicode(_) => true,
+    pub fn is_unicode(self) -> bool
+        ensures { result ≡ label_kind self }
+    {
+        matches!(self, Label::Unicode(_))
     }
-}
 
-pub fn label_place(l: Label) -> Place
-    ensures { result ≡ label_place l }
-{
-    match l {
-        Label::Byte(b) => b,
-        Label::Unicode(b) => b,
+    pub fn place(self) -> Place
+        ensures { result ≡ label_place self }
+    {
+        match self {
+            Label::Byte(place) | Label::Unicode(place) => place,
+        }
     }
 }

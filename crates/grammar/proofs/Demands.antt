@@ -10,13 +10,13 @@ use Rattle.format.specs.declared.Profile.{Profile}
 use Rattle.format.specs.declared.Record.{Record}
 use Rattle.format.specs.declared.Reading.{Reading}
 use Rattle.format.specs.declared.Fault.{Fault}
-use Rattle.format.specs.declared.Verdict.{Verdict}
-use Rattle.format.specs.declared.Verdict.TheVariants.{Accepted, Refused}
 use Rattle.format.specs.Shortcut.{reading}
 use Rattle.format.specs.Demands.{Accepts}
 use Rattle.format.proofs.Demands.{accepted_whole}
 use Rattle.grammar.specs.Grammar.{IsShortcut}
 use Rattle.grammar.proofs.WholeLaws.{shortcut_told, shortcut_read}
+use Rattle.format.specs.Verdicts.{Verdict, refused_at}
+use Rattle.std.specs.Prelude.{Ok}
 
 module _ (profile : Profile) (s : List ℕ) (bs : Bytes s) where
   -- reading accepts s as the record r exactly if the grammar says that s is a shortcut of r
@@ -29,7 +29,7 @@ module _ (profile : Profile) (s : List ℕ) (bs : Bytes s) where
   one_record r q a b = ap (λ (x : Reading). x.held) (sym (shortcut_read profile s r bs a) ∙ shortcut_read profile s q bs b)
 
   -- without a record: the answer is OK, with some value, exactly if s is a shortcut of some record
-  pub accepted_exactly : ((n : ℕ) × ((reading profile s).verdict ≡ Accepted n)) ↔ ((r : Record) × IsShortcut profile s r)
+  pub accepted_exactly : ((n : ℕ) × ((reading profile s).verdict ≡ Ok n)) ↔ ((r : Record) × IsShortcut profile s r)
   unfolding Accepts
   accepted_exactly = (
     λ (n, e).
@@ -39,9 +39,9 @@ module _ (profile : Profile) (s : List ℕ) (bs : Bytes s) where
   )
 
   -- and what is refused is a shortcut of none
-  pub refused_none : (f : Fault) (p : ℕ) → (reading profile s).verdict ≡ Refused f p → (r : Record) → IsShortcut profile s r → ⊥
+  pub refused_none : (f : Fault) (p : ℕ) → (reading profile s).verdict ≡ refused_at f p → (r : Record) → IsShortcut profile s r → ⊥
   unfolding Accepts
   refused_none f p e r g =
-      let a : (reading profile s).verdict ≡ Accepted (length s) = ap (λ (x : Reading). x.verdict) (shortcut_read profile s r bs g) in
+      let a : (reading profile s).verdict ≡ Ok (length s) = ap (λ (x : Reading). x.verdict) (shortcut_read profile s r bs g) in
       let z : ◌≡◌ {A = ℕ} 0 1 = cc in
       omega arith

@@ -27,7 +27,7 @@ pub header_fields_one_outcome : OneAnswer header_fields_contract.ended header_fi
 header_fields_one_outcome κs a r q s t p o = p ∙ sym o
 
 pub header_one_outcome : OneAnswer header_contract.ended header.Reads.Post
-header_one_outcome κs a r q s t p o = p.is ∙ sym o.is
+header_one_outcome κs a r q s t p o = p ∙ sym o
 
 pub window_one_outcome : OneAnswer window_contract.ended window.Reads.Post
 window_one_outcome κs a r q s t p o = p ∙ sym o

@@ -1,21 +1,14 @@
 // The header, and the window shown (FORMAT: Header).
 #![tactic(auto)]
 
-ghost use Rattle.std.specs.Prelude.{◌≡◌, ◌≤◌, ◌/◌, ◌^◌, length, eqb};
-ghost use Rattle.format.specs.Header.{header_size_ok, identifier_ok, flags_ok, clear_from, attributes_ok, zeros_from_66, head_tests, header_fields, window_shown};
+ghost use Rattle.std.specs.Prelude.{◌≡◌, ◌≤◌, ◌/◌, ◌^◌, length, eqb, cond};
+ghost use Rattle.format.specs.Tests.{section, spot_at};
+ghost use Rattle.format.specs.Header.{header_size_ok, identifier_ok, flags_ok, clear_from, attributes_ok, zeros_from_66, header_fields, header, window_shown};
 ghost use Rattle.format.specs.Hotkey.{low_byte_ok, high_byte_ok, hotkey_ok};
-ghost use Rattle.format.specs.Steps.Wrong.{wrong};
-ghost use Rattle.header.specs.Steps.Taken.{HeaderAnswer};
+ghost use Rattle.format.specs.Steps.Answers.{refusal, read_from};
 
-use format::{Fault, Header, Profile, Spot, spot_at, unless};
+use format::{Fault, Header, Profile, Refusal};
 use octets::Cursor;
-
-// The header and the cursor after it, or why it is refused and where.
-#[derive(Clone, Copy)]
-pub enum HeaderTaken {
-    Got(Header, Cursor),
-    Refused(Fault, Spot),
-}
 
 fn header_size_ok(n: u32) -> bool
     ensures { result ≡ header_size_ok n }
@@ -79,6 +72,7 @@ fn high_byte_ok(m: u16) -> bool
 }
 
 // The two tables, and beside them the house's rules: 0 as a whole is allowed, and a key without a modifier.
+#[inline(always)]
 pub fn hotkey_ok(h: u16) -> bool
     ensures { result ≡ hotkey_ok h }
 {
@@ -93,22 +87,6 @@ fn zeros_from_66(l: &[u8]) -> bool
     ensures { result ≡ zeros_from_66 l.now }
 {
     (octets::u16_at(l, 66) == 0) & (octets::u64_at(l, 68) == 0)
-}
-
-// The first field that breaks a rule of HEAD, or 0.
-fn head_wrong(l: &[u8], profile: Profile) -> usize
-    requires { 76 ≤ length l.now }
-    ensures { result ≡ wrong (head_tests profile l.now) }
-{
-    let flags = flags_ok(octets::u32_at(l, 20));
-    let attributes = attributes_ok(octets::u32_at(l, 24), profile);
-    let hotkey = hotkey_ok(octets::u16_at(l, 64));
-    let zeros = zeros_from_66(l);
-    unless(
-        flags,
-        20,
-        unless(attributes, 24, unless(hotkey, 64, unless(zeros, 66, 0))),
-    )
 }
 
 pub fn header_fields(l: &[u8]) -> Header
@@ -128,24 +106,33 @@ pub fn header_fields(l: &[u8]) -> Header
     }
 }
 
-pub fn header(s: &[u8], profile: Profile) -> HeaderTaken
-    ensures { HeaderAnswer profile s.now result }
+// A test of the header, which stands first.
+fn header_demand(holds: bool, fault: Fault, field: usize) -> Result<(), Refusal>
+    ensures { result ≡ cond holds (Ok tt) (Err (refusal fault (spot_at (section 0 0) field))) }
 {
-    if s.len() < 76 {
-        return HeaderTaken::Refused(Fault::Cut, spot_at(0, 0, 0));
+    if holds {
+        return Ok(());
     }
-    let l = &s[..76];
-    if !header_size_ok(octets::u32_at(l, 0)) {
-        return HeaderTaken::Refused(Fault::Magic, spot_at(0, 0, 0));
-    }
-    if !identifier_ok(l) {
-        return HeaderTaken::Refused(Fault::Magic, spot_at(0, 0, 4));
-    }
-    let wrong = head_wrong(l, profile);
-    if wrong != 0 {
-        return HeaderTaken::Refused(Fault::Head, spot_at(0, 0, wrong));
-    }
-    HeaderTaken::Got(header_fields(l), Cursor { at: 76 })
+    Err(Refusal::at(fault, 0, 0, field))
+}
+
+pub fn header(s: &[u8], profile: Profile) -> Result<(Header, Cursor), Refusal>
+    ensures { result ≡ read_from 0 (header profile 0 s.now) }
+{
+    let Some(l) = s.get(..76) else {
+        return Err(Refusal::at(Fault::Cut, 0, 0, 0));
+    };
+    header_demand(header_size_ok(octets::u32_at(l, 0)), Fault::Magic, 0)?;
+    header_demand(identifier_ok(l), Fault::Magic, 4)?;
+    header_demand(flags_ok(octets::u32_at(l, 20)), Fault::Head, 20)?;
+    header_demand(
+        attributes_ok(octets::u32_at(l, 24), profile),
+        Fault::Head,
+        24,
+    )?;
+    header_demand(hotkey_ok(octets::u16_at(l, 64)), Fault::Head, 64)?;
+    header_demand(zeros_from_66(l), Fault::Head, 66)?;
+    Ok((header_fields(l), Cursor { at: 76 }))
 }
 
 // The window that a show command asks for.

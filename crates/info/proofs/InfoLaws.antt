@@ -1,394 +1,254 @@
--- LinkInfo: its head, its pieces, and the whole section.
-use mathlib.Core.Path.{◌≡◌, refl, sym, ap, ap₂, ◌∙◌}
-use mathlib.Core.List.{List, [], ◌∷◌, map}
-use mathlib.Core.Bool.{Bool, true, false, not, ◌&&◌, ◌||◌, cond}
-use Prim.Native.Nat.{ℕ, ◌+◌, ◌-◌, ◌≤◌, ◌<◌}
+-- LinkInfo: its head and its pieces, each way out of their tests.
+use mathlib.Core.Path.{◌≡◌, refl, sym, ap, ◌∙◌}
+use mathlib.Core.List.{List, [], ◌∷◌, ◌++◌, map, append_assoc}
+use mathlib.Core.Bool.{Bool, true, false, not, ◌&&◌, ◌||◌}
+use Prim.Native.Nat.{ℕ, ◌+◌, ◌≤◌}
 use native.Mathlib.Omega.{arith}
-use lib.ListN.{length, take, drop, length-take, length-drop}
+use lib.ListN.{length}
 use lib.Dec.{leb, eqb}
-use borrow.Author.Tests.{le-leb, lt-leb, leb-true, eqb-true, eq-eqb, ne_eqb, not-true, not-false}
+use borrow.Author.Tests.{leb-true, eqb-true}
+use Rattle.std.specs.Prelude.{Option, Some, None, Ok, Err}
 use Rattle.octets.specs.Numbers.{u32_at}
-use Rattle.octets.specs.declared.Cursor.{Cursor}
 use Rattle.format.specs.declared.Profile.{Profile}
 use Rattle.format.specs.declared.Profile.TheVariants.{Strict, NinetyFive}
-use Rattle.format.specs.declared.Fault.{Fault}
-use Rattle.format.specs.declared.Fault.TheVariants.{Cut as CUT, Info as INFO, Piece as PIECE}
-use Rattle.format.specs.declared.Place.{Place}
-use Rattle.format.specs.declared.Info.{Info}
-use Rattle.format.specs.declared.Spot.{Spot}
-use Rattle.format.specs.Tests.{Site, section, spot_at, Outcome, got, refused, Test, ◌else◌at◌, tests, all}
-use Rattle.format.specs.Numbers.{outcome_number}
-use Rattle.format.specs.Steps.Answers.{outcome_end}
-use Rattle.format.specs.Steps.Wrong.{wrong}
-use Rattle.format.specs.Pieces.{text_piece, absent_zero, tests_of, apart_tests}
+use Rattle.format.specs.Tests.{Test}
+use Rattle.format.specs.Steps.Wrong.{given}
+use Rattle.format.specs.Pieces.{Piece, text_piece, absent_zero, tests_of, each_ok, led, apart_tests}
 use Rattle.format.specs.Volume.{volume_piece, volume_rules}
 use Rattle.format.specs.Network.{network_piece, network_rules}
-use Rattle.format.specs.Info.{info_size, info_head, long_head, head_ok, info_flags, has_local, has_network, info_pieces, leftover_ok, info_head_tests, info_rules, info_fields, has_local_unicode, info}
-use Rattle.format.specs.Presence.{local_there, network_there, local_unicode_there}
+use Rattle.format.specs.Info.{info_head, long_head, head_ok, has_local, has_network, info_pieces, leftover_ok, info_head_tests, has_local_unicode}
 use Rattle.format.proofs.Bools.{or-true, and-true}
-use Rattle.format.proofs.Chains.{tests-append, all-Pass, Pass-all}
-use Rattle.format.proofs.WrongLaws.{Faults, one_fault, none_wrong}
-use Rattle.format.proofs.Holds.{info_piece_tests, info_head_holds, info_pieces_hold}
-use Rattle.info.specs.declared.InfoTaken.{InfoTaken}
-use Rattle.info.specs.declared.InfoTaken.TheVariants.{Got, Refused}
-use Rattle.pieces.specs.declared.Text.{Text}
-use Rattle.pieces.specs.declared.VolumeFound.{VolumeFound}
-use Rattle.pieces.specs.declared.NetworkFound.{NetworkFound}
-use Rattle.pieces.specs.Steps.Found.{field_if, piece_ok, label_bytes, network_texts, text_found, volume_found, network_found}
-use Rattle.info.specs.Steps.Found.{ignores_leftovers, text_lengths, no_lengths, lengths_after, EarlierRight}
-use Rattle.info.specs.Steps.Taken.{info_taken, info_at, said_by, info_held, info_number, info_value, InfoAnswer}
-use Rattle.pieces.proofs.TestLaws.{Fields-told, Fields-one, Fields-most, text_fields, AllFields, pieces_Fields, judge, first_of, spans_of, pieces_judged}
-use Rattle.pieces.proofs.TextLaws.{text_judged, text_length_lem, text_field, zero_field}
-use Rattle.pieces.proofs.StructLaws.{first_number, struct_Fields}
+use Rattle.format.proofs.WrongLaws.{none_wrong, given_none}
+use Rattle.format.proofs.Holds.{info_piece_tests, info_head_holds}
+use Rattle.pieces.specs.declared.Found.{Found}
+use Rattle.pieces.specs.declared.NetworkTexts.{NetworkTexts}
+use Rattle.pieces.specs.Steps.Found.{field_if, text_found, volume_found, network_found, six_apart}
+use Rattle.info.specs.Steps.Found.{ignores_leftovers, volume_is, network_is, text_is, Earlier, Later, earlier_in, later_in, pieces_in}
+use Rattle.pieces.proofs.TestLaws.{told, given_lost, given_then, same_lost, same_held, Fields, Fields-most, text_fields, AllFields, pieces_Fields}
+use Rattle.pieces.proofs.TextLaws.{text_lost, text_right, text_field, zero_field}
+use Rattle.pieces.proofs.StructLaws.{struct_Fields}
 use Rattle.pieces.proofs.VolumeLaws.{volume_Fields}
 use Rattle.pieces.proofs.NetworkLaws.{network_Fields}
-use Rattle.info.proofs.LengthLaws.{row_of, length_row, lengths_anywhere, row_kept, row_filled}
 
 -- ---- the head, field after field
 
-abbrev head_fits : ℕ → ℕ → Bool
-head_fits head z = eqb head 0x1C || (leb 0x24 head && leb head z)
-
--- a head that fits is not empty, and a long one lies inside
-fits_inside : (head z : ℕ) → head_fits head z ≡ true → (0 < head) × (leb 0x24 head ≡ true → 0x24 ≤ z)
-fits_inside head z h =
-    or-true (eqb head 0x1C) (leb 0x24 head && leb head z) h
-    (λ e. let q = eqb-true head 0x1C e in (omega arith, λ t. absurd (omega (arith, leb-true 0x24 head t))))
-    (λ e.
-    let (a, b) = and-true (leb 0x24 head) (leb head z) e in
-    let f = leb-true 0x24 head a in
-    let g = leb-true head z b in
-    (omega arith, λ t. omega arith))
-
 -- the field of a part that is there, or of any where leftovers are ignored, is not looked at
-forgiven : (profile : Profile) (b : Bool) (o : ℕ) → absent_zero (b || ignores_leftovers profile) o ≡ leftover_ok profile b o
+pub forgiven : (profile : Profile) (b : Bool) (o : ℕ) → absent_zero (b || ignores_leftovers profile) o ≡ leftover_ok profile b o
 unfolding ignores_leftovers
 forgiven Strict true o = refl
 forgiven Strict false o = refl
 forgiven NinetyFive true o = refl
 forgiven NinetyFive false o = refl
 
-forgiven_field : (profile : Profile) (b w : Bool) (l : List ℕ) (i : ℕ) → absent_zero (b || ignores_leftovers profile) (field_if w l i) ≡ (not w || leftover_ok profile b (u32_at l i))
+pub forgiven_field : (profile : Profile) (b w : Bool) (l : List ℕ) (i : ℕ) → absent_zero (b || ignores_leftovers profile) (field_if w l i) ≡ (not w || leftover_ok profile b (u32_at l i))
 forgiven_field profile b w l i = zero_field (b || ignores_leftovers profile) w l i ∙ ap (λ (x : Bool). not w || x) (forgiven profile b (u32_at l i))
 
-module _ (profile : Profile) (l : List ℕ) {head : ℕ} (eh : head ≡ u32_at l 4) where
-  pub head_unfit : not (head_fits head (length l)) ≡ true → 4 ≡ wrong (info_head_tests profile l)
-  head_unfit t = rw (← eh, not-true (head_fits head (length l)) t)
+pub ruleset leftovers = (forgiven, forgiven_field)
 
-  module _ {flags : ℕ} (th : not (head_fits head (length l)) ≡ false) (ef : flags ≡ u32_at l 8) where
-    pub head_room : leb 0x24 head ≡ true → 0x24 ≤ length l
-    head_room = (fits_inside head (length l) (not-false (head_fits head (length l)) th)).1
+-- a head that passed its tests is right
+pub head_passed : (profile : Profile) (l : List ℕ) {x : Unit {0}} → given (info_head_tests profile l) tt ≡ Ok x → head_ok l ≡ true
+head_passed profile l e = (info_head_holds profile l (none_wrong (info_head_tests profile l) (given_none (info_head_tests profile l) tt e).0)).head
 
-    pub flags_unfit : 3 < flags → 8 ≡ wrong (info_head_tests profile l)
-    flags_unfit h = rw (← eh, not-false (head_fits head (length l)) th, ← ef, lt-leb flags 3 h)
+-- a long one lies inside
+pub passed_room : (l : List ℕ) → head_ok l ≡ true → long_head l ≡ true → 0x24 ≤ length l
+passed_room l e t =
+    or-true (eqb (info_head l) 0x1C) (long_head l && leb (info_head l) (length l)) e
+    (λ q. absurd (omega (arith, leb-true 0x24 (info_head l) t, eqb-true (info_head l) 0x1C q)))
+    (λ q. omega (arith, leb-true 0x24 (info_head l) t, leb-true (info_head l) (length l) (and-true (long_head l) (leb (info_head l) (length l)) q).1))
 
-    module _ {ignored local x : Bool} {o : ℕ} (hf : flags ≤ 3) (ei : ignored ≡ ignores_leftovers profile) (et : local ≡ local_there flags) (eo : o ≡ u32_at l 12) (ex : x ≡ absent_zero (local || ignored) o) where
-      volume_is : leftover_ok profile (local_there flags) (u32_at l 12) ≡ x
-      volume_is = sym (ex ∙ rw (eo, et, ei) (forgiven profile _ _))
+-- ---- the pieces: each way out of their tests
 
-      pub volume_kept : not x ≡ true → 12 ≡ wrong (info_head_tests profile l)
-      volume_kept t = rw (← eh, not-false (head_fits head (length l)) th, ← ef, le-leb flags 3 hf, volume_is, not-true x t)
+each_append : (h : ℕ) (xs ys : List Piece) → each_ok h (xs ++ ys) ≡ each_ok h xs ++ each_ok h ys
+each_append h [] ys = refl
+each_append h (x ∷ xs) ys = ap (λ (ts : List Test). tests_of h x ++ ts) (each_append h xs ys) ∙ sym (append_assoc (tests_of h x) (each_ok h xs) (each_ok h ys))
 
-      module _ {y : Bool} {q : ℕ} (tx : not x ≡ false) (eq : q ≡ u32_at l 16) (ey : y ≡ absent_zero (local || ignored) q) where
-        local_is : leftover_ok profile (local_there flags) (u32_at l 16) ≡ y
-        local_is = sym (ey ∙ rw (eq, et, ei) (forgiven profile _ _))
+module _ (l : List ℕ) where
+  abbrev h : ℕ
+  h = info_head l
 
-        pub local_kept : not y ≡ true → 16 ≡ wrong (info_head_tests profile l)
-        local_kept t = rw (← eh, not-false (head_fits head (length l)) th, ← ef, le-leb flags 3 hf, volume_is, not-false x tx, local_is, not-true y t)
+  abbrev volume : Piece
+  volume = volume_piece (has_local l) l 12 (u32_at l 12)
 
-        module _ {linked z : Bool} {r : ℕ} (ty : not y ≡ false) (en : linked ≡ network_there flags) (er : r ≡ u32_at l 20) (ez : z ≡ absent_zero (linked || ignored) r) where
-          network_is : leftover_ok profile (network_there flags) (u32_at l 20) ≡ z
-          network_is = sym (ez ∙ rw (er, en, ei) (forgiven profile _ _))
+  abbrev local : Piece
+  local = text_piece (has_local l) false l 16 (u32_at l 16)
 
-          pub network_kept : not z ≡ true → 20 ≡ wrong (info_head_tests profile l)
-          network_kept t =
-              rw (← eh, not-false (head_fits head (length l)) th, ← ef, le-leb flags 3 hf, volume_is, not-false x tx, local_is, not-false y ty, network_is, not-true z t)
+  abbrev network : Piece
+  network = network_piece (has_network l) l 20 (u32_at l 20)
 
-          pub local_unicode_kept : {w : Bool} {m n : ℕ} → not z ≡ false → m ≡ field_if (leb 0x24 head) l 28 → w ≡ absent_zero (local || ignored) m → n ≡ cond w 0 28 → n ≡ wrong (info_head_tests profile l)
-          local_unicode_kept {w} t em ew e =
-              let i : (not (leb 0x24 head) || leftover_ok profile (local_there flags) (u32_at l 28)) ≡ w = sym (ew ∙ rw (em, et, ei) (forgiven_field profile (local_there flags) (leb 0x24 head) l 28)) in
-              rw (← eh, not-false (head_fits head (length l)) th, ← ef, le-leb flags 3 hf, volume_is, not-false x tx, local_is, not-false y ty, network_is, not-false z t, i) e
+  abbrev suffix : Piece
+  suffix = text_piece true false l 24 (u32_at l 24)
 
-head_Faults : (profile : Profile) (l : List ℕ) → Faults INFO (info_head_tests profile l)
-head_Faults profile l = (refl, (omega arith, (refl, (omega arith, (refl, (omega arith, (refl, (omega arith, (refl, (omega arith, (refl, (omega arith, tt))))))))))))
+  abbrev local_unicode : Piece
+  local_unicode = text_piece (has_local_unicode l) true l 28 (u32_at l 28)
 
-pub head_most : (profile : Profile) (l : List ℕ) {k : ℕ} → k ≡ wrong (info_head_tests profile l) → k ≤ 28
-head_most profile l e =
-    rw e
-    (go (head_ok l) (leb (info_flags l) 3) (leftover_ok profile (has_local l) (u32_at l 12)) (leftover_ok profile (has_local l) (u32_at l 16)) (leftover_ok profile (has_network l) (u32_at l 20))
-    (not (long_head l) || leftover_ok profile (has_local l) (u32_at l 28)))
-  where
-    go : (a b c d e f : Bool) → cond a (cond b (cond c (cond d (cond e (cond f 0 28) 20) 16) 12) 8) 4 ≤ 28
-    go true true true true true true = omega arith
-    go true true true true true false = omega arith
-    go true true true true false f = omega arith
-    go true true true false e f = omega arith
-    go true true false d e f = omega arith
-    go true false c d e f = omega arith
-    go false b c d e f = omega arith
+  abbrev suffix_unicode : Piece
+  suffix_unicode = text_piece (long_head l) true l 32 (u32_at l 32)
 
-pub head_passed : (profile : Profile) (l : List ℕ) → wrong (info_head_tests profile l) ≡ 0 → head_ok l ≡ true
-head_passed profile l e = (info_head_holds profile l (none_wrong INFO (info_head_tests profile l) (head_Faults profile l) e)).head
+  abbrev firsts : List Piece
+  firsts = volume ∷ local ∷ network ∷ []
 
-module _ (l : List ℕ) (e : head_ok l ≡ true) where
-  fits : (0 < info_head l) × (long_head l ≡ true → 0x24 ≤ length l)
-  fits = fits_inside (info_head l) (length l) e
+  abbrev lasts : List Piece
+  lasts = suffix ∷ local_unicode ∷ suffix_unicode ∷ []
 
-  pub passed_room : {head : ℕ} → head ≡ u32_at l 4 → leb 0x24 head ≡ true → 0x24 ≤ length l
-  passed_room eh t = fits.1 (rw (← eh) t)
+  abbrev earlier : Earlier
+  earlier = (volume_is l, text_is (has_local l) false l 16, network_is l)
 
-  -- ---- the pieces are of fields that are not 0 and no later than 32 after the end
-  pieces_within : AllFields (length l + 32) (info_head l) (info_pieces l)
-  pieces_within =
-      let k : ℕ = length l + 32 in
-      let h : ℕ = info_head l in
-      let z : 0 < h = fits.0 in (
-        struct_Fields k 12 16 0x11 volume_rules (has_local l) l h (u32_at l 12) (omega arith) (omega arith) (omega arith) z volume_Fields,
+  abbrev later : Later
+  later = (text_is true false l 24, text_is (has_local_unicode l) true l 28, text_is (long_head l) true l 32)
+
+  -- ---- the first three
+
+  module _ {head : ℕ} (eh : head ≡ h) where
+    pub volume_lost : {w : ℕ} → volume_found (has_local l) l head ≡ Err w → earlier_in l ≡ Err w
+    unfolding earlier_in volume_found
+    volume_lost e = given_lost (tests_of h volume) (each_ok h (local ∷ network ∷ [])) (volume_is l) earlier (rw eh at e)
+
+    module _ {a : Found ℕ} (A : volume_found (has_local l) l head ≡ Ok a) where
+      past_volume : earlier_in l ≡ given (each_ok h (local ∷ network ∷ [])) earlier
+      unfolding earlier_in volume_found
+      past_volume = given_then (tests_of h volume) (each_ok h (local ∷ network ∷ [])) (volume_is l) earlier (rw eh at A)
+
+      volume_right : volume_is l ≡ a
+      unfolding volume_found
+      volume_right = (given_none (tests_of h volume) (volume_is l) (rw eh at A)).1
+
+      pub local_lost : text_found (has_local l) false l head (u32_at l 16) ≡ None → earlier_in l ≡ Err 16
+      local_lost e = past_volume ∙ given_lost (tests_of h local) (each_ok h (network ∷ [])) earlier earlier (text_lost (has_local l) false l h (u32_at l 16) 16 (rw eh at e) earlier)
+
+      module _ {b : Found ℕ} (B : text_found (has_local l) false l head (u32_at l 16) ≡ Some b) where
+        local_right : (given (tests_of h local) earlier ≡ Ok earlier) × (b ≡ text_is (has_local l) false l 16)
+        local_right = text_right (has_local l) false l h (u32_at l 16) 16 (rw eh at B) earlier
+
+        past_local : earlier_in l ≡ given (each_ok h (network ∷ [])) earlier
+        past_local = past_volume ∙ given_then (tests_of h local) (each_ok h (network ∷ [])) earlier earlier local_right.0
+
+        pub network_lost : {w : ℕ} → network_found (has_network l) l head ≡ Err w → earlier_in l ≡ Err w
+        unfolding network_found
+        network_lost e = past_local ∙ given_lost (tests_of h network) [] (network_is l) earlier (rw eh at e)
+
+        pub earlier_right : {c : Found NetworkTexts} → network_found (has_network l) l head ≡ Ok c → earlier_in l ≡ Ok (a, b, c)
+        unfolding network_found
+        earlier_right {c} C =
+            let k : network_is l ≡ c = (given_none (tests_of h network) (network_is l) (rw eh at C)).1 in
+            past_local ∙ given_then (tests_of h network) [] (network_is l) earlier (rw eh at C) ∙ rw (volume_right, local_right.1, k)
+
+  -- ---- those after them
+
+  module _ {head : ℕ} (eh : head ≡ h) where
+    pub suffix_lost : text_found true false l head (u32_at l 24) ≡ None → later_in l ≡ Err 24
+    unfolding later_in
+    suffix_lost e = given_lost (tests_of h suffix) (each_ok h (local_unicode ∷ suffix_unicode ∷ [])) later later (text_lost true false l h (u32_at l 24) 24 (rw eh at e) later)
+
+    module _ {d : Found ℕ} (D : text_found true false l head (u32_at l 24) ≡ Some d) where
+      suffix_right : (given (tests_of h suffix) later ≡ Ok later) × (d ≡ text_is true false l 24)
+      suffix_right = text_right true false l h (u32_at l 24) 24 (rw eh at D) later
+
+      past_suffix : later_in l ≡ given (each_ok h (local_unicode ∷ suffix_unicode ∷ [])) later
+      unfolding later_in
+      past_suffix = given_then (tests_of h suffix) (each_ok h (local_unicode ∷ suffix_unicode ∷ [])) later later suffix_right.0
+
+      local_unicode_field : {o : Option (Found ℕ)} → text_found (has_local_unicode l) true l head (field_if (long_head l) l 28) ≡ o → text_found (has_local_unicode l) true l h (u32_at l 28) ≡ o
+      local_unicode_field e = sym (text_field (has_local_unicode l) true l h 28 (long_head l) (λ z. rw z)) ∙ rw eh at e
+
+      pub local_unicode_lost : text_found (has_local_unicode l) true l head (field_if (long_head l) l 28) ≡ None → later_in l ≡ Err 28
+      local_unicode_lost e =
+          past_suffix ∙ given_lost (tests_of h local_unicode) (each_ok h (suffix_unicode ∷ [])) later later
+          (text_lost (has_local_unicode l) true l h (u32_at l 28) 28 (local_unicode_field e) later)
+
+      module _ {e : Found ℕ} (E : text_found (has_local_unicode l) true l head (field_if (long_head l) l 28) ≡ Some e) where
+        local_unicode_right : (given (tests_of h local_unicode) later ≡ Ok later) × (e ≡ text_is (has_local_unicode l) true l 28)
+        local_unicode_right = text_right (has_local_unicode l) true l h (u32_at l 28) 28 (local_unicode_field E) later
+
+        past_local_unicode : later_in l ≡ given (each_ok h (suffix_unicode ∷ [])) later
+        past_local_unicode = past_suffix ∙ given_then (tests_of h local_unicode) (each_ok h (suffix_unicode ∷ [])) later later local_unicode_right.0
+
+        suffix_unicode_field : {o : Option (Found ℕ)} → text_found (long_head l) true l head (field_if (long_head l) l 32) ≡ o → text_found (long_head l) true l h (u32_at l 32) ≡ o
+        suffix_unicode_field e = sym (text_field (long_head l) true l h 32 (long_head l) (λ z. z)) ∙ rw eh at e
+
+        pub suffix_unicode_lost : text_found (long_head l) true l head (field_if (long_head l) l 32) ≡ None → later_in l ≡ Err 32
+        suffix_unicode_lost e =
+            past_local_unicode ∙ given_lost (tests_of h suffix_unicode) [] later later (text_lost (long_head l) true l h (u32_at l 32) 32 (suffix_unicode_field e) later)
+
+        pub later_right : {f : Found ℕ} → text_found (long_head l) true l head (field_if (long_head l) l 32) ≡ Some f → later_in l ≡ Ok (d, e, f)
+        later_right F =
+            let r = text_right (long_head l) true l h (u32_at l 32) 32 (suffix_unicode_field F) later in
+            past_local_unicode ∙ given_then (tests_of h suffix_unicode) [] later later r.0 ∙ rw (suffix_right.1, local_unicode_right.1, r.1)
+
+  -- ---- all of them
+
+  pieces_split : pieces_in l ≡ given ((each_ok h firsts ++ each_ok h lasts) ++ apart_tests [] (map led (info_pieces l))) tt
+  unfolding pieces_in
+  pieces_split = ap (λ (ts : List Test). told (ts ++ apart_tests [] (map led (info_pieces l)))) (each_append h firsts lasts)
+
+  pub earlier_wrong : {w : ℕ} → earlier_in l ≡ Err w → pieces_in l ≡ Err w
+  unfolding earlier_in
+  earlier_wrong e =
+      pieces_split ∙ given_lost (each_ok h firsts ++ each_ok h lasts) (apart_tests [] (map led (info_pieces l))) tt (tt {0}) (given_lost (each_ok h firsts) (each_ok h lasts) earlier (tt {0}) e)
+
+  pub later_are : {d e f : Found ℕ} → later_in l ≡ Ok (d, e, f) → (text_is true false l 24 ≡ d) × (text_is (has_local_unicode l) true l 28 ≡ e) × (text_is (long_head l) true l 32 ≡ f)
+  unfolding later_in
+  later_are {d} {e} {f} L =
+      let k : ◌≡◌ {A = Later} later (d, e, f) = (given_none (each_ok h lasts) later L).1 in
+      (ap (λ (x : Later). x.0) k, ap (λ (x : Later). x.1) k, ap (λ (x : Later). x.2) k)
+
+  module _ {a : Found ℕ} {b : Found ℕ} {c : Found NetworkTexts} (E : earlier_in l ≡ Ok (a, b, c)) where
+    past_earlier : told (each_ok h firsts ++ each_ok h lasts) ≡ told (each_ok h lasts)
+    unfolding earlier_in
+    past_earlier = given_then (each_ok h firsts) (each_ok h lasts) earlier tt E
+
+    pub earlier_are : (volume_is l ≡ a) × (text_is (has_local l) false l 16 ≡ b) × (network_is l ≡ c)
+    unfolding earlier_in
+    earlier_are =
+        let k : ◌≡◌ {A = Earlier} earlier (a, b, c) = (given_none (each_ok h firsts) earlier E).1 in
+        (ap (λ (x : Earlier). x.0) k, ap (λ (x : Earlier). x.1) k, ap (λ (x : Earlier). x.2) k)
+
+    pub later_wrong : {w : ℕ} → later_in l ≡ Err w → pieces_in l ≡ Err w
+    unfolding later_in
+    later_wrong e =
+        pieces_split
+        ∙ given_lost (each_ok h firsts ++ each_ok h lasts) (apart_tests [] (map led (info_pieces l))) tt (tt {0}) (past_earlier ∙ same_lost (each_ok h lasts) later (tt {0}) e)
+
+    module _ {d e f : Found ℕ} (L : later_in l ≡ Ok (d, e, f)) where
+      apart_decides : pieces_in l ≡ six_apart a.span b.span c.span d.span e.span f.span
+      unfolding later_in six_apart
+      apart_decides =
+          pieces_split
+          ∙ given_then (each_ok h firsts ++ each_ok h lasts) (apart_tests [] (map led (info_pieces l))) tt (tt {0}) (past_earlier ∙ same_held (each_ok h lasts) later (tt {0}) L)
+          ∙ rw (← earlier_are.0, ← earlier_are.1, ← earlier_are.2, ← (later_are L).0, ← (later_are L).1, ← (later_are L).2)
+
+      pub share_wrong : {w : ℕ} → six_apart a.span b.span c.span d.span e.span f.span ≡ Err w → pieces_in l ≡ Err w
+      share_wrong x = apart_decides ∙ x
+
+      pub pieces_right : {y : Unit {0}} → six_apart a.span b.span c.span d.span e.span f.span ≡ Ok y → pieces_in l ≡ Ok tt
+      pieces_right x = apart_decides ∙ x
+
+pub ruleset earlier_read = (volume_lost, local_lost, network_lost)
+
+pub ruleset later_read = (passed_room, suffix_unicode_lost, later_right)
+
+pub ruleset pieces_read = (earlier_wrong, later_wrong, share_wrong, pieces_right)
+
+-- no field at fault is past the end by more than 32
+pieces_within : (l : List ℕ) → AllFields (length l + 32) (info_head l) (info_pieces l)
+pieces_within l =
+    let k : ℕ = length l + 32 in
+    let h : ℕ = info_head l in (
+      struct_Fields k 12 16 0x11 volume_rules (has_local l) l h (u32_at l 12) (omega arith) (omega arith) volume_Fields,
+      (
+        text_fields k h (has_local l) false l 16 (u32_at l 16) (omega arith),
         (
-          text_fields k h (has_local l) false l 16 (u32_at l 16) (omega arith) (omega arith),
+          struct_Fields k 20 24 0x14 network_rules (has_network l) l h (u32_at l 20) (omega arith) (omega arith) network_Fields,
           (
-            struct_Fields k 20 24 0x14 network_rules (has_network l) l h (u32_at l 20) (omega arith) (omega arith) (omega arith) z network_Fields,
-            (
-              text_fields k h true false l 24 (u32_at l 24) (omega arith) (omega arith),
-              (
-                text_fields k h (has_local_unicode l) true l 28 (u32_at l 28) (omega arith) (omega arith),
-                (text_fields k h (long_head l) true l 32 (u32_at l 32) (omega arith) (omega arith), tt),
-              ),
-            ),
+            text_fields k h true false l 24 (u32_at l 24) (omega arith),
+            (text_fields k h (has_local_unicode l) true l 28 (u32_at l 28) (omega arith), (text_fields k h (long_head l) true l 32 (u32_at l 32) (omega arith), tt)),
           ),
         ),
-      )
+      ),
+    )
 
--- ---- what the code finds, by the fields of l
+pub piece_tests_Fields : (l : List ℕ) → Fields (length l + 32) (info_piece_tests l)
+piece_tests_Fields l = pieces_Fields (length l + 32) (info_head l) (info_pieces l) (pieces_within l)
 
-module _ (l : List ℕ) {head : ℕ} (eh : head ≡ info_head l) where
-  pub volume_as : {flags : ℕ} {there : Bool} {a : VolumeFound} → flags ≡ u32_at l 8 → there ≡ local_there flags → a ≡ volume_found there l head → a ≡ volume_found (has_local l) l (info_head l)
-  volume_as ef et e = e ∙ rw (et, ef, eh)
-
-  pub local_as : {flags o : ℕ} {there : Bool} {b : Text} → flags ≡ u32_at l 8 → there ≡ local_there flags → o ≡ u32_at l 16 → b ≡ text_found there false l head o
-      → b ≡ text_found (has_local l) false l (info_head l) (u32_at l 16)
-  local_as ef et eo e = e ∙ rw (et, ef, eo, eh)
-
-  pub network_as : {flags : ℕ} {there : Bool} {c : NetworkFound} → flags ≡ u32_at l 8 → there ≡ network_there flags → c ≡ network_found there l head → c ≡ network_found (has_network l) l (info_head l)
-  network_as ef et e = e ∙ rw (et, ef, eh)
-
-  pub suffix_as : {o : ℕ} {d : Text} → o ≡ u32_at l 24 → d ≡ text_found true false l head o → d ≡ text_found true false l (info_head l) (u32_at l 24)
-  suffix_as eo e = e ∙ rw (eo, eh)
-
-  pub local_unicode_as : {flags o : ℕ} {both : Bool} {e : Text} → flags ≡ u32_at l 8 → both ≡ local_unicode_there (leb 0x24 head) flags → o ≡ field_if (leb 0x24 head) l 28
-      → e ≡ text_found both true l head o → e ≡ text_found (has_local_unicode l) true l (info_head l) (u32_at l 28)
-  local_unicode_as ef et eo e = e ∙ rw (et, eo, ef, eh) (text_field (has_local_unicode l) true l (info_head l) 28 (long_head l) (λ z. rw z))
-
-  pub suffix_unicode_as : {o : ℕ} {f : Text} → o ≡ field_if (leb 0x24 head) l 32 → f ≡ text_found (leb 0x24 head) true l head o → f ≡ text_found (long_head l) true l (info_head l) (u32_at l 32)
-  suffix_unicode_as eo e = e ∙ rw (eo, eh) (text_field (long_head l) true l (info_head l) 32 (long_head l) (λ z. z))
-
--- ---- the pieces: the first that is at fault
-
-module _ (l : List ℕ) (z : head_ok l ≡ true) where
-  abbrev judged_from : ℕ → List (ℕ × (ℕ × Place))
-  judged_from k = map (judge (info_head l)) (drop k (info_pieces l))
-
-  judged : {fs : List (ℕ × (ℕ × Place))} → fs ≡ judged_from 0 → wrong (info_piece_tests l) ≡ first_of fs (wrong (apart_tests [] (spans_of fs)))
-  judged p = pieces_judged (length l + 32) (info_head l) (info_pieces l) (pieces_within l z) p refl
-
-  module _ {a : VolumeFound} (ea : a ≡ volume_found (has_local l) l (info_head l)) where
-    volume_judged : (a.wrong, (12, a.span)) ≡ judge (info_head l) (volume_piece (has_local l) l 12 (u32_at l 12))
-    unfolding volume_found
-    volume_judged = rw ea
-
-    pub volume_fails : (a.wrong ≡ 0 → ⊥) → a.wrong ≡ wrong (info_piece_tests l)
-    volume_fails t =
-        let fs : ((a.wrong, (12, a.span)) ∷ judged_from 1) ≡ judged_from 0 = rw volume_judged in
-        sym (judged fs ∙ rw (ne_eqb a.wrong 0 t))
-
-    module _ {b : Text} (ra : a.wrong ≡ 0) (eb : b ≡ text_found (has_local l) false l (info_head l) (u32_at l 16)) where
-      local_judged : (cond b.ok 0 16, (16, b.span)) ≡ judge (info_head l) (text_piece (has_local l) false l 16 (u32_at l 16))
-      local_judged = text_judged (has_local l) false l (info_head l) (u32_at l 16) eb 16
-
-      pub local_fails : not b.ok ≡ true → 16 ≡ wrong (info_piece_tests l)
-      local_fails t =
-          let fs : ((a.wrong, (12, a.span)) ∷ (cond b.ok 0 16, (16, b.span)) ∷ judged_from 2) ≡ judged_from 0 = rw (volume_judged, local_judged) in
-          sym (judged fs ∙ rw (ra, not-true b.ok t))
-
-      module _ {c : NetworkFound} (rb : b.ok ≡ true) (ec : c ≡ network_found (has_network l) l (info_head l)) where
-        network_judged : (c.wrong, (20, c.span)) ≡ judge (info_head l) (network_piece (has_network l) l 20 (u32_at l 20))
-        unfolding network_found
-        network_judged = rw ec
-
-        pub network_fails : (c.wrong ≡ 0 → ⊥) → c.wrong ≡ wrong (info_piece_tests l)
-        network_fails t =
-            let fs : ((a.wrong, (12, a.span)) ∷ (cond b.ok 0 16, (16, b.span)) ∷ (c.wrong, (20, c.span)) ∷ judged_from 3) ≡ judged_from 0
-            = rw (volume_judged, local_judged, network_judged) in
-            sym (judged fs ∙ rw (ra, rb, ne_eqb c.wrong 0 t))
-
-  -- ---- those after the first three
-  module _ {a : VolumeFound} {b : Text} {c : NetworkFound} (E : EarlierRight l a b c) where
-    abbrev earlier : List (ℕ × (ℕ × Place)) → List (ℕ × (ℕ × Place))
-    earlier fs = (a.wrong, (12, a.span)) ∷ (cond b.ok 0 16, (16, b.span)) ∷ (c.wrong, (20, c.span)) ∷ fs
-
-    earlier_judged : earlier (judged_from 3) ≡ judged_from 0
-    earlier_judged =
-        rw (volume_judged E.volume, local_judged E.volume E.volume_right E.local, network_judged E.volume E.volume_right E.local E.local_right E.network)
-
-    -- what is wrong is so of one of the later pieces
-    later_judged : {fs : List (ℕ × (ℕ × Place))} → fs ≡ judged_from 3 → wrong (info_piece_tests l) ≡ first_of fs (wrong (apart_tests [] (spans_of (earlier fs))))
-    later_judged p = judged (ap earlier p ∙ earlier_judged) ∙ rw (E.volume_right, E.local_right, E.network_right)
-
-    label_found : piece_ok (info_head l) (volume_piece (has_local l) l 12 (u32_at l 12)) ≡ true → a.label ≡ label_bytes (has_local l) l (u32_at l 12)
-    unfolding volume_found
-    label_found q = ap (λ (x : VolumeFound). x.label) E.volume ∙ rw q
-
-    texts_found : piece_ok (info_head l) (network_piece (has_network l) l 20 (u32_at l 20)) ≡ true → c.texts ≡ network_texts (has_network l) l (u32_at l 20)
-    unfolding network_found
-    texts_found q = ap (λ (x : NetworkFound). x.texts) E.network ∙ rw q
-
-    module _ {d : Text} (ed : d ≡ text_found true false l (info_head l) (u32_at l 24)) where
-      suffix_judged : (cond d.ok 0 24, (24, d.span)) ≡ judge (info_head l) (text_piece true false l 24 (u32_at l 24))
-      suffix_judged = text_judged true false l (info_head l) (u32_at l 24) ed 24
-
-      pub suffix_fails : not d.ok ≡ true → 24 ≡ wrong (info_piece_tests l)
-      suffix_fails t =
-          let fs : ((cond d.ok 0 24, (24, d.span)) ∷ judged_from 4) ≡ judged_from 3 = rw suffix_judged in
-          sym (later_judged fs ∙ rw (not-true d.ok t))
-
-      module _ {e : Text} (rd : d.ok ≡ true) (ee : e ≡ text_found (has_local_unicode l) true l (info_head l) (u32_at l 28)) where
-        local_unicode_judged : (cond e.ok 0 28, (28, e.span)) ≡ judge (info_head l) (text_piece (has_local_unicode l) true l 28 (u32_at l 28))
-        local_unicode_judged = text_judged (has_local_unicode l) true l (info_head l) (u32_at l 28) ee 28
-
-        pub local_unicode_fails : not e.ok ≡ true → 28 ≡ wrong (info_piece_tests l)
-        local_unicode_fails t =
-            let fs : ((cond d.ok 0 24, (24, d.span)) ∷ (cond e.ok 0 28, (28, e.span)) ∷ judged_from 5) ≡ judged_from 3 = rw (suffix_judged, local_unicode_judged) in
-            sym (later_judged fs ∙ rw (rd, not-true e.ok t))
-
-        module _ {f : Text} (re : e.ok ≡ true) (ef : f ≡ text_found (long_head l) true l (info_head l) (u32_at l 32)) where
-          later : ((cond d.ok 0 24, (24, d.span)) ∷ (cond e.ok 0 28, (28, e.span)) ∷ (cond f.ok 0 32, (32, f.span)) ∷ []) ≡ judged_from 3
-          later = rw (suffix_judged, local_unicode_judged, text_judged (long_head l) true l (info_head l) (u32_at l 32) ef 32)
-
-          pub suffix_unicode_fails : not f.ok ≡ true → 32 ≡ wrong (info_piece_tests l)
-          suffix_unicode_fails t = sym (later_judged later ∙ rw (rd, re, not-true f.ok t))
-
-          module _ {far : ℕ} (rf : f.ok ≡ true)
-              (ew : far ≡ wrong (apart_tests [] ((12, a.span) ∷ (16, b.span) ∷ (20, c.span) ∷ (24, d.span) ∷ (28, e.span) ∷ (32, f.span) ∷ []))) where
-            pub all_judged : far ≡ wrong (info_piece_tests l)
-            all_judged = ew ∙ sym (later_judged later ∙ rw (rd, re, rf))
-
-            -- what was found of the lengths where all pass
-            pub lengths_found : far ≡ 0 → row_of a.label b.len c.texts d.len e.len f.len ≡ length_row l
-            lengths_found k =
-                let F = pieces_Fields (length l + 32) (info_head l) (info_pieces l) (pieces_within l z) in
-                let o : all (info_piece_tests l) ≡ true = sym (Fields-told (length l + 32) (info_piece_tests l) F) ∙ eq-eqb (wrong (info_piece_tests l)) 0 (sym all_judged ∙ k) in
-                let h = info_pieces_hold l (all-Pass (info_piece_tests l) o) in
-                rw (
-                  label_found (Pass-all (tests_of (info_head l) (volume_piece (has_local l) l 12 (u32_at l 12))) h.volume),
-                  text_length_lem (has_local l) false l (info_head l) (u32_at l 16) E.local E.local_right,
-                  texts_found (Pass-all (tests_of (info_head l) (network_piece (has_network l) l 20 (u32_at l 20))) h.network),
-                  text_length_lem true false l (info_head l) (u32_at l 24) ed rd,
-                  text_length_lem (has_local_unicode l) true l (info_head l) (u32_at l 28) ee re,
-                  text_length_lem (long_head l) true l (info_head l) (u32_at l 32) ef rf,
-                )
-
-  module _ {m : ℕ} (em : m ≡ wrong (info_piece_tests l)) where
-    pieces_most : m ≤ length l + 32
-    pieces_most = rw em (Fields-most (length l + 32) (info_piece_tests l) (pieces_Fields (length l + 32) (info_head l) (info_pieces l) (pieces_within l z)))
-
-    pieces_one : {A : Type 0} (w : Site) (o : Outcome A) → tests w (info_piece_tests l) o ≡ cond (eqb m 0) o (refused PIECE (spot_at w m))
-    pieces_one w o =
-        Fields-one (length l + 32) w (info_piece_tests l) o (pieces_Fields (length l + 32) (info_head l) (info_pieces l) (pieces_within l z))
-        ∙ rw em
-
--- ---- the section
-
--- the rules as two tests: the head, then the pieces
-rules_grouped : (profile : Profile) {A : Type 0} (w : Site) (l : List ℕ) (r : Outcome A) {k : ℕ} → k ≡ wrong (info_head_tests profile l)
-    → tests w (info_rules profile l) r ≡ cond (eqb k 0) (tests w (info_piece_tests l) r) (refused INFO (spot_at w k))
-rules_grouped profile w l r e =
-    tests-append w (info_head_tests profile l) (info_piece_tests l) r
-    ∙ one_fault INFO w (info_head_tests profile l) (tests w (info_piece_tests l) r) (head_Faults profile l)
-    ∙ rw e
-
-three_pass : {A : Type 0} (w : Site) (a b c : Bool) (f g h : Fault) (ts : List Test) (r : Outcome A) → a ≡ true → b ≡ true → c ≡ true
-    → tests w (a else f at 0 ∷ b else g at 0 ∷ c else h at 0 ∷ ts) r ≡ tests w ts r
-three_pass w a b c f g h ts r i j k = rw (i, j, k)
-
-module _ (profile : Profile) (s : List ℕ) (p : ℕ) where
-  abbrev here : Site
-  here = section 2 p
-
-  abbrev reading : Outcome Info
-  reading = info profile p (drop p s)
-
-  -- the answer, its number and its value, and the row
-  abbrev Ends : InfoTaken → List ℕ → Type 0
-  Ends r row = InfoAnswer profile s p r × (row ≡ text_lengths (info_held profile s p))
-
-  info_read : (o : Outcome Info) {row : List ℕ} → reading ≡ o → row ≡ text_lengths (said_by o) → Ends (info_taken p o) row
-  unfolding info_at info_held info_number info_value
-  info_read o e q =
-      (record { is = ap (info_taken p) (sym e); number = number o ∙ ap outcome_number (sym e); value = value o ∙ ap (outcome_end p) (sym e) }, q ∙ ap (λ (x : Outcome Info). text_lengths (said_by x)) (sym e))
-    where
-      number : (o : Outcome Info) → info_number (info_taken p o) ≡ outcome_number o
-      number (got i n) = refl
-      number (refused f q) = refl
-
-      value : (o : Outcome Info) → info_value (info_taken p o) ≡ outcome_end p o
-      value (got i n) = refl
-      value (refused f q) = refl
-
-  info_refused : (f : Fault) {q w : Spot} {row : List ℕ} → reading ≡ refused f q → w ≡ q → row ≡ no_lengths → Ends (Refused f w) row
-  unfolding text_lengths
-  info_refused f {q} e ew z = rw ew (info_read (refused f q) e z)
-
-  pub info_cut : {w : Spot} {row : List ℕ} → length s < p + 4 → w ≡ spot_at here 0 → row ≡ no_lengths → Ends (Refused CUT w) row
-  info_cut h = info_refused CUT (rw (length-drop p s, lt-leb 4 (length s - p) (omega arith)))
-
-  module _ {n : ℕ} (f : p + 4 ≤ length s) (e : n ≡ u32_at s p) where
-    size_is : info_size (drop p s) ≡ n
-    size_is = first_number s p ∙ sym e
-
-    starts : leb 4 (length (drop p s)) ≡ true
-    starts = le-leb 4 (length (drop p s)) (rw length-drop (omega arith))
-
-    pub info_small : {w : Spot} {row : List ℕ} → n < 0x1C → w ≡ spot_at here 0 → row ≡ no_lengths → Ends (Refused INFO w) row
-    info_small h = info_refused INFO (rw (starts, size_is, lt-leb 0x1C n h))
-
-    module _ (h : 0x1C ≤ n) where
-      pub info_past : {w : Spot} {row : List ℕ} → length s < p + n → w ≡ spot_at here 0 → row ≡ no_lengths → Ends (Refused CUT w) row
-      info_past g =
-          let i : leb n (length (drop p s)) ≡ false = lt-leb n (length (drop p s)) (rw length-drop (omega arith)) in
-          info_refused CUT (rw (starts, size_is, le-leb 0x1C n h, i))
-
-      module _ {d : Cursor} {k : ℕ} (g : p + n ≤ length s) (q : d.at ≡ p + n) (ek : k ≡ wrong (info_head_tests profile (take (d.at - p) (drop p s)))) where
-        abbrev part : List ℕ
-        part = take (d.at - p) (drop p s)
-
-        info_is : reading ≡ cond (eqb k 0) (tests here (info_piece_tests part) (got (info_fields p part) n)) (refused INFO (spot_at here k))
-        info_is =
-            let t : List ℕ = drop p s in
-            let m : ℕ = info_size t in
-            let w : n ≡ d.at - p = omega arith in
-            let j : take m t ≡ part = ap (λ (i : ℕ). take i t) (size_is ∙ w) in
-            let b : 0x1C ≤ m = rw size_is h in
-            let c : m ≤ length t = rw (size_is, length-drop) (omega arith) in
-            three_pass here (leb 4 (length t)) (leb 0x1C m) (leb m (length t)) CUT INFO CUT (info_rules profile (take m t)) (got (info_fields p (take m t)) m) starts (le-leb 0x1C m b) (le-leb m (length t) c)
-            ∙ ap₂ (λ (l : List ℕ) (i : ℕ). tests here (info_rules profile l) (got (info_fields p l) i)) j size_is
-            ∙ rules_grouped profile here part (got (info_fields p part) n) ek
-
-        pub info_head_lem : {w : Spot} {row : List ℕ} → (k ≡ 0 → ⊥) → w ≡ spot_at here k → row ≡ no_lengths → Ends (Refused INFO w) row
-        info_head_lem t = info_refused INFO (info_is ∙ rw (ne_eqb k 0 t))
-
-        module _ {m : ℕ} (t : k ≡ 0) (em : m ≡ wrong (info_piece_tests part)) where
-          passed : head_ok part ≡ true
-          passed = head_passed profile part (sym ek ∙ t)
-
-          pieces_is : reading ≡ cond (eqb m 0) (got (info_fields p part) n) (refused PIECE (spot_at here m))
-          pieces_is = info_is ∙ rw t (pieces_one part passed em here (got (info_fields p part) n))
-
-          pub piece_most : m ≤ length s + 32
-          piece_most = let i = pieces_most part passed em in omega (arith, length-take (d.at - p) (drop p s), length-drop p s)
-
-          module _ (before : List ℕ) {row : List ℕ} (er : row ≡ lengths_after m part before) where
-            pub info_piece : {w : Spot} → (m ≡ 0 → ⊥) → w ≡ spot_at here m → before ≡ no_lengths → Ends (Refused PIECE w) row
-            info_piece o ew eb = info_refused PIECE (pieces_is ∙ rw (ne_eqb m 0 o)) ew (er ∙ sym (row_kept part before o) ∙ eb)
-
-            pub info_got : m ≡ 0 → Ends (Got d) row
-            info_got o = rw (← q) at (info_read (got (info_fields p part) n) (pieces_is ∙ rw o) (er ∙ row_filled part before o ∙ lengths_anywhere 0 p part))
+pub pieces_most : (l : List ℕ) {w : ℕ} → pieces_in l ≡ Err w → w ≤ length l + 32
+unfolding pieces_in
+pieces_most l e = Fields-most (length l + 32) (info_piece_tests l) tt (piece_tests_Fields l) e

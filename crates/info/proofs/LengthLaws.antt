@@ -1,28 +1,26 @@
 -- The lengths of LinkInfo's texts: they are the same wherever it stands, and none is more than its bytes.
 use mathlib.Core.Path.{◌≡◌, refl, sym, ap, ◌∙◌}
-use mathlib.Core.List.{List, [], ◌∷◌, ◌++◌}
-use mathlib.Core.Bool.{Bool, true, false, cond}
+use mathlib.Core.List.{List, [], ◌∷◌}
+use mathlib.Core.Bool.{Bool, true, false}
 use Prim.Native.Nat.{ℕ, ◌+◌, ◌≤◌}
 use native.Mathlib.Omega.{arith}
-use lib.Seq.{sets-eq}
-use lib.ListN.{length, take, drop, set, length-take, length-drop, drop_of_length-le}
-use borrow.Author.Tests.{ne_eqb}
+use lib.ListN.{length, take, drop, length-take, length-drop}
+use Rattle.std.specs.Prelude.{Ok, Err}
 use Rattle.octets.specs.Numbers.{u32_at}
 use Rattle.octets.specs.Characters.{bytes_of, characters, before_zero}
 use Rattle.octets.proofs.CharacterLaws.{before_le, characters_fit, bytes_of-le}
 use Rattle.format.specs.declared.Place.{Place}
 use Rattle.format.specs.Tests.{place}
-use Rattle.format.specs.Pieces.{text_length, text_piece, text_place}
-use Rattle.format.specs.Volume.{volume_size, label_unicode, label_offset, label_of, label_place, volume_at, volume_piece}
-use Rattle.format.specs.Network.{network_size, has_device, network_unicode, has_device_unicode, network_at, network_piece}
+use Rattle.format.specs.Pieces.{text_length, text_place}
+use Rattle.format.specs.Volume.{volume_size, label_unicode, label_offset, label_of, label_place, volume_at}
+use Rattle.format.specs.Network.{network_size, has_device, network_unicode, has_device_unicode, network_at}
 use Rattle.format.specs.Info.{long_head, has_local, has_network, has_local_unicode, info_fields}
-use Rattle.pieces.specs.declared.Text.{Text}
+use Rattle.pieces.specs.declared.Found.{Found}
 use Rattle.pieces.specs.declared.NetworkTexts.{NetworkTexts}
-use Rattle.pieces.specs.declared.VolumeFound.{VolumeFound}
-use Rattle.pieces.specs.declared.NetworkFound.{NetworkFound}
-use Rattle.pieces.specs.Steps.Found.{piece_ok, body_length, label_length, label_bytes, no_texts, network_texts_in, network_texts, text_found, volume_found, network_found}
-use Rattle.info.specs.Steps.Found.{text_lengths, lengths_after}
+use Rattle.pieces.specs.Steps.Found.{body_length, label_length, label_bytes, network_texts}
+use Rattle.info.specs.Steps.Found.{text_lengths, lengths_after, earlier_in, later_in}
 use Rattle.pieces.proofs.TextLaws.{place_length}
+use Rattle.info.proofs.InfoLaws.{earlier_are, later_are}
 
 -- ---- wherever it stands
 
@@ -97,27 +95,6 @@ bytes_most false u l o = omega arith
 place_most : (b u : Bool) (n o : ℕ) (l : List ℕ) (q : ℕ) → body_length b u (take n (drop o l)) q ≤ length l
 place_most b u n o l q = omega (arith, bytes_most b u (take n (drop o l)) q, length-take n (drop o l), length-drop o l)
 
-if_found : (x : Bool) {n k : ℕ} → n ≤ k → cond x n 0 ≤ k
-if_found true h = h
-if_found false h = omega arith
-
-pub Text-small : (b u : Bool) (l : List ℕ) (head o : ℕ) {t : Text} → t ≡ text_found b u l head o → t.len ≤ length l
-unfolding text_found
-Text-small b u l head o e = rw e (if_found (piece_ok head (text_piece b u l 0 o)) (bytes_most b u l o))
-
-pub volume_small : (b : Bool) (l : List ℕ) (head : ℕ) {a : VolumeFound} → a ≡ volume_found b l head → a.label ≤ length l
-unfolding volume_found
-volume_small b l head e = rw e (if_found (piece_ok head (volume_piece b l 12 o)) (if_found b (place_most true (label_unicode (take n s)) n o l (label_offset (take n s)))))
-  where
-    o : ℕ
-    o = u32_at l 12
-
-    s : List ℕ
-    s = drop o l
-
-    n : ℕ
-    n = volume_size s
-
 -- the same of each text of the network link
 pub record Small (n : NetworkTexts) (k : ℕ) : Type 0 where
   pub net : n.net ≤ k
@@ -125,48 +102,46 @@ pub record Small (n : NetworkTexts) (k : ℕ) : Type 0 where
   pub net_unicode : n.net_unicode ≤ k
   pub device_unicode : n.device_unicode ≤ k
 
-Small-if : (x : Bool) {n : NetworkTexts} {k : ℕ} → Small n k → Small (cond x n no_texts) k
-Small-if true h = h
-Small-if false h = record { net = omega arith; device = omega arith; net_unicode = omega arith; device_unicode = omega arith }
+label_most : (b : Bool) (l : List ℕ) (o : ℕ) → label_bytes b l o ≤ length l
+label_most true l o = let v : List ℕ = take (volume_size (drop o l)) (drop o l) in place_most true (label_unicode v) (volume_size (drop o l)) o l (label_offset v)
+label_most false l o = omega arith
 
-pub network_Small : (b : Bool) (l : List ℕ) (head : ℕ) {c : NetworkFound} → c ≡ network_found b l head → Small c.texts (length l)
-unfolding network_found
-network_Small b l head e = rw e (Small-if (piece_ok head (network_piece b l 20 o)) (Small-if b own))
-  where
-    o : ℕ
-    o = u32_at l 20
-
-    n : ℕ
-    n = network_size (drop o l)
-
-    v : List ℕ
-    v = take n (drop o l)
-
-    one : (x u : Bool) (q : ℕ) → (text_place x u 0 v q).len ≤ length l
-    one x u q = rw (place_length x u 0 v q) (place_most x u n o l q)
-
-    own : Small (network_texts_in v) (length l)
-    own = record {
+network_Small : (b : Bool) (l : List ℕ) (o : ℕ) → Small (network_texts b l o) (length l)
+network_Small true l o =
+    record {
       net = one true false (u32_at v 8);
       device = one (has_device v) false (u32_at v 12);
       net_unicode = one (network_unicode v) true (u32_at v 20);
       device_unicode = one (has_device_unicode v) true (u32_at v 24);
     }
+  where
+    v : List ℕ
+    v = take (network_size (drop o l)) (drop o l)
 
--- ---- the row
+    one : (x u : Bool) (q : ℕ) → (text_place x u 0 v q).len ≤ length l
+    one x u q = rw (place_length x u 0 v q) (place_most x u (network_size (drop o l)) o l q)
+network_Small false l o = record { net = omega arith; device = omega arith; net_unicode = omega arith; device_unicode = omega arith }
 
--- a row is as it was where a field is at fault
-pub row_kept : {k : ℕ} (l row : List ℕ) → (k ≡ 0 → ⊥) → row ≡ lengths_after k l row
-unfolding lengths_after
-row_kept {k} l row h = rw (ne_eqb k 0 h)
+module _ (l : List ℕ) where
+  pub earlier_small : {a : Found ℕ} {b : Found ℕ} {c : Found NetworkTexts} → earlier_in l ≡ Ok (a, b, c) → (a.body ≤ length l) × (b.body ≤ length l) × Small c.body (length l)
+  earlier_small E =
+      let (p, q, r) = earlier_are l E in
+      (rw (← p) (label_most (has_local l) l (u32_at l 12)), rw (← q) (bytes_most (has_local l) false l (u32_at l 16)), rw (← r) (network_Small (has_network l) l (u32_at l 20)))
 
-pub row_filled : {k : ℕ} (l row : List ℕ) → k ≡ 0 → lengths_after k l row ≡ text_lengths (info_fields 0 l)
-unfolding lengths_after
-row_filled l row e = rw e
+  pub later_small : {d e f : Found ℕ} → later_in l ≡ Ok (d, e, f) → (d.body ≤ length l) × (e.body ≤ length l) × (f.body ≤ length l)
+  later_small L =
+      let (p, q, r) = later_are l L in
+      (rw (← p) (bytes_most true false l (u32_at l 24)), rw (← q) (bytes_most (has_local_unicode l) true l (u32_at l 28)), rw (← r) (bytes_most (long_head l) true l (u32_at l 32)))
 
--- nine numbers, put one by one
-pub row_put : (row : List ℕ) → length row ≡ 9 → {a b c d e f g h i : ℕ}
-    → set (set (set (set (set (set (set (set (set row 0 a) 1 b) 2 c) 3 d) 4 e) 5 f) 6 g) 7 h) 8 i ≡ a ∷ b ∷ c ∷ d ∷ e ∷ f ∷ g ∷ h ∷ i ∷ []
-row_put row n {a} {b} {c} {d} {e} {f} {g} {h} {i} =
-    let vs : List ℕ = a ∷ b ∷ c ∷ d ∷ e ∷ f ∷ g ∷ h ∷ i ∷ [] in
-    sets-eq vs row 0 (omega arith) ∙ ap (λ (r : List ℕ). vs ++ r) (drop_of_length-le row {i = 9} (omega arith))
+  -- ---- the row
+
+  pub row_kept : (w : ℕ) (row : List ℕ) → lengths_after {A = Unit {0}} (Err w) l row ≡ row
+  unfolding lengths_after
+  row_kept w row = refl
+
+  pub row_filled : {a : Found ℕ} {b : Found ℕ} {c : Found NetworkTexts} {d e f : Found ℕ} {y : Unit {0}} (row : List ℕ) → earlier_in l ≡ Ok (a, b, c) → later_in l ≡ Ok (d, e, f)
+      → lengths_after (Ok y) l row ≡ row_of a.body b.body c.body d.body e.body f.body
+  unfolding lengths_after
+  row_filled row E L = let (p, q, r) = earlier_are l E in let (x, y, z) = later_are l L in lengths_are 0 l ∙ rw (← p, ← q, ← r, ← x, ← y, ← z)
+
+pub ruleset lengths = (earlier_small, later_small, row_kept)

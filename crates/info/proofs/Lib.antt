@@ -1,4 +1,5 @@
 pub mod InfoLaws
 pub mod LengthLaws
-pub mod OneOutcome
+pub mod SectionLaws
 pub mod PutLaws
+pub mod OneOutcome

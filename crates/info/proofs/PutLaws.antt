@@ -5,7 +5,7 @@ use mathlib.Core.Bool.{Bool, true, false, ◌&&◌, ◌||◌, cond}
 use Prim.Native.Nat.{ℕ, ◌+◌, ◌-◌, ◌≤◌, ◌<◌}
 use native.Mathlib.Omega.{arith}
 use lib.Seq.{take-take}
-use lib.ListN.{length, take, drop, set, get_or, replicate, length-take, length-drop, length-set}
+use lib.ListN.{length, take, drop, set, get_or, replicate, length-take, length-drop}
 use borrow.Author.Tests.{le-leb, lt-leb}
 use Rattle.octets.specs.Numbers.{u32_at}
 use Rattle.octets.proofs.NumberLaws.{number_drop, number_same}
@@ -218,22 +218,6 @@ module _ (start : ℕ) (l row : List ℕ) (R : Right start l row) where
   unfolding with_long
   long_put f ex ey ez e₁ e₂ e₃ = e₃ ∙ rw (e₂, e₁, ex, ey, ez)
 
--- ---- no step changes how many there are
-
-pub local_keeps : (x : Bool) (f : List ℕ) (i : Info) {g : List ℕ} → g ≡ cond x (with_local f i) f → length g ≡ length f
-unfolding with_local with_place
-local_keeps true f i e = ap length e ∙ simp length-set
-local_keeps false f i e = ap length e
-
-pub network_keeps : (x : Bool) (f : List ℕ) (i : Info) {g : List ℕ} → g ≡ cond x (with_network f i) f → length g ≡ length f
-unfolding with_network with_place
-network_keeps true f i e = ap length e ∙ simp length-set
-network_keeps false f i e = ap length e
-
-pub long_keeps : (f : List ℕ) (i : Info) {g : List ℕ} → g ≡ with_long f i → length g ≡ length f
-unfolding with_long with_place
-long_keeps f i e = ap length e ∙ simp length-set
-
 -- ---- all steps
 
 -- LinkInfo by what is there of it: VolumeID and the local path, the network link, a long head
@@ -275,13 +259,6 @@ taken h t e = e ∙ rw t
 
 pub passed : {x : Bool} {f h : List ℕ} (g : List ℕ) → x ≡ false → f ≡ h → f ≡ cond x g h
 passed g t e = e ∙ rw t
-
-module _ (l : List ℕ) {flags : ℕ} {x : Bool} (ef : flags ≡ u32_at l 8) where
-  pub local_known : x ≡ local_there flags → x ≡ has_local l
-  local_known e = e ∙ rw ef
-
-  pub network_known : x ≡ network_there flags → x ≡ has_network l
-  network_known e = e ∙ rw ef
 
 pub info_put : (start : ℕ) (l : List ℕ) {flags : ℕ} {x y : Bool} {p : Place} (f : List ℕ) {g h k m : List ℕ} → f ≡ replicate 51 0 → flags ≡ u32_at l 8 → x ≡ local_there flags → y ≡ network_there flags
     → g ≡ cond x (with_local (set f 9 flags) (info_fields start l)) (set f 9 flags) → h ≡ cond y (with_network g (info_fields start l)) g → p ≡ (info_fields start l).suffix → k ≡ with_place h 7 p

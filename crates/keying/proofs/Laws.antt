@@ -4,36 +4,31 @@ use mathlib.Core.List.{List, ◌++◌, append-nil, append_assoc}
 use mathlib.Core.Bool.{Bool, true, false, cond}
 use Prim.Native.Nat.{ℕ, ◌+◌, ◌-◌, ◌≤◌, ◌<◌}
 use native.Mathlib.Omega.{arith}
-use lib.ListN.{length, take, drop, get_or, set, drop_of_length-le, length-append, length-take, length-drop}
+use lib.ListN.{length, take, drop, get_or, drop_of_length-le, length-append, length-take, length-drop}
 use lib.Seq.{take-take, drop-drop}
 use lib.Dec.{leb}
 use borrow.Author.Tests.{le-leb, lt-leb, ltb-false}
 use Rattle.octets.specs.Numbers.{little}
-use Rattle.octets.specs.Characters.{before_zero}
+use Rattle.octets.specs.Characters.{before_zero, has_zero}
 use Rattle.octets.specs.Steps.Scans.{zero_from}
 use Rattle.octets.specs.Parts.{put}
-use Rattle.octets.specs.Steps.Puts.{part, Wrote}
-use Rattle.octets.specs.declared.Zero.{Zero}
-use Rattle.octets.specs.declared.Zero.TheVariants.{After, Nowhere}
+use Rattle.octets.specs.Steps.Puts.{part}
 use Rattle.octets.proofs.NumberLaws.{length-little}
 use Rattle.octets.proofs.CharacterLaws.{before_le}
-use Rattle.octets.proofs.ZeroLaws.{zero_after, zero_nowhere}
-use Rattle.octets.proofs.PartLaws.{put_byte}
-use Rattle.octets.proofs.WroteLaws.{kept, join, reword, Wrote-number}
+use Rattle.copies.specs.declared.output.Output.{Output}
+use Rattle.copies.specs.Steps.Writes.{Writes}
+use Rattle.copies.proofs.OutputLaws.{join, reword}
 use Rattle.format.specs.declared.Profile.{Profile}
 use Rattle.format.specs.declared.Place.{Place}
 use Rattle.format.specs.declared.Record.{Record}
-use Rattle.format.specs.declared.Fault.{Fault}
 use Rattle.format.specs.declared.Fault.TheVariants.{Room as ROOM}
-use Rattle.format.specs.declared.Verdict.{Verdict}
-use Rattle.format.specs.declared.Verdict.TheVariants.{Accepted, Refused}
-use Rattle.format.specs.declared.Spot.{Spot}
-use Rattle.format.specs.Tests.{got, refused, one_or_0, place, no_place}
+use Rattle.format.specs.declared.Refusal.{Refusal}
+use Rattle.format.specs.Tests.{got, refused, one_or_0, place}
 use Rattle.format.specs.Numbers.{Numbered}
 use Rattle.format.specs.Presence.{workdir_bit, arguments_bit, string_there, strings_unicode}
 use Rattle.format.specs.Blocks.{blocks}
 use Rattle.format.specs.Steps.Firsts.{first_field, firsts}
-use Rattle.format.specs.Shortcut.{most, shortcut}
+use Rattle.format.specs.Shortcut.{most}
 use Rattle.format.specs.Bodies.{place_in, string_slot, blocks_slot}
 use Rattle.format.specs.Contents.{bytes_at}
 use Rattle.format.specs.Writing.{output_of}
@@ -41,70 +36,55 @@ use Rattle.format.specs.Target.{has_target}
 use Rattle.format.specs.Key.{no_part, some_part, part_if, Key, block_text, environment, part_bytes, key_bytes, key, key_answer, key_output, key_in}
 use Rattle.format.specs.Demands.{Accepts}
 use Rattle.format.proofs.AnswerLaws.{nowhere, numbered}
-use Rattle.format.proofs.BodyLaws.{body_part, part-length}
+use Rattle.format.proofs.BodyLaws.{body_part, body_length as length_of_body}
 use Rattle.format.proofs.Chains.{drop-take}
 use Rattle.format.proofs.AcceptedLaws.{accepted_Read, accepted_bodies, accepted_limit}
 use Rattle.format.proofs.KeyDemands.{record_Tells}
 use Rattle.format.proofs.KeyRoom.{made}
-use Rattle.format.proofs.KeyLaws.{flag_small}
 use Rattle.blocks.specs.Steps.Walk.{block_from}
 use Rattle.blocks.proofs.FirstLaws.{First-block}
-use Rattle.reader.specs.Steps.Finish.{FirstsOf}
+use Rattle.reader.specs.Steps.Finish.{FirstsOf, outline}
+use Rattle.reader.proofs.OutlineLaws.{outline_refused}
 use Rattle.target.specs.declared.Texts.{Texts}
-use Rattle.target.specs.Steps.Texts.{Stands, texts_length, texts_bytes, texts_of}
-use Rattle.target.proofs.Laws.{texts_stand, texts_are, texts_long}
-use Rattle.keying.specs.declared.KeyPart.{KeyPart}
+use Rattle.target.specs.Steps.Texts.{Stands, texts_bytes, texts_of}
+use Rattle.target.proofs.Laws.{texts_stand, texts_are, texts_long, texts_few}
 use Rattle.keying.specs.declared.KeyParts.{KeyParts}
-use Rattle.keying.specs.Steps.KeyParts.{only, key_part, target_part, part_shown, part_length, PartStands, Alone, TextOf, BlockAt, EnvironmentOf, key_shown, key_length, KeyStands}
+use Rattle.keying.specs.Steps.KeyParts.{target_part, target_shown, target_length, TargetStands, body_shown, body_length, BodyStands, TextOf, BlockAt, EnvironmentOf, key_shown, key_length, KeyStands}
+use Rattle.format.specs.Verdicts.{Verdict, refused_at}
+use Rattle.std.specs.Prelude.{Option, Some, None, Ok, Err, if◌then◌else◌, unwrap_or}
+use Rattle.std.specs.Bool.{then_some}
 
 -- ---- one part
 
-pub part_there : (there : Bool) (t : Texts) → there ≡ true → record { there = there; texts = t } ≡ key_part there t
-unfolding key_part
-part_there there t e = rw e
+module _ (s : List ℕ) where
+  target_shown_if : (there : Bool) (t : Texts) → target_shown s (then_some there t) ≡ part_if there (texts_bytes s t)
+  target_shown_if true t = refl
+  target_shown_if false t = refl
 
-pub part_absent : (there : Bool) (t : Texts) {u : Texts} → there ≡ false → u ≡ only no_place → record { there = there; texts = u } ≡ key_part there t
-unfolding key_part
-part_absent there t e i = rw (e, i)
+  target_stands_if : (there : Bool) (t : Texts) → length s ≤ most → Stands s t → TargetStands s (then_some there t)
+  target_stands_if true t small h = (h, small)
+  target_stands_if false t small h = tt
 
--- the target's part, by whether there is one
-pub target_kept : (s : List ℕ) (r : Record) {t : Texts} {p : KeyPart} → has_target r ≡ true → t ≡ texts_of s r → p ≡ key_part true t → p ≡ target_part s r
-unfolding target_part
-target_kept s r h e i = i ∙ rw (h, e)
+  body_shown_if : (there : Bool) (b : Place) → body_shown s (then_some there b) ≡ part_if there (bytes_at s b)
+  body_shown_if true b = refl
+  body_shown_if false b = refl
 
-pub target_gone : (s : List ℕ) (r : Record) (t : Texts) {p : KeyPart} → has_target r ≡ false → p ≡ key_part false t → p ≡ target_part s r
-unfolding target_part key_part
-target_gone s r t h i = i ∙ rw h
+  body_stands_if : (there : Bool) (b : Place) → length s ≤ most → b.at + b.len ≤ length s → BodyStands s (then_some there b)
+  body_stands_if true b small h = (h, small)
+  body_stands_if false b small h = tt
 
-module _ (s : List ℕ) (there : Bool) (t : Texts) where
-  pub part_shown_lem : part_shown s (key_part there t) ≡ part_if there (texts_bytes s t)
-  unfolding part_shown key_part
-  part_shown_lem = go there
-    where
-      go : (b : Bool) → part_if b (texts_bytes s (cond b t (only no_place))) ≡ part_if b (texts_bytes s t)
-      go true = refl
-      go false = refl
+  -- how long the bytes of a part are
+  target_long : (t : Option Texts) → TargetStands s t → length (part_bytes (target_shown s t)) ≡ target_length t
+  target_long (Some t) h = simp (length-append, length-little, texts_long s t h.0) (omega arith)
+  target_long None h = simp (length-append, length-little)
 
-  pub part_stands : length s ≤ most → Stands s t → PartStands s (key_part there t)
-  unfolding key_part
-  part_stands small h = record { stands = go there; empty = λ e. rw e; small = small }
-    where
-      go : (b : Bool) → Stands s (cond b t (only no_place))
-      go true = h
-      go false = (omega arith, omega arith, omega arith)
-
-part_Alone : (there : Bool) (b : Place) → Alone (key_part there (only b))
-unfolding key_part
-part_Alone true b = refl
-part_Alone false b = refl
-
-only_bytes : (s : List ℕ) (b : Place) → texts_bytes s (only b) ≡ bytes_at s b
-unfolding texts_bytes
-only_bytes s b = append-nil (bytes_at s b)
+  body_long : (b : Option Place) → BodyStands s b → length (part_bytes (body_shown s b)) ≡ body_length b
+  body_long (Some b) h = simp (length-append, length-little, length_of_body s b h.0) (omega arith)
+  body_long None h = simp (length-append, length-little)
 
 -- ---- the environment
 
-module _ (s : List ℕ) (a : Place) (h : a.at + a.len ≤ length s) (long : 8 ≤ a.len) {w : List ℕ} (e : w ≡ part s a.at a.len) {z : Zero} (f : z ≡ zero_from false w 8) where
+module _ (s : List ℕ) (a : Place) (h : a.at + a.len ≤ length s) (long : 8 ≤ a.len) {w : List ℕ} (e : w ≡ part s a.at a.len) where
   abbrev text : List ℕ
   text = drop 8 (bytes_at s a)
 
@@ -126,16 +106,19 @@ module _ (s : List ℕ) (a : Place) (h : a.at + a.len ≤ length s) (long : 8 �
   text_few : length text ≤ a.len - 8
   text_few = omega (arith, length-drop 8 (bytes_at s a), length-take a.len (drop a.at s))
 
-  pub text_ended : {n : ℕ} → z ≡ After n → TextOf s a (place (a.at + 8) n)
-  text_ended {n} i =
-      let j : n ≡ before_zero text = (zero_after false w 8 f i).1 ∙ ap before_zero scanned in
-      found j (omega (arith, j, before_le text, text_few))
+  -- up to the first zero, or to the end where there is none
+  pub text_at : {n : ℕ} → n ≡ unwrap_or (zero_from false w 8) (a.len - 8) → TextOf s a (place (a.at + 8) n)
+  text_at {n} f = go (has_zero text) refl (f ∙ ap (λ (l : List ℕ). unwrap_or (if has_zero l then Some (before_zero l) else None) (a.len - 8)) scanned)
+    where
+      go : (b : Bool) → has_zero text ≡ b → n ≡ unwrap_or (if b then Some (before_zero text) else None) (a.len - 8) → TextOf s a (place (a.at + 8) n)
+      go true i j = found j (omega (arith, j, before_le text, text_few))
+      go false i j =
+          let whole : length text ≤ before_zero text = ltb-false (before_zero text) (length text) i in
+          let l : length text ≡ a.len - 8 = omega (arith, length-drop 8 (bytes_at s a), length-take a.len (drop a.at s), length-drop a.at s) in
+          found (omega (arith, before_le text)) (omega arith)
 
-  pub text_whole : z ≡ Nowhere → TextOf s a (place (a.at + 8) (a.len - 8))
-  text_whole i =
-      let j : length text ≤ before_zero text = ltb-false (before_zero text) (length text) (rw scanned at (zero_nowhere false w 8 f i)) in
-      let l : length text ≡ a.len - 8 = omega (arith, length-drop 8 (bytes_at s a), length-take a.len (drop a.at s), length-drop a.at s) in
-      found (omega (arith, before_le text)) (omega arith)
+  pub text_ended : {n : ℕ} → zero_from false w 8 ≡ Some n → TextOf s a (place (a.at + 8) n)
+  text_ended z = text_at (rw z)
 
 no_block : (s : List ℕ) (b : Place) → b.len ≡ 0 → no_part ≡ environment s b
 no_block s b e = rw e
@@ -144,99 +127,15 @@ a_block : (s : List ℕ) (b : Place) → (b.len ≡ 0 → ⊥) → some_part (bl
 a_block s b e = rw (le-leb 1 b.len (omega arith))
 
 module _ (s : List ℕ) {field : ℕ} (B : BlockAt s field) {b : Place} (f : b ≡ block_from s field) where
-  pub environment_absent : {t : Texts} {p : KeyPart} → b.len ≡ 0 → t ≡ only b → p ≡ key_part false t → EnvironmentOf s (block_from s field) p
-  environment_absent {t} {p} z e i =
-      let inside : b.at + b.len ≤ length s = rw f B.inside in
-      rw (i, e, ← f)
-      (record {
-        stands = part_stands s false (only b) B.small (inside, omega arith, omega arith);
-        alone = part_Alone false b;
-        is = part_shown_lem s false (only b) ∙ no_block s b z;
-      })
+  pub environment_absent : b.len ≡ 0 → EnvironmentOf s (block_from s field) None
+  environment_absent z = rw (← f) (record { stands = tt; is = no_block s b z })
 
-  pub environment_there : {a : Place} {t : Texts} {p : KeyPart} → (b.len ≡ 0 → ⊥) → TextOf s b a → t ≡ only a → p ≡ key_part true t → EnvironmentOf s (block_from s field) p
-  environment_there {a} {t} {p} z x e i =
-      rw (i, e, ← f)
-      (record {
-        stands = part_stands s true (only a) B.small (x.inside, omega arith, omega arith);
-        alone = part_Alone true a;
-        is = part_shown_lem s true (only a) ∙ ap some_part (only_bytes s a ∙ x.is) ∙ a_block s b z;
-      })
+  pub environment_there : {a : Place} → (b.len ≡ 0 → ⊥) → TextOf s b a → EnvironmentOf s (block_from s field) (Some a)
+  environment_there {a} z x = rw (← f) (record { stands = (x.inside, B.small); is = ap some_part x.is ∙ a_block s b z })
 
   -- what the text of the block asks
   pub text_stands : (b.len ≡ 0 → ⊥) → (b.at + b.len ≤ length s) × (8 ≤ b.len)
   text_stands z = (rw f B.inside, rw f (B.sized (λ e. z (ap (λ (c : Place). c.len) f ∙ e))))
-
--- ---- the bytes of a part
-
-module _ (s : List ℕ) (p : KeyPart) (h : PartStands s p) where
-  abbrev n : ℕ
-  n = texts_length p.texts
-
-  abbrev w : List ℕ
-  w = texts_bytes s p.texts
-
-  part_bytes_lem : little 1 (one_or_0 p.there) ++ (little 4 n ++ w) ≡ part_bytes (part_shown s p)
-  unfolding part_shown
-  part_bytes_lem = go p.there refl
-    where
-      long : length w ≡ n
-      long = texts_long s p.texts h.stands
-
-      go : (b : Bool) → p.there ≡ b → little 1 (one_or_0 b) ++ (little 4 n ++ w) ≡ part_bytes (part_if b w)
-      go true e = rw long
-      go false e =
-          let z = h.empty e in
-          rw (z, drop_of_length-le w {i = 0} (omega (arith, long)), append-nil (little 4 0))
-
-  module _ {out x : List ℕ} {at m k : ℕ} (room : at + part_length p ≤ length out) (em : m ≡ part_length p) (flag : Wrote out at (little 1 (one_or_0 p.there)) 1 x k) where
-    length_fits : k + 4 ≤ length x
-    length_fits = omega (arith, kept flag, flag.next)
-
-    module _ {y : List ℕ} (ey : y ≡ put x k (little 4 (m - 5))) where
-      counted : Wrote out at (little 1 (one_or_0 p.there) ++ little 4 (m - 5)) 5 y (k + 4)
-      counted = join flag (Wrote-number 4 x k (m - 5) ey length_fits)
-
-      texts_fit : at + 5 + n ≤ length y
-      texts_fit = omega (arith, kept counted)
-
-      pub part_put : {q : List ℕ} → q ≡ put y (at + 5) w → Wrote out at (part_bytes (part_shown s p)) (part_length p) q (at + m)
-      part_put {q} eq =
-          let f = flag.next in
-          let i : at + 5 ≡ k + 4 = omega arith in
-          let t : Wrote y (k + 4) w n q (k + 4 + n)
-          = record { content = rw i at eq; long = texts_long s p.texts h.stands; next = refl; fits = omega (arith, texts_fit) } in
-          let c : m - 5 ≡ n = omega arith in
-          let j : k + 4 + n ≡ at + m = omega arith in
-          let b : (little 1 (one_or_0 p.there) ++ little 4 (m - 5)) ++ w ≡ part_bytes (part_shown s p)
-          = append_assoc (little 1 (one_or_0 p.there)) (little 4 (m - 5)) w ∙ rw c part_bytes_lem in
-          rw (← j) (reword (join counted t) b refl)
-
-  -- the same of one body
-  module _ (alone : Alone p) {out x : List ℕ} {at k : ℕ} (room : at + part_length p ≤ length out) (flag : Wrote out at (little 1 (one_or_0 p.there)) 1 x k)
-      {y : List ℕ} (ey : y ≡ put x k (little 4 p.texts.first.len)) {b : List ℕ} (eb : b ≡ part s p.texts.first.at p.texts.first.len) where
-    only_long : 5 + p.texts.first.len ≡ part_length p
-    only_long = rw alone (omega arith)
-
-    only_counted : y ≡ put x k (little 4 (5 + p.texts.first.len - 5))
-    only_counted = let e : 5 + p.texts.first.len - 5 ≡ p.texts.first.len = omega arith in rw e ey
-
-    pub only_fits : at + 5 + length b ≤ length y
-    only_fits = omega (arith, only_long, kept (counted room only_long flag only_counted), part-length s p.texts.first h.stands.0 eb)
-
-    pub only_put : {q : List ℕ} → q ≡ put y (at + 5) b → Wrote out at (part_bytes (part_shown s p)) (part_length p) q (at + (5 + p.texts.first.len))
-    only_put {q} eq =
-        let a = p.texts.first in
-        let w_is : b ≡ w = eb ∙ body_part s a h.stands.0 ∙ sym (only_bytes s a) ∙ ap (texts_bytes s) (sym alone) in
-        let put_is : q ≡ put y (at + 5) w = rw (← w_is) eq in
-        part_put room only_long flag only_counted put_is
-
-  pub part_long : length (part_bytes (part_shown s p)) ≡ part_length p
-  part_long = ap length (sym part_bytes_lem) ∙ simp (length-append, length-little, texts_long s p.texts h.stands) (omega arith)
-
--- a byte 0 or 1
-pub flag_put : (out : List ℕ) (at : ℕ) (b : Bool) {n : ℕ} → n ≡ one_or_0 b → at + 1 ≤ length out → Wrote out at (little 1 (one_or_0 b)) 1 (set out at n) (at + 1)
-flag_put out at b e h = Wrote-number 1 out at (one_or_0 b) (rw e (put_byte out at (one_or_0 b) (omega arith) (flag_small b))) h
 
 -- ---- what is in the key of an accepted shortcut
 
@@ -275,45 +174,39 @@ module _ (profile : Profile) (s : List ℕ) (r : Record) (e : Accepts profile s 
       })
 
   module _ {f : ℕ} (flags : f ≡ r.header.flags) {k : KeyParts} (unicode : k.unicode ≡ strings_unicode f) (target : k.target ≡ target_part s r)
-      {u v : Bool} {a w : Texts} {pa pw : Place} (hu : u ≡ string_there arguments_bit f) (ia : pa ≡ place_in r (string_slot arguments_bit)) (ea : a ≡ only pa) (arguments : k.arguments ≡ key_part u a)
-      (hv : v ≡ string_there workdir_bit f) (iw : pw ≡ place_in r (string_slot workdir_bit)) (ew : w ≡ only pw) (workdir : k.workdir ≡ key_part v w)
+      {u v : Bool} {pa pw : Place} (hu : u ≡ string_there arguments_bit f) (ia : pa ≡ place_in r (string_slot arguments_bit)) (arguments : k.arguments ≡ then_some u pa)
+      (hv : v ≡ string_there workdir_bit f) (iw : pw ≡ place_in r (string_slot workdir_bit)) (workdir : k.workdir ≡ then_some v pw)
       {row : List ℕ} (noted : FirstsOf s r row) (environment : EnvironmentOf s (block_from s (get_or row 0 0)) k.environment) where
-    arguments_are : k.arguments ≡ key_part (string_there arguments_bit r.header.flags) (only (place_in r (string_slot arguments_bit)))
-    arguments_are = arguments ∙ rw (hu, ea, ia, flags)
+    arguments_are : k.arguments ≡ then_some (string_there arguments_bit r.header.flags) (place_in r (string_slot arguments_bit))
+    arguments_are = arguments ∙ rw (hu, ia, flags)
 
-    workdir_is : k.workdir ≡ key_part (string_there workdir_bit r.header.flags) (only (place_in r (string_slot workdir_bit)))
-    workdir_is = workdir ∙ rw (hv, ew, iw, flags)
-
-    string_shown : (b : Bool) (p : Place) → part_shown s (key_part b (only p)) ≡ part_if b (bytes_at s p)
-    string_shown b p = part_shown_lem s b (only p) ∙ ap (part_if b) (only_bytes s p)
+    workdir_is : k.workdir ≡ then_some (string_there workdir_bit r.header.flags) (place_in r (string_slot workdir_bit))
+    workdir_is = workdir ∙ rw (hv, iw, flags)
 
     parts_shown : key_shown s k ≡ key_in profile s
-    unfolding key_shown target_part
+    unfolding key_shown
     parts_shown =
         let x = record_Tells profile s r e in
         let g = r.header.flags in
         let a₁ = unicode ∙ ap strings_unicode flags ∙ sym x.unicode in
-        let a₂ : part_shown s k.target ≡ (key_in profile s).target
-        = rw target (part_shown_lem s (has_target r) (texts_of s r) ∙ ap (part_if (has_target r)) (sym (texts_are s r)) ∙ sym x.target) in
-        let a₃ : part_shown s k.arguments ≡ (key_in profile s).arguments = rw arguments_are (string_shown (string_there arguments_bit g) (place_in r (string_slot arguments_bit)) ∙ sym x.arguments) in
-        let a₄ : part_shown s k.workdir ≡ (key_in profile s).workdir = rw workdir_is (string_shown (string_there workdir_bit g) (place_in r (string_slot workdir_bit)) ∙ sym x.workdir) in
-        let a₅ : part_shown s k.environment ≡ (key_in profile s).environment = environment.is ∙ (row_block noted).is in
+        let a₂ : target_shown s k.target ≡ (key_in profile s).target
+        = rw target (target_shown_if s (has_target r) (texts_of s r) ∙ ap (part_if (has_target r)) (sym (texts_are s r)) ∙ sym x.target) in
+        let a₃ : body_shown s k.arguments ≡ (key_in profile s).arguments = rw arguments_are (body_shown_if s (string_there arguments_bit g) (place_in r (string_slot arguments_bit)) ∙ sym x.arguments) in
+        let a₄ : body_shown s k.workdir ≡ (key_in profile s).workdir = rw workdir_is (body_shown_if s (string_there workdir_bit g) (place_in r (string_slot workdir_bit)) ∙ sym x.workdir) in
+        let a₅ : body_shown s k.environment ≡ (key_in profile s).environment = environment.is ∙ (row_block noted).is in
         rw (a₁, a₂, a₃, a₄, a₅)
 
     parts_stand : KeyStands s k
-    unfolding Accepts target_part
+    unfolding Accepts
     parts_stand =
         let small = accepted_small in
         let inside = accepted_bodies profile s r (length s) e in
         let g = r.header.flags in
         record {
-          target = rw target (part_stands s (has_target r) (texts_of s r) small (texts_stand profile s r e));
-          arguments = rw arguments_are (part_stands s (string_there arguments_bit g) (only (place_in r (string_slot arguments_bit))) small (inside (string_slot arguments_bit), omega arith, omega arith));
-          workdir = rw workdir_is (part_stands s (string_there workdir_bit g) (only (place_in r (string_slot workdir_bit))) small (inside (string_slot workdir_bit), omega arith, omega arith));
+          target = rw target (target_stands_if s (has_target r) (texts_of s r) small (texts_stand profile s r e));
+          arguments = rw arguments_are (body_stands_if s (string_there arguments_bit g) (place_in r (string_slot arguments_bit)) small (inside (string_slot arguments_bit)));
+          workdir = rw workdir_is (body_stands_if s (string_there workdir_bit g) (place_in r (string_slot workdir_bit)) small (inside (string_slot workdir_bit)));
           environment = environment.stands;
-          arguments_alone = rw arguments_are (part_Alone (string_there arguments_bit g) (place_in r (string_slot arguments_bit)));
-          workdir_alone = rw workdir_is (part_Alone (string_there workdir_bit g) (place_in r (string_slot workdir_bit)));
-          environment_alone = environment.alone;
         }
 
     pub parts_are : (key_shown s k ≡ key_in profile s) × KeyStands s k
@@ -321,13 +214,33 @@ module _ (profile : Profile) (s : List ℕ) (r : Record) (e : Accepts profile s 
 
 -- ---- the bytes of the key
 
-module _ (s : List ℕ) (k : KeyParts) where
-  abbrev PartPut : List ℕ → ℕ → KeyPart → List ℕ → ℕ → Type 0
-  PartPut d at p x r = Wrote d at (part_bytes (part_shown s p)) (part_length p) x r
+-- presence and length adjoin
+pub head_put : {o x y : Output} {a b : List ℕ} → Writes o x a 1 → Writes x y b 4 → Writes o y (a ++ b) 5
+head_put p q = join p q
 
-  pub key_put : {out d₁ d₂ d₃ d₄ d₅ : List ℕ} {p₁ p₂ p₃ p₄ p₅ : ℕ} → Wrote out 0 (little 1 (one_or_0 k.unicode)) 1 d₁ p₁
-      → PartPut d₁ p₁ k.target d₂ p₂ → PartPut d₂ p₂ k.arguments d₃ p₃ → PartPut d₃ p₃ k.workdir d₄ p₄ → PartPut d₄ p₄ k.environment d₅ p₅
-      → Wrote out 0 (key_bytes (key_shown s k)) (key_length k) d₅ p₅
+-- so do they and the bytes
+pub some_put : {o x y : Output} {w : List ℕ} {n : ℕ} → length w ≡ n → Writes o x (little 1 1 ++ little 4 n) 5 → Writes x y w n → Writes o y (part_bytes (some_part w)) (5 + n)
+some_put {w = w} {n = n} long p q = reword (join p q) (append_assoc (little 1 1) (little 4 n) w ∙ rw long) refl
+
+-- an absent part has no bytes, and its length is 0
+pub none_put : {o x : Output} → Writes o x (little 1 0 ++ little 4 0) 5 → Writes o x (part_bytes no_part) 5
+none_put p = p
+
+-- a part that is there or absent
+pub part_put : {o x y : Output} {w : List ℕ} {n : ℕ} (there : Bool) → length w ≡ n → (there ≡ false → n ≡ 0)
+    → Writes o x (little 1 (one_or_0 there) ++ little 4 n) 5 → Writes x y w n → Writes o y (part_bytes (part_if there w)) (5 + n)
+part_put true long empty p q = some_put long p q
+part_put {w = w} {n = n} false long empty p q =
+    let z = empty refl in
+    reword (join p q) (append_assoc (little 1 0) (little 4 n) w ∙ rw (z, drop_of_length-le w {i = 0} (omega (arith, long)), append-nil (little 4 0))) refl
+
+module _ (s : List ℕ) (k : KeyParts) where
+  pub key_put : {o x₁ x₂ x₃ x₄ x₅ : Output} → Writes o x₁ (little 1 (one_or_0 k.unicode)) 1
+      → Writes x₁ x₂ (part_bytes (target_shown s k.target)) (target_length k.target)
+      → Writes x₂ x₃ (part_bytes (body_shown s k.arguments)) (body_length k.arguments)
+      → Writes x₃ x₄ (part_bytes (body_shown s k.workdir)) (body_length k.workdir)
+      → Writes x₄ x₅ (part_bytes (body_shown s k.environment)) (body_length k.environment)
+      → Writes o x₅ (key_bytes (key_shown s k)) (key_length k)
   unfolding key_bytes key_shown
   key_put unicode target arguments workdir environment = join unicode (join target (join arguments (join workdir environment)))
 
@@ -337,11 +250,22 @@ module _ (s : List ℕ) (k : KeyParts) where
       simp (
         length-append,
         length-little,
-        part_long s k.target h.target,
-        part_long s k.arguments h.arguments,
-        part_long s k.workdir h.workdir,
-        part_long s k.environment h.environment,
+        target_long s k.target h.target,
+        body_long s k.arguments h.arguments,
+        body_long s k.workdir h.workdir,
+        body_long s k.environment h.environment,
       )
+
+  pub key_few : KeyStands s k → key_length k ≤ 4294967295
+  key_few h = omega (arith, target_few k.target h.target, body_few k.arguments h.arguments, body_few k.workdir h.workdir, body_few k.environment h.environment)
+    where
+      target_few : (t : Option Texts) → TargetStands s t → target_length t ≤ 131078
+      target_few (Some t) h = omega (arith, texts_few s t h.0, h.1)
+      target_few None h = omega arith
+
+      body_few : (b : Option Place) → BodyStands s b → body_length b ≤ 65541
+      body_few (Some b) h = omega (arith, h.0, h.1)
+      body_few None h = omega arith
 
 -- ---- the ways out
 
@@ -355,9 +279,9 @@ key_call profile s out a o = (a, (o, numbered (key profile s (length out)) a))
 
 module _ (profile : Profile) (s out : List ℕ) where
   -- leaving with the refusal
-  pub key_left : {f : Fault} {p : Spot} → shortcut profile s ≡ refused f p → KeyCall profile s out (Refused f p.position) out
+  pub key_left : {r : Refusal} → Err r ≡ outline profile s → KeyCall profile s out (refused_at r.fault r.spot.position) out
   unfolding key_answer key_output key output_of
-  key_left e = key_call profile s out (rw e) (rw e)
+  key_left e = let z = outline_refused profile s (sym e) in key_call profile s out (rw z) (rw z)
 
   module _ (r : Record) (e : Accepts profile s r) where
     -- the key of what was read
@@ -369,13 +293,12 @@ module _ (profile : Profile) (s out : List ℕ) where
       long : length (key_bytes (key_in profile s)) ≡ m
       long = ap (λ (x : Key). length (key_bytes x)) (sym shown) ∙ key_long s k stands ∙ sym is
 
-      pub key_room : length out < m → KeyCall profile s out (Refused ROOM 0) out
+      pub key_room : length out < m → KeyCall profile s out (refused_at ROOM 0) out
       unfolding key_answer key_output output_of
       key_room o = let z : key profile s (length out) ≡ refused ROOM nowhere = key_is ∙ rw (long, lt-leb m (length out) o) in key_call profile s out (rw z) (rw z)
 
-      pub key_written : {x : List ℕ} {r : ℕ} → m ≤ length out → Wrote out 0 (key_bytes (key_shown s k)) (key_length k) x r → KeyCall profile s out (Accepted r) x
+      pub key_written : m ≤ length out → KeyCall profile s out (Ok m) (put out 0 (key_bytes (key_shown s k)))
       unfolding key_answer key_output output_of
-      key_written o w =
+      key_written o =
           let z : key profile s (length out) ≡ got (key_bytes (key_in profile s)) m = key_is ∙ rw (long, le-leb m (length out) o) in
-          let a : _ ≡ m = w.next ∙ omega arith in
-          key_call profile s out (rw (z, a)) (rw z (w.content ∙ rw shown))
+          key_call profile s out (rw z) (rw (z, shown))

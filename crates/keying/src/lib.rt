@@ -1,193 +1,159 @@
 // The cache key of a shortcut, into a lent buffer.
 #![tactic(auto)]
 
-ghost use Rattle.std.specs.Prelude.{◌≡◌, ◌+◌, ◌≤◌, length};
+ghost use Rattle.std.specs.Prelude.{◌≡◌, ◌+◌, ◌≤◌, ◌++◌, length};
 ghost use Rattle.octets.specs.Numbers.{little};
-ghost use Rattle.octets.specs.Steps.Puts.{Wrote};
-ghost use Rattle.format.specs.Tests.{one_or_0};
-ghost use Rattle.format.specs.Numbers.{Numbered};
+ghost use Rattle.copies.specs.Steps.Writes.{HasRoom, Writes};
 ghost use Rattle.format.specs.Key.{part_bytes, key_bytes, key, key_in, key_answer, key_output};
-ghost use Rattle.format.specs.Shortcut.{reading};
+ghost use Rattle.format.specs.Numbers.{Numbered};
+ghost use Rattle.format.specs.Shortcut.{most, reading};
+ghost use Rattle.format.specs.Tests.{one_or_0};
 ghost use Rattle.blocks.specs.Steps.Walk.{block_from};
-ghost use Rattle.reader.specs.Steps.Finish.{FirstsOf, Whole};
-ghost use Rattle.keying.specs.Steps.KeyParts.{only, key_part, target_part, part_shown, part_length, PartStands, Alone, TextOf, BlockAt, EnvironmentOf, key_shown, key_length, KeyStands};
+ghost use Rattle.reader.specs.Steps.Finish.{FirstsOf};
+ghost use Rattle.keying.specs.Steps.KeyParts.{target_part, target_shown, target_length, TargetStands, body_shown, body_length, BodyStands, TextOf, BlockAt, EnvironmentOf, key_shown, key_length, KeyStands};
 
-use format::{Fault, Place, Profile, Verdict};
-use octets::Zero;
-use reader::{Next, SectionEnds};
+use copies::output::Output;
+use format::{Fault, Place, Profile, Refused, Verdict};
+use reader::Outline;
 use target::Texts;
 
-// One of the four parts: whether it is there, and where its texts stand.
-#[derive(Clone, Copy)]
-struct KeyPart {
-    there: bool,
-    texts: Texts,
-}
-
+// Where the four parts stand that are there: the target's texts, and three bodies.
 #[derive(Clone, Copy)]
 struct KeyParts {
     unicode: bool,
-    target: KeyPart,
-    arguments: KeyPart,
-    workdir: KeyPart,
-    environment: KeyPart,
+    target: Option<Texts>,
+    arguments: Option<Place>,
+    workdir: Option<Place>,
+    environment: Option<Place>,
 }
 
 // ---- where the parts stand
-
-// One body alone.
-fn only(b: Place) -> Texts
-    ensures { result ≡ only b }
-{
-    Texts {
-        first: b,
-        separators: 0,
-        suffix: format::NO_PLACE,
-    }
-}
-
-fn part_if(there: bool, texts: Texts) -> KeyPart
-    ensures { result ≡ key_part there texts }
-{
-    if there {
-        return KeyPart { there, texts };
-    }
-    KeyPart {
-        there,
-        texts: only(format::NO_PLACE),
-    }
-}
 
 // From the block's byte 8 up to its zero.
 fn block_text(s: &[u8], b: Place) -> Place
     requires { (b.at + b.len ≤ length s.now) × (8 ≤ b.len) }
     ensures { TextOf s.now b result }
 {
-    let at = b.at + 8;
     let block = octets::part(s, b.at, b.len);
-    let Zero::After(len) = octets::zero_from(false, block, 8) else {
-        return Place { at, len: b.len - 8 };
-    };
-    Place { at, len }
+    Place {
+        at: b.at + 8,
+        len: octets::zero_from(false, block, 8).unwrap_or(b.len - 8),
+    }
 }
 
 // By the block, whatever flag bit 9 says. Its signature stands at the field; 0 where there is none.
-fn environment(s: &[u8], field: u32) -> KeyPart
+fn environment(s: &[u8], field: u32) -> Option<Place>
     requires { BlockAt s.now field }
     ensures { EnvironmentOf s.now (block_from s.now field) result }
 {
     let b = blocks::block_from(s, field);
     if b.len == 0 {
-        return part_if(false, only(b));
+        return None;
     }
-    part_if(true, only(block_text(s, b)))
+    Some(block_text(s, b))
 }
 
-fn target_part(s: &[u8], e: SectionEnds, texts: &[u32; 9], profile: Profile) -> KeyPart
-    requires { Whole profile s.now e texts.now }
-    ensures { result ≡ target_part s.now (reading profile s.now).held }
+fn target_part(o: &Outline) -> Option<Texts>
+    ensures { result ≡ target_part o.now.s.now (reading o.now.profile o.now.s.now).held }
 {
-    let flags = reader::flags_of(s, e, texts, profile);
-    if target::targeted(flags, reader::link_flags(s, e, texts, profile)) {
-        return part_if(true, target::texts_in(s, e, texts, profile));
+    if target::targeted(o.flags(), o.link_flags()) {
+        return Some(target::texts_in(o));
     }
-    part_if(false, only(format::NO_PLACE))
+    None
 }
 
-fn parts_of(
-    s: &[u8],
-    e: SectionEnds,
-    texts: &[u32; 9],
-    firsts: &[u32; 11],
-    profile: Profile,
-) -> KeyParts
-    requires { Whole profile s.now e texts.now × FirstsOf s.now (reading profile s.now).held firsts.now }
-    ensures shown { key_shown s.now result ≡ key_in profile s.now }
-    ensures stands { KeyStands s.now result }
+fn parts_of(o: &Outline, firsts: &[u32; 11]) -> KeyParts
+    requires { FirstsOf o.now.s.now (reading o.now.profile o.now.s.now).held firsts.now }
+    ensures shown { key_shown o.now.s.now result ≡ key_in o.now.profile o.now.s.now }
+    ensures stands { KeyStands o.now.s.now result }
 {
-    let f = reader::flags_of(s, e, texts, profile);
+    let f = o.flags();
     KeyParts {
         unicode: format::strings_unicode(f),
-        target: target_part(s, e, texts, profile),
-        arguments: part_if(
-            format::arguments_there(f),
-            only(reader::arguments(s, e, texts, profile)),
-        ),
-        workdir: part_if(
-            format::workdir_there(f),
-            only(reader::workdir(s, e, texts, profile)),
-        ),
-        environment: environment(s, firsts[0]),
+        target: target_part(o),
+        arguments: format::arguments_there(f).then_some(o.arguments()),
+        workdir: format::workdir_there(f).then_some(o.workdir()),
+        environment: environment(o.s, firsts[0]),
     }
 }
 
 // ---- their bytes
 
-fn part_length(p: KeyPart) -> usize
-    requires { part_length p ≤ 4294967295 }
-    ensures { result ≡ part_length p }
+fn target_length(t: Option<Texts>) -> usize
+    requires { target_length t ≤ 4294967295 }
+    ensures { result ≡ target_length t }
 {
-    let t = p.texts;
-    5 + t.first.len + t.separators + t.suffix.len
+    match t {
+        Some(t) => 5 + target::texts_length(t),
+        None => 5,
+    }
+}
+
+fn body_length(b: Option<Place>) -> usize
+    requires { body_length b ≤ 4294967295 }
+    ensures { result ≡ body_length b }
+{
+    match b {
+        Some(b) => 5 + b.len,
+        None => 5,
+    }
 }
 
 fn key_length(k: KeyParts) -> usize
     requires { key_length k ≤ 4294967295 }
     ensures { result ≡ key_length k }
 {
-    1 + part_length(k.target)
-        + part_length(k.arguments)
-        + part_length(k.workdir)
-        + part_length(k.environment)
+    1 + target_length(k.target)
+        + body_length(k.arguments)
+        + body_length(k.workdir)
+        + body_length(k.environment)
 }
 
-// A byte 0 or 1. This function and the three below answer the place after what they put.
-fn put_flag(out: &mut [u8], at: usize, b: bool) -> usize
-    requires { at + 1 ≤ length out.old }
-    ensures { Wrote out.old at (little 1 (one_or_0 b)) 1 out.new result }
+// The presence byte and the length.
+fn put_head(there: bool, n: usize, out: &mut Output)
+    requires { (n ≤ 4294967295) × HasRoom out.old 5 }
+    ensures { Writes out.old out.new (little 1 (one_or_0 there) ++ little 4 n) 5 }
 {
-    out[at] = format::one_or_0(b);
-    at + 1
+    out.put_u8(format::one_or_0(there));
+    out.put_u32(n as u32);
 }
 
-// The presence byte, the length and the bytes.
-fn put_part(s: &[u8], p: KeyPart, at: usize, out: &mut [u8]) -> usize
-    requires { PartStands s.now p × (at + part_length p ≤ length out.old) }
-    ensures written { Wrote out.old at (part_bytes (part_shown s.now p))
-        (part_length p) out.new result }
+// Apart from a body, five lines each: one function for both wants a trait with three ghost members.
+fn put_target(s: &[u8], t: Option<Texts>, out: &mut Output)
+    requires { TargetStands s.now t × HasRoom out.old (target_length t) }
+    ensures { Writes out.old out.new (part_bytes (target_shown s.now t)) (target_length t) }
 {
-    let n = part_length(p);
-    let q = put_flag(out, at, p.there);
-    octets::put_u32(out, q, (n - 5) as u32);
-    target::put_texts(s, p.texts, at + 5, out);
-    at + n
+    match t {
+        Some(t) => {
+            put_head(true, target::texts_length(t), out);
+            target::put_texts(s, t, out);
+        }
+        None => put_head(false, 0, out),
+    }
 }
 
-// The same of a part that is one body: it has a function of its own, so that the compiler merges it into the three calls.
-fn put_only(s: &[u8], p: KeyPart, at: usize, out: &mut [u8]) -> usize
-    requires { PartStands s.now p × Alone p × (at + part_length p ≤ length out.old) }
-    ensures written { Wrote out.old at (part_bytes (part_shown s.now p))
-        (part_length p) out.new result }
+fn put_body(s: &[u8], b: Option<Place>, out: &mut Output)
+    requires { BodyStands s.now b × HasRoom out.old (body_length b) }
+    ensures { Writes out.old out.new (part_bytes (body_shown s.now b)) (body_length b) }
 {
-    let b = p.texts.first;
-    let q = put_flag(out, at, p.there);
-    octets::put_u32(out, q, b.len as u32);
-    let from = b.at;
-    let end = from + b.len;
-    copies::put_bytes(out, at + 5, &s[from..end]);
-    at + (5 + b.len)
+    match b {
+        Some(b) => {
+            put_head(true, b.len, out);
+            target::put_body(s, b, out);
+        }
+        None => put_head(false, 0, out),
+    }
 }
 
-fn put_key(s: &[u8], k: KeyParts, out: &mut [u8]) -> usize
-    requires { KeyStands s.now k × (key_length k ≤ length out.old) }
-    ensures written { Wrote out.old 0 (key_bytes (key_shown s.now k))
-        (key_length k) out.new result }
+fn put_key(s: &[u8], k: KeyParts, out: &mut Output)
+    requires { KeyStands s.now k × HasRoom out.old (key_length k) }
+    ensures { Writes out.old out.new (key_bytes (key_shown s.now k)) (key_length k) }
 {
-    let p = put_flag(out, 0, k.unicode);
-    let p = put_part(s, k.target, p, out);
-    let p = put_only(s, k.arguments, p, out);
-    let p = put_only(s, k.workdir, p, out);
-    put_only(s, k.environment, p, out)
+    out.put_u8(format::one_or_0(k.unicode));
+    put_target(s, k.target, out);
+    put_body(s, k.arguments, out);
+    put_body(s, k.workdir, out);
+    put_body(s, k.environment, out);
 }
 
 // ---- the call
@@ -199,14 +165,19 @@ pub fn key(s: &[u8], out: &mut [u8], profile: Profile) -> Verdict
 {
     let mut texts = [0u32; 9];
     let mut firsts = [0u32; 11];
-    let o = reader::outline_of(s, profile, &mut texts, &mut firsts);
-    let next = o.next;
-    if let Next::Off(f, p) = next {
-        return Verdict::Refused(f, p.position);
+    let ends = reader::outline_of(s, profile, &mut texts, &mut firsts)?;
+    let o = Outline {
+        s,
+        profile,
+        ends,
+        texts: &texts,
+    };
+    let k = parts_of(&o, &firsts);
+    let n = key_length(k);
+    if out.len() < n {
+        return Err(Refused::at(Fault::Room, 0));
     }
-    let k = parts_of(s, o.ends, &texts, &firsts, profile);
-    if out.len() < key_length(k) {
-        return Verdict::Refused(Fault::Room, 0);
-    }
-    Verdict::Accepted(put_key(s, k, out))
+    let mut w = Output::new(out);
+    put_key(s, k, &mut w);
+    Ok(n)
 }

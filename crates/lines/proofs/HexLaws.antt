@@ -7,7 +7,7 @@ use native.Mathlib.Numerals.{add-one}
 use lib.ListN.{length, take, get_or}
 use lib.Seq.{take-suc, take_all}
 use borrow.Author.Tests.{lt-ltb, le-ltb}
-use Rattle.lines.specs.declared.Window.{Window}
+use Rattle.lines.specs.declared.window.Window.{Window}
 use Rattle.lines.specs.Text.{hex_digit, hex_of}
 use Rattle.lines.specs.Steps.Windows.{Showed}
 use Rattle.lines.proofs.WindowLaws.{Showed-none, Showed-join, Showed-as}
@@ -29,16 +29,16 @@ unfolding hex_of
 hex_append [] a = refl
 hex_append (b ∷ l) a = ap (λ (x : List ℕ). hex_digit (b / 16) ∷ hex_digit (b % 16) ∷ x) (hex_append l a)
 
-module _ (d : List ℕ) (w : Window) (room : w.at ≤ length d) (s : List ℕ) where
-  pub hex_none : Showed d w (hex_of (take 0 s)) d w
+module _ (w : Window) (s : List ℕ) where
+  pub hex_none : Showed w (hex_of (take 0 s)) w
   unfolding hex_of
-  hex_none = Showed-none d w room
+  hex_none = Showed-none w
 
-  module _ {i : ℕ} {x : List ℕ} {r : Window} (p : Showed d w (hex_of (take i s)) x r) where
-    pub hex_more : i < length s → {y : List ℕ} {q : Window} → Showed x r (hex_of (get_or s i 0 ∷ [])) y q → Showed d w (hex_of (take (i + 1) s)) y q
+  module _ {i : ℕ} {r : Window} (p : Showed w (hex_of (take i s)) r) where
+    pub hex_more : i < length s → {q : Window} → Showed r (hex_of (get_or s i 0 ∷ [])) q → Showed w (hex_of (take (i + 1) s)) q
     hex_more h o =
         let e : hex_of (take i s) ++ hex_of (get_or s i 0 ∷ []) ≡ hex_of (take (i + 1) s) = rw (add-one i, take-suc s i 0 h) (sym (hex_append (take i s) (get_or s i 0))) in
-        Showed-as (Showed-join p room o) e
+        Showed-as (Showed-join p o) e
 
-    pub hex_whole : i ≡ length s → Showed d w (hex_of s) x r
-    hex_whole e = Showed-as p (rw (e, take_all (length s) s (omega arith)))
+    pub hex_whole : length s ≤ i → Showed w (hex_of s) r
+    hex_whole e = Showed-as p (rw (take_all i s e))

@@ -14,10 +14,9 @@ use Rattle.octets.specs.Steps.Puts.{part}
 use Rattle.octets.proofs.PartLaws.{part_in, length-put}
 use Rattle.format.specs.declared.Profile.{Profile}
 use Rattle.format.specs.declared.Fault.{Fault}
+use Rattle.format.specs.declared.Refused.{Refused}
 use Rattle.format.specs.declared.Spot.{Spot}
 use Rattle.format.specs.declared.Fault.TheVariants.{Room as ROOM}
-use Rattle.format.specs.declared.Verdict.{Verdict}
-use Rattle.format.specs.declared.Verdict.TheVariants.{Accepted, Refused}
 use Rattle.format.specs.Tests.{Outcome, got, refused}
 use Rattle.format.specs.Shortcut.{Sections, most, shortcut, record_of, reading}
 use Rattle.format.specs.Demands.{Accepts}
@@ -27,6 +26,8 @@ use Rattle.format.proofs.AcceptedLaws.{shortcut-Whole}
 use Rattle.format.proofs.Demands.{accepted_whole}
 use Rattle.format.proofs.KeyRoom.{room_enough}
 use Rattle.lines.specs.Text.{line_feed, hex_of, verdict_line, key_line, key_text}
+use Rattle.format.specs.Verdicts.{Verdict, refused_at}
+use Rattle.std.specs.Prelude.{Ok, Err}
 
 -- what a success put in front is there again
 part-put : (d w : List ℕ) → length w ≤ length d → part (put d 0 w) 0 (length w) ≡ w
@@ -39,19 +40,19 @@ unfolding reading
 got-Accepts profile s c n i = accepted_whole profile s (record_of c) n (rw i)
 
 module _ (profile : Profile) (s out : List ℕ) (bs : Bytes s) (room : length out ≡ most) {v : Verdict} (e : v ≡ key_answer profile s out) where
-  stopped : {f : Fault} {p : Spot} → shortcut profile s ≡ refused f p → key_answer profile s out ≡ Refused f p.position
+  stopped : {f : Fault} {p : Spot} → shortcut profile s ≡ refused f p → key_answer profile s out ≡ refused_at f p.position
   unfolding key_answer key
   stopped i = rw i
 
-  enough : (c : Sections) (n : ℕ) → shortcut profile s ≡ got c n → {f : Fault} {p : ℕ} → v ≡ Refused f p → ⊥
-  enough c n i {f} {p} k =
+  enough : (c : Sections) (n : ℕ) → shortcut profile s ≡ got c n → {r : Refused} → v ≡ Err r → ⊥
+  enough c n i {r} k =
       let l = (shortcut-Whole profile s c n i).limit in
       let a = room_enough profile s out (record_of c) bs (got-Accepts profile s c n i) (omega arith) in
-      let x : Refused f p ≡ Accepted _ = sym k ∙ e ∙ a in
+      let x : Err r ≡ Ok _ = sym k ∙ e ∙ a in
       let z : ◌≡◌ {A = ℕ} 0 1 = cc in
       omega arith
 
-  pub refused_key : {f : Fault} {p : ℕ} → v ≡ Refused f p → verdict_line v ≡ key_text profile s
+  pub refused_key : {r : Refused} → v ≡ Err r → verdict_line v ≡ key_text profile s
   unfolding key_text
   refused_key k = go (shortcut profile s) refl
     where
@@ -65,15 +66,15 @@ module _ (profile : Profile) (s out : List ℕ) (bs : Bytes s) (room : length ou
     pub fits : length w ≤ length out
     pub content : key_output profile s out ≡ put out 0 w
 
-  Put-key : {n : ℕ} → v ≡ Accepted n → (c : Sections) (m : ℕ) → shortcut profile s ≡ got c m → Put (key_bytes (key_of s c)) n
+  Put-key : {n : ℕ} → v ≡ Ok n → (c : Sections) (m : ℕ) → shortcut profile s ≡ got c m → Put (key_bytes (key_of s c)) n
   unfolding key_answer key_output key output_of
   Put-key {n} k c m i = go (leb (length (key_bytes (key_of s c))) (length out)) refl
     where
       go : (b : Bool) → leb (length (key_bytes (key_of s c))) (length out) ≡ b → Put (key_bytes (key_of s c)) n
-      go true j = let x : Accepted n ≡ Accepted (length (key_bytes (key_of s c))) = sym k ∙ e ∙ rw (i, j) in record { long = cc; fits = leb-true _ _ j; content = rw (i, j) }
-      go false j = let x : Accepted n ≡ Refused ROOM 0 = sym k ∙ e ∙ rw (i, j) in let z : ◌≡◌ {A = ℕ} 0 1 = cc in absurd (omega arith)
+      go true j = let x : Ok n ≡ Ok (length (key_bytes (key_of s c))) = sym k ∙ e ∙ rw (i, j) in record { long = cc; fits = leb-true _ _ j; content = rw (i, j) }
+      go false j = let x : Ok n ≡ refused_at ROOM 0 = sym k ∙ e ∙ rw (i, j) in let z : ◌≡◌ {A = ℕ} 0 1 = cc in absurd (omega arith)
 
-  pub accepted_key : {n : ℕ} → v ≡ Accepted n → {x : List ℕ} → x ≡ key_output profile s out → hex_of (part x 0 n) ++ line_feed ≡ key_text profile s
+  pub accepted_key : {n : ℕ} → v ≡ Ok n → {x : List ℕ} → x ≡ key_output profile s out → hex_of (part x 0 n) ++ line_feed ≡ key_text profile s
   unfolding key_text
   accepted_key {n} k {x} h = go (shortcut profile s) refl
     where
@@ -83,4 +84,4 @@ module _ (profile : Profile) (s out : List ℕ) (bs : Bytes s) (room : length ou
           let w = key_bytes (key_of s c) in
           let z : part x 0 n ≡ w = rw (h, P.content, P.long) (part-put out w P.fits) in
           ap (λ (l : List ℕ). hex_of l ++ line_feed) z
-      go (refused f p) i = let x : Accepted n ≡ Refused f p.position = sym k ∙ e ∙ stopped i in let z : ◌≡◌ {A = ℕ} 0 1 = cc in absurd (omega arith)
+      go (refused f p) i = let x : Ok n ≡ refused_at f p.position = sym k ∙ e ∙ stopped i in let z : ◌≡◌ {A = ℕ} 0 1 = cc in absurd (omega arith)

@@ -9,8 +9,6 @@ use lib.Dec.{leb, ltb}
 use borrow.Author.Tests.{leb-true}
 use Rattle.octets.specs.Numbers.{Bytes}
 use Rattle.format.specs.declared.Profile.{Profile}
-use Rattle.format.specs.declared.Verdict.{Verdict}
-use Rattle.format.specs.declared.Verdict.TheVariants.{Accepted, Refused}
 use Rattle.format.specs.Numbers.{number_of}
 use Rattle.format.specs.Tests.{Outcome, got, refused}
 use Rattle.format.specs.Blocks.{slot_at, block_size, blocks_after}
@@ -25,6 +23,8 @@ use Rattle.format.proofs.AcceptedLaws.{shortcut-Whole}
 use Rattle.format.proofs.KeyRoom.{key_short}
 use Rattle.lines.specs.Text.{names, name_text, space, line_feed, digits, decimal, line_of, row_line, row_lines, verdict_line, listing_text, hex_of, key_line, key_text}
 use Rattle.lines.proofs.KeyTexts.{got-Accepts}
+use Rattle.format.specs.Verdicts.{Verdict, refused_at}
+use Rattle.std.specs.Prelude.{Ok, Err}
 
 -- ---- lines
 
@@ -62,14 +62,14 @@ length_rows (x ∷ xs) = omega (arith, length-append (row_line x) (row_lines xs)
 
 pub length_verdict : (v : Verdict) → length (verdict_line v) ≤ 50
 unfolding verdict_line
-length_verdict (Accepted n) = omega (arith, length-append (decimal n) line_feed, length-decimal n)
-length_verdict (Refused f p) =
+length_verdict (Ok n) = omega (arith, length-append (decimal n) line_feed, length-decimal n)
+length_verdict (Err r) =
     omega (
       arith,
-      length-append (decimal (number_of f)) (space ++ (decimal p ++ line_feed)),
-      length-append (decimal p) line_feed,
-      length-decimal (number_of f),
-      length-decimal p,
+      length-append (decimal (number_of r.fault)) (space ++ (decimal r.position ++ line_feed)),
+      length-append (decimal r.position) line_feed,
+      length-decimal (number_of r.fault),
+      length-decimal r.position,
     )
 
 -- ---- rows
@@ -143,7 +143,7 @@ unfolding key_text
 length_key_line profile s bs = go (shortcut profile s) refl
   where
     go : (o : Outcome Sections) → shortcut profile s ≡ o → length (key_line s o) < 3 * 65536
-    go (refused f p) i = omega (arith, length_verdict (Refused f p.position))
+    go (refused f p) i = omega (arith, length_verdict (refused_at f p.position))
     go (got c n) i =
         let w = key_bytes (key_of s c) in
         let k : length w ≤ length s = rw (got_key profile s c n i) at (key_short profile s (record_of c) bs (got-Accepts profile s c n i)) in

@@ -3,27 +3,27 @@ use mathlib.Core.Path.{◌≡◌, ◌∙◌}
 use mathlib.Core.List.{List, [], ◌∷◌, ◌++◌, append_assoc}
 use mathlib.Core.Bool.{Bool, true, false}
 use Prim.Native.Nat.{ℕ, ◌-◌}
-use Rattle.format.specs.declared.Fault.{Fault}
-use Rattle.format.specs.declared.Verdict.{Verdict}
-use Rattle.format.specs.declared.Verdict.TheVariants.{Accepted, Refused}
+use Rattle.format.specs.declared.Refused.{Refused}
 use Rattle.format.specs.Numbers.{number_of}
 use Rattle.format.specs.Presence.{items_there, info_there, name_bit, relative_bit, workdir_bit, arguments_bit, icon_bit, string_there}
 use Rattle.reader.specs.declared.SectionEnds.{SectionEnds}
 use Rattle.lines.specs.Text.{name_text, space, line_feed, decimal, line_of, verdict_line}
 use Rattle.lines.specs.Steps.Windows.{line_if, section_lines}
+use Rattle.format.specs.Verdicts.{Verdict}
+use Rattle.std.specs.Prelude.{Ok, Err}
 
 -- parts one after another are one text
 five : (a b c d e : List ℕ) → (((a ++ b) ++ c) ++ d) ++ e ≡ a ++ (b ++ (c ++ (d ++ e)))
 five a b c d e = simp append_assoc
 
-pub accepted_line : {v : Verdict} {n : ℕ} → v ≡ Accepted n → ((0x6F ∷ 0x6B ∷ 0x20 ∷ []) ++ decimal n) ++ line_feed ≡ verdict_line v
+pub accepted_line : {v : Verdict} {n : ℕ} → v ≡ Ok n → ((0x6F ∷ 0x6B ∷ 0x20 ∷ []) ++ decimal n) ++ line_feed ≡ verdict_line v
 unfolding verdict_line
 accepted_line e = rw e
 
-pub refused_line : {v : Verdict} {f : Fault} {p k : ℕ} → v ≡ Refused f p → k ≡ number_of f
-    → ((((0x72 ∷ 0x65 ∷ 0x66 ∷ 0x75 ∷ 0x73 ∷ 0x65 ∷ 0x64 ∷ 0x20 ∷ []) ++ decimal k) ++ space) ++ decimal p) ++ line_feed ≡ verdict_line v
+pub refused_line : {v : Verdict} {r : Refused} {k : ℕ} → v ≡ Err r → k ≡ number_of r.fault
+    → ((((0x72 ∷ 0x65 ∷ 0x66 ∷ 0x75 ∷ 0x73 ∷ 0x65 ∷ 0x64 ∷ 0x20 ∷ []) ++ decimal k) ++ space) ++ decimal r.position) ++ line_feed ≡ verdict_line v
 unfolding verdict_line
-refused_line {f = f} {p} e k = rw (e, k) (five (0x72 ∷ 0x65 ∷ 0x66 ∷ 0x75 ∷ 0x73 ∷ 0x65 ∷ 0x64 ∷ 0x20 ∷ []) (decimal (number_of f)) space (decimal p) line_feed)
+refused_line {r = r} e k = rw (e, k) (five (0x72 ∷ 0x65 ∷ 0x66 ∷ 0x75 ∷ 0x73 ∷ 0x65 ∷ 0x64 ∷ 0x20 ∷ []) (decimal (number_of r.fault)) space (decimal r.position) line_feed)
 
 pub line_parts : (name : List ℕ) (p n : ℕ) → ((((name ++ space) ++ decimal p) ++ space) ++ decimal n) ++ line_feed ≡ line_of name p n
 unfolding line_of

@@ -1,25 +1,23 @@
 -- The lines of a shortcut by its outline: the listing from what the code shows.
-use mathlib.Core.Path.{◌≡◌, refl, sym, ap, ◌∙◌}
+use mathlib.Core.Path.{◌≡◌, refl, sym, ◌∙◌}
 use mathlib.Core.List.{List, [], ◌∷◌, ◌++◌, append_assoc, append-nil}
 use mathlib.Core.Bool.{Bool, true, false}
 use Prim.Native.Nat.{ℕ, ◌-◌}
 use lib.ListN.{length}
-use Rattle.octets.specs.declared.Cursor.{Cursor}
 use Rattle.format.specs.declared.Profile.{Profile}
-use Rattle.format.specs.declared.Fault.{Fault}
-use Rattle.format.specs.declared.Spot.{Spot}
-use Rattle.format.specs.declared.Verdict.TheVariants.{Accepted, Refused}
+use Rattle.format.specs.declared.Refusal.{Refusal}
 use Rattle.format.specs.Shortcut.{reading}
 use Rattle.format.specs.Listing.{Row, row, block_rows, listing}
-use Rattle.reader.specs.declared.Next.TheVariants.{On, Off}
-use Rattle.reader.specs.declared.Outline.{Outline}
 use Rattle.reader.specs.declared.SectionEnds.{SectionEnds}
-use Rattle.reader.specs.Steps.Finish.{Told}
-use Rattle.reader.proofs.Runs.{section_of}
-use Rattle.reader.proofs.OutlineLaws.{told_accepted, told_refused}
-use Rattle.shown.proofs.Laws.{AllRows}
+use Rattle.reader.specs.Steps.Finish.{outline, next_verdict}
+use Rattle.reader.proofs.Found.{section_of}
+use Rattle.reader.proofs.OutlineLaws.{verdict_held}
+use Rattle.shown.proofs.Laws.{AllRows, no_rows}
 use Rattle.lines.specs.Text.{name_text, line_of, row_line, row_lines, verdict_line, listing_text}
-use Rattle.lines.specs.Steps.Windows.{line_if, section_lines}
+use Rattle.lines.specs.declared.window.Window.{Window}
+use Rattle.lines.specs.Steps.Windows.{line_if, section_lines, Showed, BlocksShowed}
+use Rattle.format.specs.Verdicts.{Verdict}
+use Rattle.std.specs.Prelude.{Result, Err}
 
 rows_append : (xs ys : List Row) → row_lines (xs ++ ys) ≡ row_lines xs ++ row_lines ys
 unfolding row_lines
@@ -43,19 +41,21 @@ outlined_lines : {profile : Profile} {s : List ℕ} {f : ℕ} {e : SectionEnds} 
 unfolding section_lines
 outlined_lines R = rw R.rows (simp (rows_first, rows_append, row_line_lem, header_line, append_assoc))
 
-module _ {profile : Profile} {s : List ℕ} {o : Outline} {texts row : List ℕ} (T : Told profile s o texts row) where
-  -- ---- an accepted shortcut
+-- the blocks of an accepted shortcut are read, so their rows were shown
+pub rows_shown : {profile : Profile} {s : List ℕ} {f : ℕ} {e : SectionEnds} {w r : Window} → BlocksShowed s e.icon w r → (R : AllRows profile s f e) → Showed w (row_lines (block_rows e.icon R.lengths)) r
+unfolding BlocksShowed
+rows_shown h R = h [] R.lengths R.count R.is
 
-  pub accepted_listing : {c : Cursor} → o.next ≡ On c → {f : ℕ} (R : AllRows profile s f o.ends)
-      → (verdict_line (Accepted (length s)) ++ section_lines f o.ends) ++ row_lines (block_rows o.ends.icon R.lengths) ≡ listing_text profile s
+module _ (profile : Profile) (s : List ℕ) {o : Result SectionEnds Refusal} (is : o ≡ outline profile s) {v : Verdict} (told : v ≡ next_verdict (length s) o) where
+  -- an accepted shortcut
+  pub accepted_listing : {f : ℕ} {e : SectionEnds} (R : AllRows profile s f e)
+      → (verdict_line v ++ section_lines f e) ++ row_lines (block_rows e.icon R.lengths) ≡ listing_text profile s
   unfolding listing_text
-  accepted_listing {c} k {f} R =
-      let v : (reading profile s).verdict ≡ Accepted (length s) = sym (told_accepted T k) ∙ ap Accepted (T.end c k) in
-      append_assoc (verdict_line (Accepted (length s))) (section_lines f o.ends) (row_lines (block_rows o.ends.icon R.lengths))
-      ∙ rw (v, outlined_lines R)
+  accepted_listing {f} {e} R =
+      append_assoc (verdict_line v) (section_lines f e) (row_lines (block_rows e.icon R.lengths))
+      ∙ rw (verdict_held profile s is told, outlined_lines R)
 
-  -- ---- a refused one
-
-  pub refused_listing : {f : Fault} {p : Spot} → o.next ≡ Off f p → verdict_line (Refused f p.position) ≡ listing_text profile s
-  unfolding listing_text listing row_lines
-  refused_listing {f} {p} k = rw (← told_refused T k, T.off f p k) (sym (append-nil (verdict_line (Refused f p.position))))
+  -- a refused one
+  pub refused_listing : {r : Refusal} → o ≡ Err r → verdict_line v ≡ listing_text profile s
+  unfolding listing_text row_lines
+  refused_listing k = rw (verdict_held profile s is told, no_rows profile s (sym k ∙ is)) (sym (append-nil (verdict_line (reading profile s).verdict)))

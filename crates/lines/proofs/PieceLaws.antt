@@ -10,8 +10,6 @@ use lib.Seq.{take_all, drop-drop}
 use lib.Dec.{ltb}
 use borrow.Author.Tests.{ltb-true}
 use Rattle.octets.specs.Numbers.{Bytes}
-use Rattle.octets.specs.Parts.{put}
-use Rattle.octets.proofs.PartLaws.{length-put}
 use Rattle.lines.specs.Text.{piece}
 use Rattle.lines.specs.Steps.Pieces.{text_of, pieces}
 use Rattle.lines.proofs.Lengths.{length_listing, length_key_line}
@@ -21,13 +19,9 @@ length-piece : (t : List ℕ) (p room : ℕ) → length (piece t p room) ≡ min
 unfolding piece
 length-piece t p room = length-take room (drop p t) ∙ ap (min room) (length-drop p t)
 
--- a piece ends inside the text
-pub piece_inside : (t : List ℕ) (p room : ℕ) {n : ℕ} → n ≡ length (piece t p room) → p ≤ length t → p + n ≤ length t
-piece_inside t p room e h = omega (arith, length-piece t p room)
-
--- and inside the buffer
-pub piece_kept : (t : List ℕ) (p : ℕ) (d : List ℕ) {x : List ℕ} → x ≡ put d 0 (piece t p (length d)) → length x ≡ length d
-piece_kept t p d e = rw e (length-put d 0 (piece t p (length d)) (omega (arith, length-piece t p (length d))))
+-- no piece of so short a text leads further
+pub piece_short : (t : List ℕ) (p room : ℕ) {n : ℕ} → length t < 8 * 65536 → n ≡ length (piece t p room) → p ≤ 8 * 65536 → p + n ≤ 8 * 65536
+piece_short t p room l e h = omega (arith, length-piece t p room)
 
 from_there : (k room : ℕ) (t : List ℕ) (p : ℕ) → length t < p + k * room → pieces k room t p ≡ drop p t
 unfolding pieces piece

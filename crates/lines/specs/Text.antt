@@ -1,13 +1,12 @@
 -- What the programs write: the listing, the refusal and the key, in lines that end with a line feed.
-use Rattle.std.specs.Prelude.{ℕ, zero, suc, ◌+◌, ◌/◌, ◌%◌, List, [], ◌∷◌, ◌++◌, cond, take, drop, get_or, ltb}
+use Rattle.std.specs.Prelude.{ℕ, zero, suc, ◌+◌, ◌/◌, ◌%◌, List, [], ◌∷◌, ◌++◌, cond, take, drop, get_or, ltb, Ok, Err}
 use Rattle.format.specs.declared.Profile.{Profile}
-use Rattle.format.specs.declared.Verdict.{Verdict}
-use Rattle.format.specs.declared.Verdict.TheVariants.{Accepted, Refused}
 use Rattle.format.specs.Numbers.{number_of}
 use Rattle.format.specs.Tests.{Outcome, got, refused}
 use Rattle.format.specs.Shortcut.{Sections, shortcut, reading}
 use Rattle.format.specs.Key.{key_of, key_bytes}
 use Rattle.format.specs.Listing.{Row, listing}
+use Rattle.format.specs.Verdicts.{Verdict, refused_at}
 
 -- ---- words and numbers, in ASCII
 
@@ -75,8 +74,8 @@ row_lines (x ∷ xs) = row_line x ++ row_lines xs
 
 -- `ok` and the length; or `refused`, the number and the position
 unfoldable pub verdict_line : Verdict → List ℕ
-verdict_line (Accepted n) = ok_word ++ (space ++ (decimal n ++ line_feed))
-verdict_line (Refused f p) = refused_word ++ (space ++ (decimal (number_of f) ++ (space ++ (decimal p ++ line_feed))))
+verdict_line (Ok n) = ok_word ++ (space ++ (decimal n ++ line_feed))
+verdict_line (Err r) = refused_word ++ (space ++ (decimal (number_of r.fault) ++ (space ++ (decimal r.position ++ line_feed))))
 
 -- ---- texts
 
@@ -87,7 +86,7 @@ listing_text profile s = verdict_line (reading profile s).verdict ++ row_lines (
 -- the key in hex, or the line of the refusal
 abbrev pub key_line : List ℕ → Outcome Sections → List ℕ
 key_line s (got c n) = hex_of (key_bytes (key_of s c)) ++ line_feed
-key_line s (refused f p) = verdict_line (Refused f p.position)
+key_line s (refused f p) = verdict_line (refused_at f p.position)
 
 unfoldable pub key_text : Profile → List ℕ → List ℕ
 key_text profile s = key_line s (shortcut profile s)

@@ -2,54 +2,25 @@
 #![tactic(auto)]
 
 mod rows;
-mod showing;
+mod window;
 
-ghost use Rattle.std.specs.Prelude.{◌≡◌, ◌≤◌, length};
+ghost use Rattle.std.specs.Prelude.{◌≡◌, ◌+◌, ◌≤◌, ℕ, length};
 ghost use Rattle.octets.specs.Parts.{put};
 ghost use Rattle.lines.specs.Text.{verdict_line, listing_text, key_text, piece};
-ghost use Rattle.lines.specs.Steps.Windows.{Showed};
-ghost use Rattle.lines.specs.Steps.Pieces.{text_of};
 
-use crate::rows::{show_blocks, show_sections};
-use crate::showing::{show, show_decimal, show_hex};
-use format::{Fault, Profile, Verdict};
-use reader::Next;
+use crate::window::Window;
+use format::{Profile, Refused, Verdict};
+use reader::Outline;
 use std::env::{Env, FillError};
-
-// So many bytes of the text are still to be passed over; so many of the buffer are filled.
-#[derive(Clone, Copy)]
-pub(crate) struct Window {
-    pub skip: usize,
-    pub at: usize,
-}
-
-fn show_verdict(out: &mut [u8], w: Window, v: Verdict) -> Window
-    requires { w.at ≤ length out.old }
-    ensures { Showed out.old w (verdict_line v) out.new result }
-{
-    match v {
-        Verdict::Accepted(n) => {
-            let w = show(out, w, b"ok ");
-            let w = show_decimal(out, w, n as u64);
-            show(out, w, b"\n")
-        }
-        Verdict::Refused(f, p) => {
-            let w = show(out, w, b"refused ");
-            let w = show_decimal(out, w, format::number_of(f) as u64);
-            let w = show(out, w, b" ");
-            let w = show_decimal(out, w, p as u64);
-            show(out, w, b"\n")
-        }
-    }
-}
 
 // The line of a verdict, from its place `from` on; answers how many bytes it put, as the two below do.
 pub fn put_verdict(v: Verdict, from: usize, out: &mut [u8]) -> usize
     ensures answer { result ≡ length (piece (verdict_line v) from (length out.old)) }
     ensures output { out.new ≡ put out.old 0 (piece (verdict_line v) from (length out.old)) }
 {
-    let w = show_verdict(out, Window { skip: from, at: 0 }, v);
-    w.at
+    let mut w = Window::new(out, from);
+    w.verdict(v);
+    w.filled()
 }
 
 // The listing.
@@ -60,18 +31,20 @@ pub fn put_listing(s: &[u8], from: usize, out: &mut [u8], profile: Profile) -> u
     let mut texts = [0u32; 9];
     let mut firsts = [0u32; 11];
     let o = reader::outline_of(s, profile, &mut texts, &mut firsts);
-    let next = o.next;
-    let w = Window { skip: from, at: 0 };
-    if let Next::Off(f, p) = next {
-        let w = show_verdict(out, w, Verdict::Refused(f, p.position));
-        return w.at;
-    }
-    let ends = o.ends;
-    let flags = reader::flags_of(s, ends, &texts, profile);
-    let w = show_verdict(out, w, Verdict::Accepted(s.len()));
-    let w = show_sections(out, w, flags, ends);
-    let w = show_blocks(out, w, s, ends.icon);
-    w.at
+    let mut w = Window::new(out, from);
+    w.verdict(reader::verdict_of(s, o));
+    let Ok(ends) = o else {
+        return w.filled();
+    };
+    let outline = Outline {
+        s,
+        profile,
+        ends,
+        texts: &texts,
+    };
+    w.sections(outline.flags(), ends);
+    w.blocks(s, ends.icon);
+    w.filled()
 }
 
 // The key's line.
@@ -82,34 +55,27 @@ pub fn put_key_line(s: &[u8], from: usize, out: &mut [u8], profile: Profile) -> 
     // A key is never longer than its shortcut.
     let mut bytes = [0u8; 65536];
     let v = keying::key(s, &mut bytes, profile);
-    let w = Window { skip: from, at: 0 };
-    let Verdict::Accepted(n) = v else {
-        let w = show_verdict(out, w, v);
-        return w.at;
+    let mut w = Window::new(out, from);
+    let Ok(n) = v else {
+        w.verdict(v);
+        return w.filled();
     };
-    let w = show_hex(out, w, octets::part(&bytes, 0, n));
-    let w = show(out, w, b"\n");
-    w.at
+    w.hex(octets::part(&bytes, 0, n));
+    w.show(b"\n");
+    w.filled()
 }
 
 // ---- written on standard output
 
-fn put_text(key: bool, s: &[u8], from: usize, out: &mut [u8], profile: Profile) -> usize
-    ensures answer { result ≡ length (piece (text_of profile key s.now) from (length out.old)) }
-    ensures output { out.new ≡ put out.old 0 (piece (text_of profile key s.now) from (length out.old)) }
-{
-    if key {
-        return put_key_line(s, from, out, profile);
-    }
-    put_listing(s, from, out, profile)
-}
-
 // In pieces of 64 KiB: the first that does not fill the buffer is the last.
-fn write_text(key: bool, s: &[u8], profile: Profile) {
+fn write_text<F: Fn(&[u8], usize, &mut [u8], Profile) -> usize>(put: F, s: &[u8], profile: Profile)
+    requires callable { F.IsAlwaysCallable put }
+    requires short { (lent : _) (from : ℕ) (out : _) (n : ℕ) (left : _) → lent.now ≡ s.now → F.post put lent from out profile n left → from ≤ 524288 → from + n ≤ 524288 }
+{
     let mut out = [0u8; 65536];
     let mut from = 0;
     loop {
-        let n = put_text(key, s, from, &mut out, profile);
+        let n = put(s, from, &mut out, profile);
         io::write_all(1, octets::part(&out, 0, n));
         if n < 65536 {
             return;
@@ -119,11 +85,11 @@ fn write_text(key: bool, s: &[u8], profile: Profile) {
 }
 
 pub fn listing(s: &[u8], profile: Profile) {
-    write_text(false, s, profile);
+    write_text(put_listing, s, profile);
 }
 
 pub fn key_line(s: &[u8], profile: Profile) {
-    write_text(true, s, profile);
+    write_text(put_key_line, s, profile);
 }
 
 // ---- the program's arguments
@@ -164,8 +130,8 @@ pub fn wrong_words(rt: &impl Env) -> bool {
 }
 
 // A line is never longer than the buffer.
-pub fn refused_line(f: Fault, p: usize) {
+pub fn refused_line(r: Refused) {
     let mut out = [0u8; 64];
-    let n = put_verdict(Verdict::Refused(f, p), 0, &mut out);
+    let n = put_verdict(Err(r), 0, &mut out);
     io::write_all(1, octets::part(&out, 0, n));
 }

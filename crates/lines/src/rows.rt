@@ -1,92 +1,68 @@
 // The rows of the listing, a line for each.
-ghost use Rattle.std.specs.Prelude.{◌≤◌, length};
-ghost use Rattle.lines.specs.Text.{line_of};
-ghost use Rattle.lines.specs.Steps.Windows.{Showed, line_if, section_lines, BlocksShowed};
-
-use crate::Window;
-use crate::showing::{show, show_decimal};
-use blocks::BlockStep;
+use crate::window::Window;
 use reader::SectionEnds;
 
-fn show_line(out: &mut [u8], w: Window, name: &[u8], start: usize, len: usize) -> Window
-    requires { w.at ≤ length out.old }
-    ensures { Showed out.old w (line_of name.now start len) out.new result }
-{
-    let w = show(out, w, name);
-    let w = show(out, w, b" ");
-    let w = show_decimal(out, w, start as u64);
-    let w = show(out, w, b" ");
-    let w = show_decimal(out, w, len as u64);
-    show(out, w, b"\n")
-}
+impl Window<'_> {
+    ghost use Rattle.lines.specs.Text.{line_of};
+    ghost use Rattle.lines.specs.Steps.Windows.{Showed, line_if, section_lines, BlocksShowed};
 
-// A section that is there, from p to e.
-fn show_if(out: &mut [u8], w: Window, there: bool, name: &[u8], p: usize, e: usize) -> Window
-    requires { w.at ≤ length out.old }
-    ensures { Showed out.old w (line_if there name.now p e) out.new result }
-{
-    if there {
-        if p <= e {
-            return show_line(out, w, name, p, e - p);
+    fn line(&mut self, name: &[u8], start: usize, len: usize)
+        ensures { Showed self.old (line_of name.now start len) self.new }
+    {
+        self.show(name);
+        self.show(b" ");
+        self.decimal(start as u64);
+        self.show(b" ");
+        self.decimal(len as u64);
+        self.show(b"\n");
+    }
+
+    // A section that is there, from p to e.
+    fn line_if(&mut self, there: bool, name: &[u8], p: usize, e: usize)
+        ensures { Showed self.old (line_if there name.now p e) self.new }
+    {
+        if there {
+            self.line(name, p, e.saturating_sub(p));
         }
-        return show_line(out, w, name, p, 0);
     }
-    w
-}
 
-pub(crate) fn show_sections(out: &mut [u8], w: Window, f: u32, e: SectionEnds) -> Window
-    requires { w.at ≤ length out.old }
-    ensures { Showed out.old w (section_lines f e) out.new result }
-{
-    let w = show_line(out, w, b"header", 0, 76);
-    let w = show_if(out, w, format::items_there(f), b"items", 76, e.items);
-    let w = show_if(out, w, format::info_there(f), b"info", e.items, e.info);
-    let w = show_if(out, w, format::name_there(f), b"name", e.info, e.name);
-    let w = show_if(
-        out,
-        w,
-        format::relative_there(f),
-        b"relative",
-        e.name,
-        e.relative,
-    );
-    let w = show_if(
-        out,
-        w,
-        format::workdir_there(f),
-        b"workdir",
-        e.relative,
-        e.workdir,
-    );
-    let w = show_if(
-        out,
-        w,
-        format::arguments_there(f),
-        b"arguments",
-        e.workdir,
-        e.arguments,
-    );
-    show_if(out, w, format::icon_there(f), b"icon", e.arguments, e.icon)
-}
-
-// The blocks from `from` on and their terminal.
-pub(crate) fn show_blocks(out: &mut [u8], w: Window, s: &[u8], from: usize) -> Window
-    requires { w.at ≤ length out.old }
-    ensures { BlocksShowed s.now from out.old w out.new result }
-{
-    if s.len() < from {
-        return w;
+    pub(crate) fn sections(&mut self, f: u32, e: SectionEnds)
+        ensures { Showed self.old (section_lines f e) self.new }
+    {
+        self.line(b"header", 0, 76);
+        self.line_if(format::items_there(f), b"items", 76, e.items);
+        self.line_if(format::info_there(f), b"info", e.items, e.info);
+        self.line_if(format::name_there(f), b"name", e.info, e.name);
+        self.line_if(format::relative_there(f), b"relative", e.name, e.relative);
+        self.line_if(format::workdir_there(f), b"workdir", e.relative, e.workdir);
+        self.line_if(
+            format::arguments_there(f),
+            b"arguments",
+            e.workdir,
+            e.arguments,
+        );
+        self.line_if(format::icon_there(f), b"icon", e.arguments, e.icon);
     }
-    let mut next = w;
-    let mut p = from;
-    loop {
-        match blocks::step(&s[p..]) {
-            BlockStep::Block(n, _) => {
-                next = show_line(out, next, b"block", p, n);
-                p += n;
+
+    // The blocks from `from` on and their terminal.
+    pub(crate) fn blocks(&mut self, s: &[u8], from: usize)
+        ensures { BlocksShowed s.now from self.old self.new }
+    {
+        let outside = s.len() < from;
+        if outside {
+            return;
+        }
+        // Each line names the place, and the walk ends at a block and at no index.
+        let mut p = from;
+        loop {
+            match blocks::step(&s[p..]) {
+                Ok(Some(b)) => {
+                    self.line(b"block", p, b.len);
+                    p += b.len;
+                }
+                Ok(None) => return self.line(b"end", p, 4),
+                Err(_) => return,
             }
-            BlockStep::Terminal => return show_line(out, next, b"end", p, 4),
-            BlockStep::Refused(_) => return next,
         }
     }
 }

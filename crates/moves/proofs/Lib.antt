@@ -1,4 +1,5 @@
 pub mod BodyMoves
+pub mod StringLaws
 pub mod TestLaws
 pub mod RecordLaws
 pub mod OneOutcome

@@ -1,55 +1,53 @@
-// A string translated as it is put. A function that puts answers the place after what it put.
-ghost use Rattle.std.specs.Prelude.{◌≡◌, true, false, cond, ◌+◌, ◌/◌, ◌≤◌};
-ghost use Rattle.octets.specs.Steps.Puts.{Wrote};
-ghost use Rattle.format.specs.Contents.{bytes_at};
+// A string translated as it is put.
+ghost use Rattle.std.specs.Prelude.{◌≡◌, true, false, ◌+◌, ◌*◌, ◌/◌, ◌≤◌, length};
+ghost use Rattle.copies.specs.Steps.Writes.{HasRoom, Writes};
+ghost use Rattle.format.specs.Shortcut.{most};
 ghost use Rattle.format.specs.Writing.{bytes_of_string};
-ghost use Rattle.format.specs.Codepage.{all_in_table};
-ghost use Rattle.canonical.specs.Steps.Puts.{InBuffer, Room};
-ghost use Rattle.moves.specs.Steps.Moves.{translate, moved_place};
+ghost use Rattle.format.specs.Codepage.{to_units, to_bytes, all_in_table};
+ghost use Rattle.moves.specs.Steps.Moves.{translate, translated_size};
 
-use canonical::numbers::add_u16;
-use format::Place;
+use copies::output::Output;
 
-// The body at its place in the shortcut, translated.
-fn put_translated(out: &mut [u8], at: usize, d: &[u8], unicode: bool, b: Place) -> usize
-    requires inside { InBuffer d.now b }
-    requires known { unicode ≡ false → all_in_table (bytes_at d.now b) ≡ true }
-    requires room { Room out.old at (moved_place unicode b).len }
-    ensures written { Wrote out.old at
-        (translate unicode (bytes_at d.now b))
-        (moved_place unicode b).len out.new result }
+// A byte text as Unicode.
+pub fn put_units(w: &mut Output, x: &[u8])
+    requires { HasRoom w.old (2 * length x.now) }
+    ensures { Writes w.old w.new (to_units x.now) (2 * length x.now) }
 {
-    let from = b.at;
-    let n = b.len;
-    let x = octets::part(d, from, n);
-    if unicode {
-        return codepage::texts::put_units(out, at, x);
-    }
-    codepage::texts::put_bytes(out, at, x)
+    w.at = codepage::texts::put_units(w.out, w.at, x);
 }
 
-// How many characters a string of n bytes has, which stays.
-fn count_of(unicode: bool, n: usize) -> u16
-    requires { cond unicode n (n / 2) ≤ 65535 }
-    ensures { result ≡ cond unicode n (n / 2) }
+// A Unicode text as bytes.
+fn put_bytes(w: &mut Output, x: &[u8])
+    requires known { all_in_table x.now ≡ true }
+    requires room { HasRoom w.old (length x.now / 2) }
+    ensures { Writes w.old w.new (to_bytes x.now) (length x.now / 2) }
 {
-    if unicode {
-        return n as u16;
-    }
-    (n / 2) as u16
+    w.at = codepage::texts::put_bytes(w.out, w.at, x);
 }
 
-// Its count, and the characters.
-pub fn put_string(out: &mut [u8], at: usize, d: &[u8], unicode: bool, b: Place) -> usize
-    requires inside { InBuffer d.now b }
-    requires known { unicode ≡ false → all_in_table (bytes_at d.now b) ≡ true }
-    requires room { Room out.old at ((moved_place unicode b).len + 2) }
-    ensures written { Wrote out.old at
-        (bytes_of_string unicode (translate unicode (bytes_at d.now b)))
-        ((moved_place unicode b).len + 2) out.new result }
+fn put_translated(w: &mut Output, unicode: bool, x: &[u8])
+    requires known { unicode ≡ false → all_in_table x.now ≡ true }
+    requires room { HasRoom w.old (translated_size unicode (length x.now)) }
+    ensures { Writes w.old w.new (translate unicode x.now) (translated_size unicode (length x.now)) }
 {
-    let n = b.len;
-    let count = count_of(unicode, n);
-    let p = add_u16(out, at, count);
-    put_translated(out, p, d, unicode, b)
+    if unicode {
+        put_units(w, x);
+    } else {
+        put_bytes(w, x);
+    }
+}
+
+// Its count, which stays, and the characters.
+pub fn put_string(w: &mut Output, unicode: bool, x: &[u8])
+    requires known { unicode ≡ false → all_in_table x.now ≡ true }
+    requires room { HasRoom w.old (translated_size unicode (length x.now) + 2) }
+    requires few { translated_size unicode (length x.now) + 2 ≤ most }
+    ensures { Writes w.old w.new
+        (bytes_of_string unicode (translate unicode x.now))
+        (translated_size unicode (length x.now) + 2) }
+{
+    let n = x.len();
+    let count = canonical::characters_in(!unicode, n);
+    w.put_u16(count as u16);
+    put_translated(w, unicode, x);
 }

@@ -15,13 +15,12 @@ fn translatable(d: &[u8], b: Place, unicode: bool) -> bool
     requires { InBuffer d.now b }
     ensures { result ≡ translatable unicode (bytes_at d.now b) }
 {
-    let from = b.at;
-    let n = b.len;
-    let x = octets::part(d, from, n);
+    let x = &d[b.at..][..b.len];
     if unicode {
-        return codepage::texts::all_assigned(x);
+        codepage::texts::all_assigned(x)
+    } else {
+        codepage::texts::all_in_table(x)
     }
-    codepage::texts::all_in_table(x)
 }
 
 // The second body is the translation of the first.
@@ -29,21 +28,23 @@ fn translated(d: &[u8], text: Place, wide: Place) -> bool
     requires { InBuffer d.now text × InBuffer d.now wide }
     ensures { result ≡ is_translation (bytes_at d.now text) (bytes_at d.now wide) }
 {
-    let x = octets::part(d, text.at, text.len);
-    let y = octets::part(d, wide.at, wide.len);
+    let x = &d[text.at..][..text.len];
+    let y = &d[wide.at..][..wide.len];
     codepage::texts::is_translation(x, y)
 }
 
+#[tactic(auto, using(crate::proofs::TestLaws::strings_each))]
 fn strings_map(d: &[u8], r: Record, unicode: bool) -> bool
     requires { Inside d.now r.places }
     ensures { result ≡ every (map (translatable unicode) (strings (bodies_of d.now r))) }
 {
     let row = r.places;
-    translatable(d, row[10], unicode)
-        & translatable(d, row[11], unicode)
-        & translatable(d, row[12], unicode)
-        & translatable(d, row[13], unicode)
-        & translatable(d, row[14], unicode)
+    for k in format::STRINGS..format::BLOCKS {
+        if !translatable(d, row[k], unicode) {
+            return false;
+        }
+    }
+    true
 }
 
 // LinkInfo's texts: those that will be translated, or those that will be dropped.
@@ -53,25 +54,21 @@ fn texts_map(d: &[u8], r: Record, unicode: bool) -> bool
 {
     let row = r.places;
     if unicode {
-        if !gains(r) {
-            return true;
-        }
-        return translatable(d, row[format::LOCAL], true)
-            & translatable(d, row[format::SUFFIX], true);
+        !gains(r)
+            || translatable(d, row[format::LOCAL], true)
+                & translatable(d, row[format::SUFFIX], true)
+    } else {
+        !r.link.long
+            || translated(d, row[format::LOCAL], row[format::LOCAL_UNICODE])
+                & translated(d, row[format::SUFFIX], row[format::SUFFIX_UNICODE])
     }
-    if !r.link.long {
-        return true;
-    }
-    translated(d, row[format::LOCAL], row[format::LOCAL_UNICODE])
-        & translated(d, row[format::SUFFIX], row[format::SUFFIX_UNICODE])
 }
 
 // Flag bit 7 is not yet as asked.
 fn asked(unicode: bool, flags: u32) -> bool
     ensures { result ≡ asked unicode flags }
 {
-    let is = format::strings_unicode(flags);
-    if unicode { !is } else { is }
+    format::strings_unicode(flags) != unicode
 }
 
 pub fn maps(d: &[u8], r: Record, unicode: bool) -> bool

@@ -1,25 +1,21 @@
 -- One law for each way out of a move.
 use mathlib.Core.Path.{◌≡◌, refl, sym, ap, ◌∙◌}
 use mathlib.Core.List.{List, []}
-use mathlib.Core.Bool.{Bool, true, false, not, cond}
-use Prim.Native.Nat.{ℕ, ◌+◌, ◌/◌, ◌≤◌, ◌<◌}
+use mathlib.Core.Bool.{Bool, true, false, not}
+use Prim.Native.Nat.{ℕ, ◌/◌, ◌≤◌, ◌<◌}
 use native.Mathlib.Omega.{arith}
 use lib.ListN.{length, get_or}
 use lib.Dec.{leb, eqb}
 use borrow.Author.Tests.{le-leb, lt-leb, eqb-true, not-true, not-false}
 use Rattle.octets.specs.Numbers.{Bytes}
 use Rattle.octets.specs.Parts.{put}
-use Rattle.octets.specs.Steps.Puts.{Wrote}
 use Rattle.format.specs.declared.Profile.{Profile}
 use Rattle.format.specs.declared.Record.{Record}
-use Rattle.format.specs.declared.Shape.{Shape}
 use Rattle.format.specs.declared.Fault.{Fault}
 use Rattle.format.specs.declared.Fault.TheVariants.{Unwritable as UNWRITABLE, Room as ROOM, NoMap as NOMAP}
 use Rattle.format.specs.declared.Reading.{Reading}
-use Rattle.format.specs.declared.Verdict.{Verdict}
-use Rattle.format.specs.declared.Verdict.TheVariants.{Accepted, Refused}
 use Rattle.format.specs.Tests.{Outcome, refused}
-use Rattle.format.specs.Presence.{items_there, info_there, strings_unicode}
+use Rattle.format.specs.Presence.{info_there, strings_unicode}
 use Rattle.format.specs.Numbers.{Numbered}
 use Rattle.format.specs.Shortcut.{most, reading, verdict_of}
 use Rattle.format.specs.Bodies.{further_slot, place_in}
@@ -29,7 +25,7 @@ use Rattle.format.specs.Demands.{Accepts}
 use Rattle.format.specs.Codepage.{all_in_table}
 use Rattle.format.specs.Moving.{flags_of, moving, to_unicode, to_byte_strings, to_unicode_answer, to_unicode_output, to_bytes_answer, to_bytes_output, MovesToUnicode, MovesToBytes}
 use Rattle.format.specs.Steps.Lengths.{written_row, written_length}
-use Rattle.format.specs.Steps.Shape.{shape_of}
+use Rattle.format.specs.Steps.Shape.{Shape, shape_of}
 use Rattle.format.specs.Steps.Flat.{info_to}
 use Rattle.format.proofs.AnswerLaws.{nowhere, numbered}
 use Rattle.format.proofs.Bools.{clash, by_order}
@@ -43,19 +39,19 @@ use Rattle.format.proofs.Demands.{accepted_whole}
 use Rattle.format.proofs.MoveDemands.{to_unicode_is, to_bytes_is, moves_to_unicode, moves_to_bytes}
 use Rattle.sizes.specs.Steps.Sizes.{sizes_of, clipped_length}
 use Rattle.sizes.proofs.WholeLaws.{exact_row, exact_length, over_length}
-use Rattle.canonical.specs.Steps.Puts.{Room}
-use Rattle.canonical.proofs.FitsLaws.{Wrote-whole}
 use Rattle.moves.specs.Steps.Moves.{maps, head_fits, moved, call, moved_flags, in_row, moved_record, Few, Lengths, Inside, Known, Going, ReadFrom}
-use Rattle.moving.specs.Steps.Pieces.{strings_size, info_size, moved_flat}
+use Rattle.moving.specs.Steps.Pieces.{info_size, moved_total, moved_flat}
 use Rattle.moving.proofs.FlatLaws.{moved-length, moved_put, info_size_lem, total_size}
+use Rattle.format.specs.Verdicts.{Verdict, refused_at}
+use Rattle.std.specs.Prelude.{Ok}
 
 -- ---- a refused shortcut stays refused
 
-left_unicode : (profile : Profile) (s out : List ℕ) {f : Fault} {p : ℕ} → RefusedWith profile s f p → (Refused f p ≡ verdict_of (to_unicode profile s (length out))) × (out ≡ output_of (to_unicode profile s (length out)) out)
+left_unicode : (profile : Profile) (s out : List ℕ) {f : Fault} {p : ℕ} → RefusedWith profile s f p → (refused_at f p ≡ verdict_of (to_unicode profile s (length out))) × (out ≡ output_of (to_unicode profile s (length out)) out)
 unfolding to_unicode output_of
 left_unicode profile s out i = (rw (i.is, i.told), rw i.is)
 
-left_bytes : (profile : Profile) (s out : List ℕ) {f : Fault} {p : ℕ} → RefusedWith profile s f p → (Refused f p ≡ verdict_of (to_byte_strings profile s (length out))) × (out ≡ output_of (to_byte_strings profile s (length out)) out)
+left_bytes : (profile : Profile) (s out : List ℕ) {f : Fault} {p : ℕ} → RefusedWith profile s f p → (refused_at f p ≡ verdict_of (to_byte_strings profile s (length out))) × (out ≡ output_of (to_byte_strings profile s (length out)) out)
 unfolding to_byte_strings output_of
 left_bytes profile s out i = (rw (i.is, i.told), rw i.is)
 
@@ -134,7 +130,7 @@ module _ (profile : Profile) {d : List ℕ} {r : Record} (x : ReadFrom profile d
     result = moved u (contents d r)
 
     pub moved_headed : (out : List ℕ) → head_fits u r ≡ false
-        → (Refused UNWRITABLE 0 ≡ verdict_of (moving profile true result (length out))) × (out ≡ output_of (moving profile true result (length out)) out)
+        → (refused_at UNWRITABLE 0 ≡ verdict_of (moving profile true result (length out))) × (out ≡ output_of (moving profile true result (length out)) out)
     unfolding moving output_of
     moved_headed out h = let w = go u m h in (rw w, rw w)
       where
@@ -155,7 +151,7 @@ module _ (profile : Profile) {d : List ℕ} {r : Record} (x : ReadFrom profile d
 
       module _ {q : Record} (e : q ≡ moved_record u r) {end : ℕ} (counted : end ≡ clipped_length q) where
         pub moved_long : (out : List ℕ) → most < end
-            → (Refused UNWRITABLE 0 ≡ verdict_of (moving profile true result (length out))) × (out ≡ output_of (moving profile true result (length out)) out)
+            → (refused_at UNWRITABLE 0 ≡ verdict_of (moving profile true result (length out))) × (out ≡ output_of (moving profile true result (length out)) out)
         unfolding moving output_of
         moved_long out h =
             let l : most < length (canonical result) = omega (arith, over_length q, length_is, ap written_length e) in
@@ -170,7 +166,7 @@ module _ (profile : Profile) {d : List ℕ} {r : Record} (x : ReadFrom profile d
           is_writable = Valid-writable profile result moved_Valid ∙ le-leb (length (canonical result)) most (omega (arith, end_is))
 
           pub moved_short : (out : List ℕ) → length out < end
-              → (Refused ROOM 0 ≡ verdict_of (moving profile true result (length out))) × (out ≡ output_of (moving profile true result (length out)) out)
+              → (refused_at ROOM 0 ≡ verdict_of (moving profile true result (length out))) × (out ≡ output_of (moving profile true result (length out)) out)
           unfolding moving output_of
           moved_short out h =
               let k : leb (length (canonical result)) (length out) ≡ false = lt-leb (length (canonical result)) (length out) (omega (arith, end_is)) in
@@ -183,14 +179,13 @@ module _ (profile : Profile) {d : List ℕ} {r : Record} (x : ReadFrom profile d
           moved_sized f = f ∙ exact_row q (omega arith)
 
           pub moved_written : (out : List ℕ) → end ≤ length out → {s : Shape} {sizes x : List ℕ} {n : ℕ} → s ≡ shape_of q.header.flags q.link → sizes ≡ sizes_of q
-              → Wrote out 0 (moved_flat u d r q s sizes) (written_length q) x n
-              → (Accepted n ≡ verdict_of (moving profile true result (length out))) × (x ≡ output_of (moving profile true result (length out)) out)
+              → n ≡ length (moved_flat u d r q s sizes) → x ≡ put out 0 (moved_flat u d r q s sizes)
+              → (Ok n ≡ verdict_of (moving profile true result (length out))) × (x ≡ output_of (moving profile true result (length out)) out)
           unfolding moving output_of
-          moved_written out h {s} {sizes} {x} {n} f g w =
+          moved_written out h {s} {sizes} {x} {n} f g v o =
               let k : leb (length (canonical result)) (length out) ≡ true = le-leb (length (canonical result)) (length out) (omega (arith, end_is)) in
               let flat : moved_flat u d r q s sizes ≡ canonical result = rw (f, moved_sized g, e) (sym (ap (λ (c : Contents). canonical (moved u c)) contents_are ∙ moved_put d r u is_wide is_Inside)) in
-              let z = Wrote-whole w in
-              (rw (is_writable, k) (ap Accepted (z.0 ∙ ap length flat)), rw (is_writable, k) (z.1 ∙ ap (put out 0) flat))
+              (rw (is_writable, k) (ap Ok (v ∙ ap length flat)), rw (is_writable, k) (o ∙ ap (put out 0) flat))
 
 -- ---- each part has room where the whole has
 
@@ -198,26 +193,20 @@ module _ (d : List ℕ) (r : Record) (u : Bool) {q : Record} {s : Shape} {sizes 
   pub info_fits : info_there q.header.flags ≡ true → info_to q.link sizes ≡ info_size r q s
   info_fits i = rw (f, g, e) (info_size_lem d r u (rw e at i))
 
-  pub total_fits : written_length q
-      ≡ 76
-      + (cond (items_there q.header.flags) ((in_row r.places 0).len + 4) 0
-      + (cond (info_there q.header.flags) (info_to q.link sizes) 0 + (strings_size u r.places s + ((in_row r.places 15).len + 4))))
-  total_fits = rw (f, g, e) (total_size d r u)
+  pub total_fits : moved_total u r q s sizes ≡ written_length q
+  total_fits = sym (rw (f, g, e) (total_size d r u))
 
-  pub Room-fits : {out : List ℕ} → Going u d out r
-      → Room out 0
-      (76
-      + (cond (items_there q.header.flags) ((in_row r.places 0).len + 4) 0
-      + (cond (info_there q.header.flags) (info_to q.link sizes) 0 + (strings_size u r.places s + ((in_row r.places 15).len + 4)))))
-  Room-fits o =
-      let t = total_fits in
-      let l = ap written_length e in
-      record { room = omega (arith, o.room); few = omega (arith, o.few) }
+  module _ {out : List ℕ} (o : Going u d out r) where
+    pub total_room : moved_total u r q s sizes ≤ length out
+    total_room = let l = ap written_length e in omega (arith, total_fits, o.room)
+
+    pub total_few : moved_total u r q s sizes ≤ most
+    total_few = let l = ap written_length e in omega (arith, total_fits, o.few)
 
 -- ---- the call
 
 module _ (profile : Profile) (u : Bool) (s out : List ℕ) {g : Reading} (e : g ≡ reading profile s) where
-  pub move_left : {f : Fault} {p : ℕ} → g.verdict ≡ Refused f p → (g.verdict ≡ verdict_of (call profile u s (length out))) × (out ≡ output_of (call profile u s (length out)) out)
+  pub move_left : {f : Fault} {p : ℕ} → g.verdict ≡ refused_at f p → (g.verdict ≡ verdict_of (call profile u s (length out))) × (out ≡ output_of (call profile u s (length out)) out)
   move_left {f} {p} q = go u
     where
       i : RefusedWith profile s f p
@@ -227,7 +216,7 @@ module _ (profile : Profile) (u : Bool) (s out : List ℕ) {g : Reading} (e : g 
       go true = (q ∙ (left_unicode profile s out i).0, (left_unicode profile s out i).1)
       go false = (q ∙ (left_bytes profile s out i).0, (left_bytes profile s out i).1)
 
-  module _ {n : ℕ} (q : g.verdict ≡ Accepted n) (bs : Bytes s) where
+  module _ {n : ℕ} (q : g.verdict ≡ Ok n) (bs : Bytes s) where
     pub is_read : ReadFrom profile s g.held
     unfolding Accepts
     is_read = record { bytes = bs; accepted = accepted_whole profile s g.held n (accepted_held profile s e q) }
@@ -242,7 +231,7 @@ module _ (profile : Profile) (u : Bool) (s out : List ℕ) {g : Reading} (e : g 
     maps_are : {b : Bool} → b ≡ maps u (bodies_of s g.held) → b ≡ maps u (contents s g.held)
     maps_are f = f ∙ ap (maps u) (sym (contents_are profile is_read))
 
-    pub move_none : {b : Bool} → b ≡ maps u (bodies_of s g.held) → not b ≡ true → (Refused NOMAP 0 ≡ verdict_of (call profile u s (length out))) × (out ≡ output_of (call profile u s (length out)) out)
+    pub move_none : {b : Bool} → b ≡ maps u (bodies_of s g.held) → not b ≡ true → (refused_at NOMAP 0 ≡ verdict_of (call profile u s (length out))) × (out ≡ output_of (call profile u s (length out)) out)
     unfolding moving output_of
     move_none {b} f t =
         let z : call profile u s (length out) ≡ refused NOMAP nowhere = call_is ∙ rw (sym (maps_are f) ∙ not-true b t) in
@@ -259,7 +248,7 @@ module _ (profile : Profile) (u : Bool) (s out : List ℕ) {g : Reading} (e : g 
         (p ∙ ap verdict_of (sym z), o ∙ ap (λ (y : Outcome (List ℕ)). output_of y out) (sym z))
 
     pub move_headed : maps u (contents s g.held) ≡ true → {b : Bool} → b ≡ head_fits u g.held → not b ≡ true
-        → (Refused UNWRITABLE 0 ≡ verdict_of (call profile u s (length out))) × (out ≡ output_of (call profile u s (length out)) out)
+        → (refused_at UNWRITABLE 0 ≡ verdict_of (call profile u s (length out))) × (out ≡ output_of (call profile u s (length out)) out)
     move_headed m {b} f t = let z = moved_headed profile is_read u m out (sym f ∙ not-true b t) in move_made m z.0 z.1
 
 -- what each of the two calls says of its answer v and its buffer x

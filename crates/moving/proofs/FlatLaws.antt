@@ -7,7 +7,6 @@ use native.Mathlib.Omega.{arith}
 use lib.ListN.{length, get_or}
 use Rattle.format.specs.declared.Place.{Place}
 use Rattle.format.specs.declared.Record.{Record}
-use Rattle.format.specs.declared.Shape.{Shape}
 use Rattle.format.specs.Tests.{no_place}
 use Rattle.format.specs.Presence.{items_there, info_there, strings_unicode}
 use Rattle.format.specs.Bodies.{text_kind, string_kind, local_slot, suffix_slot, local_unicode_slot, suffix_unicode_slot}
@@ -16,7 +15,7 @@ use Rattle.format.specs.Writing.{canonical}
 use Rattle.format.specs.Codepage.{to_units}
 use Rattle.format.specs.Moving.{bodies_from, strings, in_unicode, in_bytes}
 use Rattle.format.specs.Steps.Lengths.{written_body, written_row, written_length}
-use Rattle.format.specs.Steps.Shape.{shape_of, row_as, rows_from}
+use Rattle.format.specs.Steps.Shape.{Shape, shape_of, row_as, rows_from}
 use Rattle.format.specs.Steps.Flat.{row_bytes, slots_bytes, bodies_bytes, info_to, contents_flat}
 use Rattle.format.proofs.Bools.{and_no}
 use Rattle.format.proofs.BodyLaws.{body_length}

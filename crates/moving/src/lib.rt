@@ -3,20 +3,25 @@
 
 pub mod texts;
 
-ghost use Rattle.std.specs.Prelude.{◌≡◌, true, length};
-ghost use Rattle.octets.specs.Steps.Puts.{Wrote};
+ghost use Rattle.std.specs.Prelude.{◌≡◌, true, ◌≤◌, length};
+ghost use Rattle.octets.specs.Parts.{put};
+ghost use Rattle.copies.specs.Steps.Writes.{HasRoom, Writes};
+ghost use Rattle.format.specs.Presence.{info_there};
 ghost use Rattle.format.specs.Numbers.{Numbered};
-ghost use Rattle.format.specs.Shortcut.{verdict_of};
+ghost use Rattle.format.specs.Shortcut.{most, verdict_of};
 ghost use Rattle.format.specs.Contents.{contents};
 ghost use Rattle.format.specs.Writing.{output_of};
 ghost use Rattle.format.specs.Moving.{moving, to_unicode, to_byte_strings, to_unicode_answer, to_unicode_output, to_bytes_answer, to_bytes_output, MovesToUnicode, MovesToBytes};
-ghost use Rattle.format.specs.Steps.Lengths.{written_row, written_length};
+ghost use Rattle.format.specs.Steps.Lengths.{written_row};
 ghost use Rattle.format.specs.Steps.Shape.{shape_of};
-ghost use Rattle.moves.specs.Steps.Moves.{maps, head_fits, moved, call, moved_record, Going, ReadFrom};
-ghost use Rattle.moving.specs.Steps.Pieces.{moved_flat};
+ghost use Rattle.format.specs.Steps.Flat.{info_to};
+ghost use Rattle.moves.specs.Steps.Moves.{maps, head_fits, moved, call, moved_record, Inside, Known, Going, ReadFrom};
+ghost use Rattle.moving.specs.Steps.Pieces.{info_size, moved_total, moved_flat};
 
-use crate::texts::{put_info, put_strings};
-use format::{Fault, Place, Profile, Record, Shape, Verdict};
+use crate::texts::{Moved, put_info, put_strings};
+use canonical::texts::body;
+use copies::output::Output;
+use format::{Fault, Profile, Record, Refused, Verdict};
 use moves::records;
 use moves::tests::maps;
 
@@ -26,38 +31,50 @@ use moves::tests::maps;
 fn head_fits(unicode: bool, r: Record) -> bool
     ensures { result ≡ head_fits unicode r }
 {
-    let row = r.places;
-    let further = row[format::FURTHER];
-    unicode | (further.len == 0)
+    unicode || r.places[format::FURTHER].len == 0
 }
 
 // ---- the result
 
-// The sections in file order. `q` has the moved lengths.
-fn put_moved(
-    out: &mut [u8],
-    unicode: bool,
-    r: Record,
-    q: Record,
-    s: Shape,
-    sizes: [u32; 17],
-    d: &[u8],
-) -> usize
-    requires going { Going unicode d.now out.old r }
-    requires lengths { q ≡ moved_record unicode r }
-    requires shape { s ≡ shape_of q.header.flags q.link }
-    requires sized { sizes ≡ written_row q }
-    ensures written { Wrote out.old 0
-        (moved_flat unicode d.now r q s sizes)
-        (written_length q) out.new result }
+// The sections in file order.
+fn put_sections(w: &mut Output, unicode: bool, m: &Moved)
+    requires known { Known unicode m.now.bodies.now m.now.held.places }
+    requires fits { info_there m.now.moved.header.flags ≡ true
+        → info_to m.now.moved.link m.now.sizes ≡ info_size m.now.held m.now.moved m.now.shape }
+    requires room { HasRoom w.old (moved_total unicode m.now.held m.now.moved m.now.shape m.now.sizes) }
+    requires few { moved_total unicode m.now.held m.now.moved m.now.shape m.now.sizes ≤ most }
+    ensures { Writes w.old w.new
+        (moved_flat unicode m.now.bodies.now m.now.held m.now.moved m.now.shape m.now.sizes)
+        (moved_total unicode m.now.held m.now.moved m.now.shape m.now.sizes) }
 {
-    let flags = q.header.flags;
-    let row = r.places;
-    let p = canonical::put_header(out, 0, q.header);
-    let p = canonical::put_items_if(format::items_there(flags), out, p, d, row[format::ITEMS]);
-    let p = put_info(format::info_there(flags), out, p, r, q, s, sizes, d);
-    let p = put_strings(out, p, row, s, d, unicode);
-    canonical::put_blocks(out, p, d, row[format::BLOCKS])
+    let header = m.moved.header;
+    let row = m.held.places;
+    canonical::put_header(w, header);
+    canonical::put_items_if(
+        w,
+        format::items_there(header.flags),
+        m.bodies,
+        row[format::ITEMS],
+    );
+    put_info(w, format::info_there(header.flags), m);
+    put_strings(w, unicode, m);
+    canonical::put_blocks(w, body(m.bodies, row[format::BLOCKS]));
+}
+
+// From the buffer's start on. Answers the shortcut's length.
+fn put_moved(out: &mut [u8], unicode: bool, m: &Moved) -> usize
+    requires going { Going unicode m.now.bodies.now out.old m.now.held }
+    requires lengths { m.now.moved ≡ moved_record unicode m.now.held }
+    requires shape { m.now.shape ≡ shape_of m.now.moved.header.flags m.now.moved.link }
+    requires sized { m.now.sizes ≡ written_row m.now.moved }
+    ensures value { result ≡ length
+        (moved_flat unicode m.now.bodies.now m.now.held m.now.moved m.now.shape m.now.sizes) }
+    ensures out_after { out.new ≡ put out.old 0
+        (moved_flat unicode m.now.bodies.now m.now.held m.now.moved m.now.shape m.now.sizes) }
+{
+    let mut w = Output::new(out);
+    put_sections(&mut w, unicode, m);
+    w.at()
 }
 
 // The length alone decides whether it can be written, since all that was read could be and the head fits.
@@ -73,12 +90,19 @@ fn write_moved(unicode: bool, r: Record, d: &[u8], out: &mut [u8], profile: Prof
     let sizes = sizes::sizes_of(q, s);
     let end = sizes::end_of(q, sizes);
     if 65536 < end {
-        return Verdict::Refused(Fault::Unwritable, 0);
+        return Err(Refused::at(Fault::Unwritable, 0));
     }
     if out.len() < end as usize {
-        return Verdict::Refused(Fault::Room, 0);
+        return Err(Refused::at(Fault::Room, 0));
     }
-    Verdict::Accepted(put_moved(out, unicode, r, q, s, sizes, d))
+    let m = Moved {
+        held: r,
+        moved: q,
+        shape: s,
+        sizes,
+        bodies: d,
+    };
+    Ok(put_moved(out, unicode, &m))
 }
 
 // ---- the calls
@@ -89,15 +113,15 @@ fn move_to(unicode: bool, s: &[u8], out: &mut [u8], profile: Profile) -> Verdict
 {
     let g = reader::read(s, profile);
     let v = g.verdict;
-    let Verdict::Accepted(_) = v else {
+    let Ok(_) = v else {
         return v;
     };
     let r = g.held;
     if !maps(s, r, unicode) {
-        return Verdict::Refused(Fault::NoMap, 0);
+        return Err(Refused::at(Fault::NoMap, 0));
     }
     if !head_fits(unicode, r) {
-        return Verdict::Refused(Fault::Unwritable, 0);
+        return Err(Refused::at(Fault::Unwritable, 0));
     }
     write_moved(unicode, r, s, out, profile)
 }

@@ -110,7 +110,7 @@ number_drop w p s i = rw drop-drop
 
 -- ---- a wider number is two narrower ones
 
-number-append : (l r : List ℕ) → number (l ++ r) ≡ number l + 256 ^ length l * number r
+pub number-append : (l r : List ℕ) → number (l ++ r) ≡ number l + 256 ^ length l * number r
 unfolding number
 number-append [] r = omega arith
 number-append (a ∷ l) r = rw (number-append l r, pow-succ' 256 (length l)) (omega arith)

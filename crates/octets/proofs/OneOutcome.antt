@@ -29,10 +29,20 @@ use Rattle.octets.proofs.put_u32
 use Rattle.octets.specs.contracts.put_u32 as put_u32_contract
 use Rattle.octets.proofs.put_u64
 use Rattle.octets.specs.contracts.put_u64 as put_u64_contract
-use Rattle.octets.proofs.zeros.skip_bytes
-use Rattle.octets.specs.contracts.zeros.skip_bytes as skip_bytes_contract
-use Rattle.octets.proofs.zeros.skip_units
-use Rattle.octets.specs.contracts.zeros.skip_units as skip_units_contract
+use denote.RattleType.{RattleType}
+use denote.Param.Laws.{Laws}
+use mir.Syntax.{Dict}
+use Rattle.octets.specs.declared.zeros.Character.{Ghosts}
+use Rattle.octets.proofs.zeros.sixteen_at
+use Rattle.octets.specs.contracts.zeros.sixteen_at as sixteen_at_contract
+use Rattle.octets.specs.contracts.zeros.Byte.{the_row as byte}
+use Rattle.octets.specs.contracts.zeros.ByteCharacter.TheImpl.{ghosts as byte_ghosts, dict as byte_dict}
+use Rattle.octets.specs.contracts.zeros.Unit.{the_row as unit}
+use Rattle.octets.specs.contracts.zeros.UnitCharacter.TheImpl.{ghosts as unit_ghosts, dict as unit_dict}
+use Rattle.octets.proofs.zeros.Byte.TheLaws.{the_row_laws as byte_laws}
+use Rattle.octets.proofs.zeros.Unit.TheLaws.{the_row_laws as unit_laws}
+use Rattle.octets.proofs.zeros.first_zero
+use Rattle.octets.specs.contracts.zeros.first_zero as first_zero_contract
 
 pub u16_at_one_outcome : OneAnswer u16_at_contract.ended u16_at.Reads.Post
 u16_at_one_outcome κs a r q s t p o = p ∙ sym o
@@ -47,19 +57,19 @@ pub cursor_new_one_outcome : OneAnswer cursor_new_contract.ended cursor_new.Read
 cursor_new_one_outcome κs a r q s t p o = p ∙ sym o
 
 pub cursor_take_u16_one_outcome : OneAnswer cursor_take_u16_contract.ended cursor_take_u16.Reads.Post
-cursor_take_u16_one_outcome κs a r q s t p o = p.is ∙ sym o.is
+cursor_take_u16_one_outcome κs a r q s t p o = p ∙ sym o
 
 pub cursor_take_u32_one_outcome : OneAnswer cursor_take_u32_contract.ended cursor_take_u32.Reads.Post
-cursor_take_u32_one_outcome κs a r q s t p o = p.is ∙ sym o.is
+cursor_take_u32_one_outcome κs a r q s t p o = p ∙ sym o
 
 pub cursor_skip_one_outcome : OneAnswer cursor_skip_contract.ended cursor_skip.Reads.Post
-cursor_skip_one_outcome κs a r q s t p o = p.is ∙ sym o.is
+cursor_skip_one_outcome κs a r q s t p o = p ∙ sym o
 
 pub zero_at_one_outcome : OneAnswer zero_at_contract.ended zero_at.Reads.Post
-zero_at_one_outcome κs a r q s t p o = p.is ∙ sym o.is
+zero_at_one_outcome κs a r q s t p o = p.0 ∙ sym o.0
 
 pub zero_from_one_outcome : OneAnswer zero_from_contract.ended zero_from.Reads.Post
-zero_from_one_outcome κs a r q s t p o = p.is ∙ sym o.is
+zero_from_one_outcome κs a r q s t p o = p.0 ∙ sym o.0
 
 pub has_zero_one_outcome : OneAnswer has_zero_contract.ended has_zero.Reads.Post
 has_zero_one_outcome κs a r q s t p o = p ∙ sym o
@@ -76,8 +86,17 @@ put_u32_one_outcome κs a r q s t p o = (refl, p ∙ sym o)
 pub put_u64_one_outcome : OneOutcome put_u64_contract.ended (λ κs s. s.0.now) put_u64.Reads.Post
 put_u64_one_outcome κs a r q s t p o = (refl, p ∙ sym o)
 
-pub skip_bytes_one_outcome : OneAnswer skip_bytes_contract.ended skip_bytes.Reads.Post
-skip_bytes_one_outcome κs a r q s t p o = p ∙ sym o
+-- of each kind of character C
+module _ (C : RattleType) (L : Laws C) (G : Ghosts C.Denot) (D : Dict) where
+  pub sixteen_at_one_outcome : OneAnswer (sixteen_at_contract.ended C G D) (sixteen_at.Reads.Post C L G D)
+  sixteen_at_one_outcome κs a r q s t p o = p ∙ sym o
 
-pub skip_units_one_outcome : OneAnswer skip_units_contract.ended skip_units.Reads.Post
-skip_units_one_outcome κs a r q s t p o = p ∙ sym o
+  pub first_zero_one_outcome : OneAnswer (first_zero_contract.ended C G D) (first_zero.Reads.Post C L G D)
+  first_zero_one_outcome κs a r q s t p o = p ∙ sym o
+
+-- of bytes, and of units
+pub skip_bytes_one_outcome : OneAnswer (sixteen_at_contract.ended byte byte_ghosts byte_dict) (sixteen_at.Reads.Post byte byte_laws byte_ghosts byte_dict)
+skip_bytes_one_outcome = sixteen_at_one_outcome byte byte_laws byte_ghosts byte_dict
+
+pub skip_units_one_outcome : OneAnswer (sixteen_at_contract.ended unit unit_ghosts unit_dict) (sixteen_at.Reads.Post unit unit_laws unit_ghosts unit_dict)
+skip_units_one_outcome = sixteen_at_one_outcome unit unit_laws unit_ghosts unit_dict

@@ -1,17 +1,17 @@
 -- Parts of a list, and puts into a buffer: puts end to end are one put.
-use mathlib.Core.Path.{◌≡◌, refl, sym, ap, ◌∙◌}
+use mathlib.Core.Path.{◌≡◌, sym, ◌∙◌}
 use mathlib.Core.List.{List, [], ◌∷◌, ◌++◌, append_assoc}
-use Prim.Native.Nat.{ℕ, zero, suc, ◌+◌, ◌*◌, ◌/◌, ◌%◌, ◌^◌, ◌≤◌, ◌<◌}
+use Prim.Native.Nat.{ℕ, suc, ◌+◌, ◌-◌, ◌≤◌, ◌<◌}
 use native.Mathlib.Omega.{arith}
-use native.Mathlib.Nat.{zero-add, suc-add, zero-lt-suc, pow-succ', mul_assoc, mod-add-div, mod-eq_of_lt, div-div-eq-div-mul, add-mul-div_left, add-mul-mod_self_left}
+use native.Mathlib.Nat.{mod-eq_of_lt}
 use native.Mathlib.Numerals.{add-one}
 use lib.ListN.{length, take, drop, get_or, set, length-append, length-drop}
 use lib.Seq.{paste, paste-zero, paste-suc, take-length, length-take-le, take_at, drop-append-add, drop-drop, set_split}
 use borrow.Author.Tests.{le-leb, lt-leb}
+use borrow.Rule.Slice.PartMut.{put_mid, Post-is}
 use Rattle.octets.specs.Numbers.{little}
 use Rattle.octets.specs.Parts.{put}
 use Rattle.octets.specs.Steps.Puts.{part}
-use Rattle.octets.proofs.NumberLaws.{length-little}
 
 -- ---- parts
 
@@ -62,28 +62,7 @@ put-put d i a b {k} e h =
     let g : drop (k + length b) (p ++ r) ≡ drop (i + length (a ++ b)) d = rw (← l, drop-append-add p r (length b), drop-drop (length b) (i + length a) d, q) in
     rw (s, f, g, append_assoc (take i d) a (b ++ drop (i + length (a ++ b)) d), append_assoc a b (drop (i + length (a ++ b)) d))
 
--- ---- a number's bytes
-
-pub little_split : (a b n : ℕ) → little (a + b) n ≡ little a n ++ little b (n / 256 ^ a)
-unfolding little
-little_split zero b n = rw (zero-add b) (ap (little b) (omega arith))
-little_split (suc a) b n =
-    let e : n / 256 / 256 ^ a ≡ n / 256 ^ suc a = div-div-eq-div-mul n 256 (256 ^ a) ∙ ap (λ (m : ℕ). n / m) (sym (pow-succ' 256 a)) in
-    rw (suc-add a b) (ap (λ (l : List ℕ). n % 256 ∷ l) (little_split a b (n / 256) ∙ rw e))
-
--- what stands above the w lowest bytes does not change them
-little_low : (w x y : ℕ) → little w (x + 256 ^ w * y) ≡ little w x
-unfolding little
-little_low zero x y = refl
-little_low (suc w) x y =
-    let e : 256 ^ suc w * y ≡ 256 * (256 ^ w * y) = rw (pow-succ' 256 w) (mul_assoc 256 (256 ^ w) y) in
-    let q : (x + 256 * (256 ^ w * y)) / 256 ≡ x / 256 + 256 ^ w * y = add-mul-div_left x (256 ^ w * y) (zero-lt-suc 255) in
-    rw (e, add-mul-mod_self_left x 256 (256 ^ w * y), q, little_low w (x / 256) y)
-
-pub little-mod : (w n : ℕ) → little w (n % 256 ^ w) ≡ little w n
-little-mod w n = sym (little_low w (n % 256 ^ w) (n / 256 ^ w)) ∙ ap (little w) (mod-add-div n (256 ^ w))
-
--- ---- a number is put byte by byte, and half by half
+-- ---- one byte is put, and many at once
 
 pub put_one : (d : List ℕ) (i x : ℕ) → i < length d → set d i x ≡ put d i (x ∷ [])
 unfolding put
@@ -93,9 +72,7 @@ pub put_byte : (d : List ℕ) (i x : ℕ) → i < length d → x < 256 → set d
 unfolding little
 put_byte d i x h k = rw (mod-eq_of_lt k) (put_one d i x h)
 
-pub put_halves : (w : ℕ) (d : List ℕ) (i n : ℕ) {x y : List ℕ} → i + (w + w) ≤ length d → x ≡ put d i (little w (n % 256 ^ w)) → y ≡ put x (i + w) (little w (n / 256 ^ w))
-    → y ≡ put d i (little (w + w) n)
-put_halves w d i n h p q =
-    let l : i + w ≡ i + length (little w n) = rw (length-little w n) in
-    let m : i + w + length (little w (n / 256 ^ w)) ≤ length d = rw (length-little w (n / 256 ^ w)) (omega arith) in
-    q ∙ rw (p, little-mod w n) (put-put d i (little w n) (little w (n / 256 ^ w)) l m) ∙ ap (put d i) (sym (little_split w w n))
+-- the w elements of the buffer from k on are written over
+pub put_over_part : (d : List ℕ) (k w : ℕ) {x y : List ℕ} → length y ≡ w → x ≡ y → put_mid k (k + w - k) d x ≡ put d k y
+unfolding put
+put_over_part d k w l e = rw (Post-is k (k + w) d (omega arith), e, ← l)

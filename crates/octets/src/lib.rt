@@ -3,15 +3,15 @@
 
 mod zeros;
 
-ghost use Rattle.std.specs.Prelude.{◌≡◌, true, false, ◌+◌, ◌≤◌, ◌<◌, length};
+ghost use Rattle.std.specs.Prelude.{◌≡◌, true, false, ◌+◌, ◌≤◌, ◌<◌, length, take, drop, MatchOption, IfSome};
 ghost use Rattle.octets.specs.Numbers.{u16_at, u32_at, u64_at, little};
-ghost use Rattle.octets.specs.Characters.{characters, has_zero};
-ghost use Rattle.octets.specs.Steps.Scans.{zero_place, PlaceAnswer, ScanAnswer};
-ghost use Rattle.octets.specs.Steps.Cursors.{TakeAnswer, SkipAnswer};
+ghost use Rattle.octets.specs.Characters.{bytes_of, characters, has_zero};
+ghost use Rattle.octets.specs.Steps.Scans.{zero_at, zero_from, FirstZero};
+ghost use Rattle.octets.specs.Steps.Cursors.{taken, skipped};
 ghost use Rattle.octets.specs.Parts.{put};
 ghost use Rattle.octets.specs.Steps.Puts.{part};
 
-use crate::zeros::{skip_bytes, skip_units};
+use crate::zeros::{Byte, Unit, first_zero};
 
 // Where reading stands. It goes by value and comes back with each answer.
 #[derive(Clone, Copy)]
@@ -19,64 +19,46 @@ pub struct Cursor {
     pub at: usize,
 }
 
-// A number and the next cursor; or the bytes end before the number does, and the cursor stays.
-#[derive(Clone, Copy)]
-pub enum Took {
-    Number(u32, Cursor),
-    Cut(Cursor),
-}
-
-// The next cursor; or the bytes end before it, and the cursor stays.
-#[derive(Clone, Copy)]
-pub enum Skipped {
-    To(Cursor),
-    Cut(Cursor),
-}
-
-// How many characters stand before the first zero one; or none is zero.
-#[derive(Clone, Copy)]
-pub enum Zero {
-    After(usize),
-    Nowhere,
-}
-
-// The bound is in the contract, so that a caller's sum is seen to fit.
-fn wide(x: u8) -> u16
-    ensures { (result ≡ x) × (result ≤ 255) }
+// W bytes, a number that the compiler knows, so that it makes one load of them.
+fn bytes_at<const W: usize>(s: &[u8], i: usize) -> [u8; W]
+    requires { i + W ≤ length s.now }
+    ensures { result ≡ take W (drop i s.now) }
 {
-    x as u16
+    *s[i..i + W].as_array().unwrap()
 }
 
+// A function for each width: a trait of widths would have the same three bodies.
 pub fn u16_at(s: &[u8], i: usize) -> u16
     requires { i + 2 ≤ length s.now }
     ensures { result ≡ u16_at s.now i }
 {
-    wide(s[i]) + 256 * wide(s[i + 1])
+    u16::from_le_bytes(bytes_at::<2>(s, i))
 }
 
-// A wider number is its two halves, the lower first.
 pub fn u32_at(s: &[u8], i: usize) -> u32
     requires { i + 4 ≤ length s.now }
     ensures { result ≡ u32_at s.now i }
 {
-    (u16_at(s, i) as u32) + 65536 * (u16_at(s, i + 2) as u32)
+    u32::from_le_bytes(bytes_at::<4>(s, i))
 }
 
 pub fn u64_at(s: &[u8], i: usize) -> u64
     requires { i + 8 ≤ length s.now }
     ensures { result ≡ u64_at s.now i }
 {
-    (u32_at(s, i) as u64) + 4294967296 * (u32_at(s, i + 4) as u64)
+    u64::from_le_bytes(bytes_at::<8>(s, i))
 }
 
-// By a difference, since at + n could wrap.
-fn stands(s: &[u8], at: usize, n: usize) -> bool
-    ensures { (result ≡ true → at + n ≤ length s.now) × (result ≡ false → length s.now < at + n) }
+// The n bytes from `at` on, where they stand. No sum is made that could wrap.
+// The last place where they can is looked at and not what the library's `get` cuts, so that a caller's own test of the length takes this one in.
+fn stands(s: &[u8], at: usize, n: usize) -> Option<&[u8]>
+    ensures { MatchOption result (length s.now < at + n) (λ p. (at + n ≤ length s.now) × (p.now ≡ take n (drop at s.now))) }
 {
-    if s.len() < n {
-        return false;
+    let last = s.len().checked_sub(n)?;
+    if last < at {
+        return None;
     }
-    at <= s.len() - n
+    Some(&s[at..at + n])
 }
 
 impl Cursor {
@@ -86,168 +68,109 @@ impl Cursor {
         Cursor { at }
     }
 
-    pub fn take_u16(self, s: &[u8]) -> Took
-        ensures { TakeAnswer 2 s.now self.at result }
+    // Past n bytes, where they stand.
+    fn past(self, s: &[u8], n: usize) -> Option<Cursor>
+        ensures { MatchOption result (length s.now < self.at + n) (λ c. (self.at + n ≤ length s.now) × (c.at ≡ self.at + n)) }
     {
-        let at = self.at;
-        if stands(s, at, 2) {
-            Took::Number(u16_at(s, at) as u32, Cursor { at: at + 2 })
-        } else {
-            Took::Cut(Cursor { at })
-        }
+        stands(s, self.at, n)?;
+        Some(Cursor { at: self.at + n })
     }
 
-    pub fn take_u32(self, s: &[u8]) -> Took
-        ensures { TakeAnswer 4 s.now self.at result }
+    pub fn take_u16(self, s: &[u8]) -> Result<(u32, Cursor), Cursor>
+        ensures { result ≡ taken 2 s.now self.at }
     {
-        let at = self.at;
-        if stands(s, at, 4) {
-            Took::Number(u32_at(s, at), Cursor { at: at + 4 })
-        } else {
-            Took::Cut(Cursor { at })
-        }
+        let Some(next) = self.past(s, 2) else {
+            return Err(self);
+        };
+        Ok((u16_at(s, self.at) as u32, next))
     }
 
-    pub fn skip(self, s: &[u8], n: usize) -> Skipped
-        ensures { SkipAnswer s.now self.at n result }
+    pub fn take_u32(self, s: &[u8]) -> Result<(u32, Cursor), Cursor>
+        ensures { result ≡ taken 4 s.now self.at }
     {
-        let at = self.at;
-        if stands(s, at, n) {
-            Skipped::To(Cursor { at: at + n })
-        } else {
-            Skipped::Cut(Cursor { at })
-        }
+        let Some(next) = self.past(s, 4) else {
+            return Err(self);
+        };
+        Ok((u32_at(s, self.at), next))
+    }
+
+    pub fn skip(self, s: &[u8], n: usize) -> Result<Cursor, Cursor>
+        ensures { result ≡ skipped s.now self.at n }
+    {
+        self.past(s, n).ok_or(self)
     }
 }
 
-// Byte by byte, where a turn of four would pass the end.
-fn zero_rest(s: &[u8], start: usize) -> usize
-    ensures { result ≡ zero_place false s.now start }
+// Where the first zero character from `from` on stands. Units are counted from the place itself. The kind is a flag of the file.
+// Merged into its callers, which mostly know the kind; the two scans are not.
+#[inline(always)]
+pub fn zero_at(unicode: bool, s: &[u8], from: usize) -> Option<usize>
+    ensures is { result ≡ zero_at unicode s.now from }
+    ensures found { MatchOption result (has_zero (characters unicode (drop from s.now)) ≡ false) (FirstZero unicode s.now from) }
 {
-    let mut i = start;
-    while i < s.len() {
-        if s[i] == 0 {
-            return i;
-        }
-        i += 1;
+    if s.len() < from {
+        return None;
     }
-    s.len()
-}
-
-// Where the first zero byte from `from` on stands. Near it bytes are looked at four in a turn: two instructions a byte, and
-// three for the turn.
-fn zero_byte(s: &[u8], from: usize) -> usize
-    ensures { result ≡ zero_place false s.now from }
-{
-    let mut i = skip_bytes(s, from);
-    if s.len() < 4 {
-        return zero_rest(s, i);
-    }
-    // The last place where a turn can start: up to it i + 4 cannot wrap.
-    let last = s.len() - 4;
-    while i <= last {
-        if s[i] == 0 {
-            return i;
-        }
-        if s[i + 1] == 0 {
-            return i + 1;
-        }
-        if s[i + 2] == 0 {
-            return i + 2;
-        }
-        if s[i + 3] == 0 {
-            return i + 3;
-        }
-        i += 4;
-    }
-    zero_rest(s, i)
-}
-
-// The same of 16-bit units, counted from the place itself, at any alignment.
-fn zero_unit(s: &[u8], from: usize) -> usize
-    ensures { result ≡ zero_place true s.now from }
-{
-    if s.len() < 2 {
-        return s.len();
-    }
-    // The last place where a unit can start: up to it i + 2 cannot wrap.
-    let last = s.len() - 2;
-    let mut i = skip_units(s, from);
-    while i <= last {
-        if u16_at(s, i) == 0 {
-            return i;
-        }
-        i += 2;
-    }
-    s.len()
-}
-
-// Where the first zero character from `from` on stands; the length where there is none.
-pub fn zero_at(unicode: bool, s: &[u8], from: usize) -> usize
-    ensures { PlaceAnswer unicode s.now from result }
-{
+    let t = &s[from..];
     if unicode {
-        zero_unit(s, from)
-    } else {
-        zero_byte(s, from)
+        return Some(from + 2 * first_zero::<Unit>(t)?);
     }
+    Some(from + first_zero::<Byte>(t)?)
 }
 
 // How many characters stand before it.
-pub fn zero_from(unicode: bool, s: &[u8], from: usize) -> Zero
-    ensures { ScanAnswer unicode s.now from result }
+pub fn zero_from(unicode: bool, s: &[u8], from: usize) -> Option<usize>
+    ensures is { result ≡ zero_from unicode s.now from }
+    ensures inside { IfSome result (λ n. from + bytes_of unicode n ≤ length s.now) }
 {
-    let p = zero_at(unicode, s, from);
-    if p == s.len() {
-        return Zero::Nowhere;
-    }
+    let p = zero_at(unicode, s, from)?;
     if unicode {
-        return Zero::After((p - from) / 2);
+        return Some((p - from) / 2);
     }
-    Zero::After(p - from)
+    Some(p - from)
 }
 
 pub fn has_zero(unicode: bool, s: &[u8]) -> bool
     ensures { result ≡ has_zero (characters unicode s.now) }
 {
-    match zero_from(unicode, s, 0) {
-        Zero::After(_) => true,
-        Zero::Nowhere => false,
-    }
+    zero_at(unicode, s, 0).is_some()
 }
 
 // The empty part where the bytes do not stand there, so that no caller has to test first.
+#[tactic(auto, unfolding(crate::specs::Steps::Puts::part))]
 pub fn part(s: &[u8], at: usize, n: usize) -> &[u8]
     ensures { result.now ≡ part s.now at n }
 {
-    if stands(s, at, n) {
-        let end = at + n;
-        return &s[at..end];
+    match stands(s, at, n) {
+        Some(p) => p,
+        None => &s[..0],
     }
-    &s[..0]
+}
+
+fn put_array<const W: usize>(out: &mut [u8], at: usize, bytes: [u8; W])
+    requires { at + W ≤ length out.old }
+    ensures { out.new ≡ put out.old at bytes.entry }
+{
+    out[at..at + W].copy_from_slice(&bytes);
 }
 
 pub fn put_u16(out: &mut [u8], at: usize, n: u16)
     requires { at + 2 ≤ length out.old }
     ensures { out.new ≡ put out.old at (little 2 n) }
 {
-    out[at] = (n % 256) as u8;
-    out[at + 1] = (n / 256) as u8;
+    put_array::<2>(out, at, n.to_le_bytes());
 }
 
-// A wider number is put as its two halves, the lower first.
 pub fn put_u32(out: &mut [u8], at: usize, n: u32)
     requires { at + 4 ≤ length out.old }
     ensures { out.new ≡ put out.old at (little 4 n) }
 {
-    put_u16(out, at, (n % 65536) as u16);
-    put_u16(out, at + 2, (n / 65536) as u16);
+    put_array::<4>(out, at, n.to_le_bytes());
 }
 
 pub fn put_u64(out: &mut [u8], at: usize, n: u64)
     requires { at + 8 ≤ length out.old }
     ensures { out.new ≡ put out.old at (little 8 n) }
 {
-    put_u32(out, at, (n % 4294967296) as u32);
-    put_u32(out, at + 4, (n / 4294967296) as u32);
+    put_array::<8>(out, at, n.to_le_bytes());
 }

@@ -15,8 +15,6 @@ use Rattle.format.specs.declared.Profile.{Profile}
 use Rattle.format.specs.declared.Record.{Record}
 use Rattle.format.specs.declared.Fault.{Fault}
 use Rattle.format.specs.declared.Fault.TheVariants.{Place as PLACE, Unwritable as UNWRITABLE, Room as ROOM}
-use Rattle.format.specs.declared.Verdict.{Verdict}
-use Rattle.format.specs.declared.Verdict.TheVariants.{Accepted, Refused}
 use Rattle.format.specs.Tests.{got, refused}
 use Rattle.format.specs.Numbers.{Numbered}
 use Rattle.format.specs.Shortcut.{most}
@@ -35,6 +33,8 @@ use Rattle.writer.proofs.Laws.{Leaves, leaving_ends}
 use Rattle.pathing.specs.Steps.Places.{block_place, path_fits, Found}
 use Rattle.pathing.proofs.PutLaws.{length_over, over_part}
 use Rattle.pathing.proofs.WalkLaws.{put_in}
+use Rattle.format.specs.Verdicts.{Verdict, refused_at}
+use Rattle.std.specs.Prelude.{Ok}
 
 -- three tests, of which one fails
 one_fails : {A : Type 0} (a b c : Bool) (x y : A) → (a && b && c) ≡ false → cond a (cond b (cond c x y) y) y ≡ y
@@ -78,14 +78,14 @@ module _ (profile : Profile) (r : Record) (d : List ℕ) (signature : ℕ) (text
   ended (fits, (bytes, (narrow, wide))) (p, q) =
       (p, (q, (numbered (path_writing profile r d signature text unicode (length out)) p, rw (p, q) (path_ends profile r d signature text unicode fits bytes narrow wide out))))
 
-  path_outside : placed (length d) r ≡ false → Told (Refused PLACE 0) out
+  path_outside : placed (length d) r ≡ false → Told (refused_at PLACE 0) out
   unfolding path_writing path_answer path_output output_of
   path_outside t =
       let z : path_writing profile r d signature text unicode (length out) ≡ refused PLACE nowhere = rw t in
       (rw z, rw z)
 
   module _ (inside : placed (length d) r ≡ true) where
-    path_unfit : path_fits signature text unicode ≡ false → Told (Refused UNWRITABLE 0) out
+    path_unfit : path_fits signature text unicode ≡ false → Told (refused_at UNWRITABLE 0) out
     unfolding path_writing path_answer path_output output_of path_fits
     path_unfit t =
         let z : path_writing profile r d signature text unicode (length out) ≡ refused UNWRITABLE nowhere
@@ -105,7 +105,7 @@ module _ (profile : Profile) (r : Record) (d : List ℕ) (signature : ℕ) (text
       unfolding path_fits
       widened = (and-true (is_path signature && path_text false text) (path_text true unicode) fit).1
 
-      path_unwritable : writable profile old ≡ false → Told (Refused UNWRITABLE 0) out
+      path_unwritable : writable profile old ≡ false → Told (refused_at UNWRITABLE 0) out
       unfolding path_writing path_answer path_output output_of
       path_unwritable t =
           let z : path_writing profile r d signature text unicode (length out) ≡ refused UNWRITABLE nowhere
@@ -150,7 +150,7 @@ module _ (profile : Profile) (r : Record) (d : List ℕ) (signature : ℕ) (text
         decides : writable profile new ≡ leb (length (canonical new)) most
         decides = length_decides profile r d path can
 
-        path_long : most < length (canonical old) + (at + 788 - length x) → Told (Refused UNWRITABLE 0) out
+        path_long : most < length (canonical old) + (at + 788 - length x) → Told (refused_at UNWRITABLE 0) out
         unfolding path_writing path_answer path_output output_of
         path_long h =
             let no : writable profile new ≡ false = decides ∙ lt-leb (length (canonical new)) most (omega (arith, total_is)) in
@@ -162,7 +162,7 @@ module _ (profile : Profile) (r : Record) (d : List ℕ) (signature : ℕ) (text
           could : writable profile new ≡ true
           could = decides ∙ le-leb (length (canonical new)) most (omega (arith, total_is))
 
-          path_room : length out < length (canonical old) + (at + 788 - length x) → Told (Refused ROOM 0) out
+          path_room : length out < length (canonical old) + (at + 788 - length x) → Told (refused_at ROOM 0) out
           unfolding path_writing path_answer path_output output_of
           path_room h =
               let no : leb (length (canonical new)) (length out) ≡ false = lt-leb (length (canonical new)) (length out) (omega (arith, total_is)) in
@@ -171,7 +171,7 @@ module _ (profile : Profile) (r : Record) (d : List ℕ) (signature : ℕ) (text
               (rw z, rw z)
 
           path_put : length (canonical old) + (at + 788 - length x) ≤ length out → {n more : ℕ} → n ≡ length (canonical old) + more → more ≡ at + 788 - length x
-              → {b y z : List ℕ} → y ≡ put out 0 (canonical old) → b ≡ block → z ≡ put (put y (n - more - 4 - length x + at) b) (n - 4) (little 4 0) → Told (Accepted n) z
+              → {b y z : List ℕ} → y ≡ put out 0 (canonical old) → b ≡ block → z ≡ put (put y (n - more - 4 - length x + at) b) (n - 4) (little 4 0) → Told (Ok n) z
           unfolding path_writing path_answer path_output output_of
           path_put h {n} {more} sum m e f g =
               let yes : leb (length (canonical new)) (length out) ≡ true = le-leb (length (canonical new)) (length out) (omega (arith, total_is)) in
@@ -180,7 +180,7 @@ module _ (profile : Profile) (r : Record) (d : List ℕ) (signature : ℕ) (text
               let k : n ≡ length (canonical new) = omega (arith, sum, m, total_is) in
               let p : n - more - 4 - length x + at ≡ length (front profile r d) + at = omega (arith, sum, front_is) in
               let q : n - 4 ≡ length (front profile r d) + length (put (body r d) at block) = omega (arith, sum, m, front_is, body_after) in
-              (rw z (ap Accepted k), rw z (g ∙ rw (e, f, p, q, before_blocks profile r d, written) (over_part out (front profile r d) (body r d) (little 4 0) block at in_body)))
+              (rw z (ap Ok k), rw z (g ∙ rw (e, f, p, q, before_blocks profile r d, written) (over_part out (front profile r d) (body r d) (little 4 0) block at in_body)))
 
   -- ---- the ways out
 
@@ -201,9 +201,9 @@ module _ (profile : Profile) (r : Record) (d : List ℕ) (signature : ℕ) (text
         go true a b = f (sym a) b
         go false a b = g (sym a) (omega arith)
 
-    pub path_refused : {v : Verdict} {y : List ℕ} → Leaves profile r d more out v y → {f : Fault} {p : ℕ} → v ≡ Refused f p → Told v y
+    pub path_refused : {v : Verdict} {y : List ℕ} → Leaves profile r d more out v y → {f : Fault} {p : ℕ} → v ≡ refused_at f p → Told v y
     path_refused l q =
-        leaving_ends profile r d more out (λ v y. (f : Fault) (p : ℕ) → v ≡ Refused f p → Told v y)
+        leaving_ends profile r d more out (λ v y. (f : Fault) (p : ℕ) → v ≡ refused_at f p → Told v y)
         (λ i f p z. path_outside i)
         (λ i n f p z. by_fit _ (λ t a. path_unwritable i t n) (λ t a. path_unfit i t))
         (λ i c h f p z. by_fit _ (λ t a. path_long i t c bytes (body_shown r d i e) found (rw a at h)) (λ t a. path_unfit i t))
@@ -211,12 +211,12 @@ module _ (profile : Profile) (r : Record) (d : List ℕ) (signature : ℕ) (text
         (λ i c s h f p z. absurd (let o : ◌≡◌ {A = ℕ} 0 1 = cc in omega arith))
         l _ _ q
 
-    pub path_left : {v : Verdict} {y : List ℕ} → Leaves profile r d more out v y → {n : ℕ} → v ≡ Accepted n
+    pub path_left : {v : Verdict} {y : List ℕ} → Leaves profile r d more out v y → {n : ℕ} → v ≡ Ok n
         → Stand n more x at
-        × ((b z : List ℕ) → b ≡ block → z ≡ put (put y (n - more - 4 - length x + at) b) (n - 4) (little 4 0) → Told (Accepted n) z)
+        × ((b z : List ℕ) → b ≡ block → z ≡ put (put y (n - more - 4 - length x + at) b) (n - 4) (little 4 0) → Told (Ok n) z)
     path_left l q =
         leaving_ends profile r d more out
-        (λ v y. (n : ℕ) → v ≡ Accepted n → Stand n more x at × ((b z : List ℕ) → b ≡ block → z ≡ put (put y (n - more - 4 - length x + at) b) (n - 4) (little 4 0) → Told (Accepted n) z))
+        (λ v y. (n : ℕ) → v ≡ Ok n → Stand n more x at × ((b z : List ℕ) → b ≡ block → z ≡ put (put y (n - more - 4 - length x + at) b) (n - 4) (little 4 0) → Told (Ok n) z))
         (λ i n z. absurd (let o : ◌≡◌ {A = ℕ} 0 1 = cc in omega arith))
         (λ i c n z. absurd (let o : ◌≡◌ {A = ℕ} 0 1 = cc in omega arith))
         (λ i c h n z. absurd (let o : ◌≡◌ {A = ℕ} 0 1 = cc in omega arith))

@@ -2,16 +2,15 @@
 use mathlib.Core.Path.{◌≡◌, refl, sym, ap, ◌∙◌}
 use mathlib.Core.List.{List, [], ◌∷◌, ◌++◌, append_assoc, append-nil}
 use mathlib.Core.Bool.{Bool, true, false, cond}
-use Prim.Native.Nat.{ℕ, ◌+◌, ◌≤◌, ◌<◌}
+use Prim.Native.Nat.{ℕ, ◌+◌, ◌-◌, ◌≤◌, ◌<◌}
 use native.Mathlib.Omega.{arith}
-use native.Mathlib.Nat.{add-zero}
 use lib.ListN.{length, take, drop, length-append, length-drop}
-use lib.Seq.{take_at, take-append_seam, take-append-add, drop_at, drop-append-add, drop-drop, drop-nil}
+use lib.Seq.{take_all, take_at, take-append_seam, take-append-add, drop_at, drop-append-add, drop-nil}
 use lib.Dec.{eqb}
 use borrow.Author.Tests.{eqb-true, eq-eqb, ne_eqb}
 use Rattle.octets.specs.Numbers.{u32_at}
 use Rattle.octets.specs.Parts.{put}
-use Rattle.octets.proofs.NumberLaws.{number_drop, number_same}
+use Rattle.octets.proofs.NumberLaws.{number_same}
 use Rattle.format.specs.Blocks.{slot_at}
 use Rattle.format.specs.Writing.{end_to_end, writable_blocks}
 use Rattle.format.specs.PathWriting.{is_path, blocks_in, signature_of, with_block}
@@ -21,104 +20,100 @@ use Rattle.pathing.specs.Steps.Places.{place_among, block_place, Found}
 
 -- ---- the walk
 
--- it has come to p: the blocks from there on have the place still to find
-pub record Walks (x : List ℕ) (g p : ℕ) : Type 0 where
+-- what is left are whole blocks, which have the place still to find
+pub record Walks (x : List ℕ) (g : ℕ) (r : List ℕ) : Type 0 where
   pub before : List ℕ
   pub rest : List (List ℕ)
   pub whole : Wholes before rest
-  pub joined : drop p x ≡ end_to_end rest
-  pub inside : p ≤ length x
-  pub place : p + place_among g rest ≡ block_place g x
+  pub joined : r ≡ end_to_end rest
+  pub inside : length r ≤ length x
+  pub place : length x - length r + place_among g rest ≡ block_place g x
 
--- what stands there, if it is not the end
-pub record Stands (x : List ℕ) (g p : ℕ) : Type 0 where
-  pub least : 8 ≤ u32_at x p
-  pub inside : p + u32_at x p ≤ length x
-  pub here : u32_at x (p + 4) ≡ g → p ≡ block_place g x
-  pub later : (u32_at x (p + 4) ≡ g → ⊥) → Walks x g (p + u32_at x p)
+-- what stands at its start, if it is not the end
+record Stands (x : List ℕ) (g : ℕ) (r : List ℕ) : Type 0 where
+  least : 8 ≤ u32_at r 0
+  inside : u32_at r 0 ≤ length r
+  here : u32_at r 4 ≡ g → length x - length r ≡ block_place g x
+  later : (u32_at r 4 ≡ g → ⊥) → Walks x g (drop (u32_at r 0) r)
 
 module _ (x : List ℕ) (g : ℕ) where
-  walk_start : writable_blocks x ≡ true → Walks x g 0
+  walk_start : writable_blocks x ≡ true → Walks x g x
   unfolding block_place
   walk_start e =
-      let r = body_Parted x e in
-      record { before = []; rest = blocks_in x; whole = r.wholes; joined = sym r.joined; inside = omega arith; place = omega arith }
+      let p = body_Parted x e in
+      record { before = []; rest = blocks_in x; whole = p.wholes; joined = sym p.joined; inside = omega arith; place = omega arith }
 
-  walk_end : (p : ℕ) → Walks x g p → length x ≤ p → p ≡ block_place g x
-  walk_end p w h = go w.rest w.whole w.joined w.place
+  walk_end : (r : List ℕ) → Walks x g r → length r ≡ 0 → length x - length r ≡ block_place g x
+  walk_end r w h = go w.rest w.whole w.joined w.place
     where
-      go : (rest : List (List ℕ)) → Wholes w.before rest → drop p x ≡ end_to_end rest → p + place_among g rest ≡ block_place g x → p ≡ block_place g x
+      go : (rest : List (List ℕ)) → Wholes w.before rest → r ≡ end_to_end rest → length x - length r + place_among g rest ≡ block_place g x → length x - length r ≡ block_place g x
       go [] v j n = omega arith
-      go (b ∷ bs) v j n = absurd (omega (arith, v.0.least, length-append b (end_to_end bs), ap length j, length-drop p x))
+      go (b ∷ bs) v j n = absurd (omega (arith, v.0.least, length-append b (end_to_end bs), ap length j))
 
-  walk_on : (p : ℕ) → Walks x g p → p < length x → Stands x g p
-  walk_on p w h = go w.rest w.whole w.joined w.place
+  walk_on : (r : List ℕ) → Walks x g r → 0 < length r → Stands x g r
+  walk_on r w h = go w.rest w.whole w.joined w.place
     where
-      go : (rest : List (List ℕ)) → Wholes w.before rest → drop p x ≡ end_to_end rest → p + place_among g rest ≡ block_place g x → Stands x g p
-      go [] v j n = absurd (omega (arith, ap length j, length-drop p x))
+      go : (rest : List (List ℕ)) → Wholes w.before rest → r ≡ end_to_end rest → length x - length r + place_among g rest ≡ block_place g x → Stands x g r
+      go [] v j n = absurd (omega (arith, ap length j))
       go (b ∷ bs) v j n =
           let s : List ℕ = b ++ end_to_end bs in
           let k : ℕ = length b in
           let least : 8 ≤ k = v.0.least in
           let same : take k s ≡ take k b = take-append_seam b (end_to_end bs) ∙ sym (rw append-nil at (take_at b [] k refl)) in
-          let size : u32_at x p ≡ k = rw (add-zero, j) at (sym (number_drop 4 p x 0)) ∙ number_same 4 k s b 0 same (omega arith) ∙ v.0.size in
-          let sign : u32_at x (p + 4) ≡ signature_of b = rw j at (sym (number_drop 4 p x 4)) ∙ number_same 4 k s b 4 same (omega arith) in
-          let fits : p + k ≤ length x = omega (arith, length-append b (end_to_end bs), ap length j, length-drop p x) in
+          let size : u32_at r 0 ≡ k = ap (λ (l : List ℕ). u32_at l 0) j ∙ number_same 4 k s b 0 same (omega arith) ∙ v.0.size in
+          let sign : u32_at r 4 ≡ signature_of b = ap (λ (l : List ℕ). u32_at l 4) j ∙ number_same 4 k s b 4 same (omega arith) in
+          let long : length r ≡ k + length (end_to_end bs) = ap length j ∙ length-append b (end_to_end bs) in
+          let inside : length r ≤ length x = w.inside in
           record {
             least = omega arith;
             inside = omega arith;
             here = λ e. let f : eqb (signature_of b) g ≡ true = eq-eqb (signature_of b) g (sym sign ∙ e) in omega (arith, rw f at n);
             later = λ e.
                 let f : eqb (signature_of b) g ≡ false = ne_eqb (signature_of b) g (λ z. e (sign ∙ z)) in
+                let left : drop k r ≡ end_to_end bs = ap (drop k) j ∙ drop_at b (end_to_end bs) k refl in
                 rw size (record {
                   before = slot_at b ∷ w.before;
                   rest = bs;
                   whole = v.1.1;
-                  joined = sym (drop-drop k p x) ∙ ap (drop k) j ∙ drop_at b (end_to_end bs) k refl;
-                  inside = fits;
-                  place = omega (arith, rw f at n);
+                  joined = left;
+                  inside = omega (arith, length-drop k r);
+                  place = omega (arith, length-drop k r, rw f at n);
                 });
           }
 
 -- ---- the walk over any body
 
-abbrev pub Going : List ℕ → ℕ → ℕ → Type 0
-Going x g p = writable_blocks x ≡ true → Walks x g p
+abbrev pub Going : List ℕ → ℕ → List ℕ → Type 0
+Going x g r = writable_blocks x ≡ true → Walks x g r
 
-pub begins : (x : List ℕ) (g : ℕ) → Going x g 0
+pub begins : (x : List ℕ) (g : ℕ) → Going x g x
 begins x g = walk_start x g
 
--- fewer than 8 bytes are left: none, if the blocks are whole
-at_end : (x : List ℕ) (g p : ℕ) → length x < p + 8 → Walks x g p → p ≡ block_place g x
-at_end x g p h w = by_order (length x) p (λ o. walk_end x g p w o) (λ o. let s = walk_on x g p w o in absurd (omega (arith, s.least, s.inside)))
+module _ (x : List ℕ) (g : ℕ) (r : List ℕ) (w : Going x g r) where
+  -- fewer than 8 bytes are left: none, if the blocks are whole
+  pub found_end : length r < 8 → Found g x (length x - length r)
+  found_end h = record {
+    inside = omega arith;
+    place = λ e.
+        by_order (length r) 0 (λ o. walk_end x g r (w e) (omega arith)) (λ o. let s = walk_on x g r (w e) o in absurd (omega (arith, s.least, s.inside)));
+  }
 
-pub too_short : (x : List ℕ) (g : ℕ) → length x < 8 → Found g x 0
-too_short x g h = record { inside = omega arith; place = λ e. at_end x g 0 (omega arith) (walk_start x g e) }
+  module _ (h : 8 ≤ length r) where
+    stands : writable_blocks x ≡ true → Stands x g r
+    stands e = walk_on x g r (w e) (omega arith)
 
-module _ (x : List ℕ) (g p : ℕ) (w : Going x g p) (h : p + 8 ≤ length x) where
-  stands : writable_blocks x ≡ true → Stands x g p
-  stands e = walk_on x g p (w e) (omega arith)
+    pub found_here : u32_at r 4 ≡ g → Found g x (length x - length r)
+    found_here s = record { inside = omega arith; place = λ e. (stands e).here s }
 
-  pub Found-here : u32_at x (p + 4) ≡ g → Found g x p
-  Found-here s = record { inside = omega arith; place = λ e. (stands e).here s }
+    -- no block: then they are not whole
+    pub found_small : u32_at r 0 < 8 → Found g x (length x - length r)
+    found_small o = record { inside = omega arith; place = λ e. absurd (omega (arith, (stands e).least)) }
 
-  pub no_block : u32_at x p < 8 → Found g x p
-  no_block o = record { inside = omega arith; place = λ e. absurd (omega (arith, (stands e).least)) }
+    pub found_past : length r < u32_at r 0 → Found g x (length x - length r)
+    found_past o = record { inside = omega arith; place = λ e. absurd (omega (arith, (stands e).inside)) }
 
-  module _ (other : u32_at x (p + 4) ≡ g → ⊥) where
-    pub goes_on : Going x g (p + u32_at x p)
-    goes_on e = (stands e).later other
-
-    pub was_last : length x < p + u32_at x p + 8 → Found g x (length x)
-    was_last o = record {
-      inside = omega arith;
-      place = λ e.
-          let s = stands e in
-          let next = s.later other in
-          let end : length x ≡ p + u32_at x p
-          = by_order (length x) (p + u32_at x p) (λ k. omega (arith, s.inside)) (λ k. let t = walk_on x g (p + u32_at x p) next k in absurd (omega (arith, t.least, t.inside))) in
-          end ∙ at_end x g (p + u32_at x p) o next;
-    }
+    pub goes_on : (u32_at r 4 ≡ g → ⊥) → (n : ℕ) → n ≡ u32_at r 0 → n ≤ length r → Going x g (take (length r - n) (drop n r))
+    goes_on other n e l f = rw (take_all (length r - n) (drop n r) (simp length-drop (omega arith)), e) ((stands f).later other)
 
 -- ---- the block at its place
 

@@ -27,15 +27,14 @@ fn longest(unicode: bool) -> usize
 }
 
 // Whole characters, none of them zero, and space for a terminator. What is too long is not looked at.
+#[tactic(auto, using(crate::proofs::BlockLaws::text_long, crate::proofs::BlockLaws::text_short))]
 fn path_text(unicode: bool, x: &[u8]) -> bool
     ensures { result ≡ path_text unicode x.now }
 {
-    if longest(unicode) < x.len() {
-        return false;
-    }
-    writable::text_ok(unicode, x)
+    x.len() <= longest(unicode) && writable::text_ok(unicode, x)
 }
 
+#[tactic(auto, unfolding(crate::specs::Steps::Places::path_fits))]
 fn path_fits(signature: u32, text: &[u8], unicode: &[u8]) -> bool
     ensures { result ≡ path_fits signature text.now unicode.now }
 {
@@ -57,31 +56,21 @@ fn block_of(signature: u32, text: &[u8], unicode: &[u8]) -> [u8; 788]
 
 // ---- where it goes
 
-// Where the block of this signature starts in a body of whole blocks; their end where there is none. It is asked before the blocks are tested, so it stops at what is no block.
+// Where a block of this signature goes in a body of whole blocks: over the first one that has it, or after the last block. It is asked before the blocks are tested, so it stops at what is no block.
+#[tactic(auto, using(crate::proofs::WalkLaws::begins, crate::proofs::WalkLaws::found_end, crate::proofs::WalkLaws::found_here, crate::proofs::WalkLaws::found_small, crate::proofs::WalkLaws::found_past))]
 fn place_of(x: &[u8], signature: u32) -> usize
     ensures { Found signature x.now result }
 {
-    let n = x.len();
-    if n < 8 {
-        return 0;
+    let mut rest = x;
+    // No index is counted: the step is the size that stands there.
+    while 8 <= rest.len() {
+        let size = octets::u32_at(rest, 0) as usize;
+        if octets::u32_at(rest, 4) == signature || size < 8 || rest.len() < size {
+            return x.len() - rest.len();
+        }
+        rest = &rest[size..];
     }
-    let mut p: usize = 0;
-    // How many bytes there are beyond the head of the block at p.
-    let mut left = n - 8;
-    loop {
-        if octets::u32_at(x, p + 4) == signature {
-            return p;
-        }
-        let size = octets::u32_at(x, p) as usize;
-        if size < 8 {
-            return p;
-        }
-        if left < size {
-            return n;
-        }
-        left -= size;
-        p += size;
-    }
+    x.len() - rest.len()
 }
 
 // How many bytes a body of n bytes gains by a block at this place: none where one is replaced. Where there is no such block, more than a shortcut has.
@@ -89,14 +78,11 @@ fn gained(fits: bool, n: usize, at: usize) -> usize
     requires { at ≤ n }
     ensures { result ≡ cond fits (at + 788 - n) 65537 }
 {
-    if !fits {
-        return 65537;
+    if fits {
+        788usize.saturating_sub(n - at)
+    } else {
+        65537
     }
-    let beyond = n - at;
-    if 788 < beyond {
-        return 0;
-    }
-    788 - beyond
 }
 
 // The block over what stands at its place, and the terminal block after the last one.
@@ -125,17 +111,16 @@ pub fn path_block(
     ensures numbers { Numbered result (path_writing profile r d.now signature text.now unicode.now (length out.old)) }
     ensures least { PathEnds profile r d.now signature text.now unicode.now out.old result out.new }
 {
-    let row = r.places;
-    let body = row[format::BLOCKS];
+    let body = r.places[format::BLOCKS];
     let x = octets::part(d, body.at, body.len);
     let at = place_of(x, signature);
     let fits = path_fits(signature, text, unicode);
     let more = gained(fits, x.len(), at);
     let v = writer::write_leaving(r, d, more, out, profile);
-    let Verdict::Accepted(n) = v else {
+    let Ok(n) = v else {
         return v;
     };
     let b = block_of(signature, text, unicode);
     put_over(out, b, n - more - 4 - x.len() + at, n - 4);
-    Verdict::Accepted(n)
+    Ok(n)
 }

@@ -3,4 +3,5 @@ pub mod TextLaws
 pub mod StructLaws
 pub mod VolumeLaws
 pub mod NetworkLaws
+pub mod AnswerLaws
 pub mod OneOutcome

@@ -1,74 +1,37 @@
 -- The network link: its head, its own bytes, and the piece of LinkInfo.
-use mathlib.Core.Path.{◌≡◌, refl, sym, ap, ◌∙◌}
+use mathlib.Core.Path.{◌≡◌, sym, ap, ◌∙◌}
 use mathlib.Core.List.{List, [], ◌∷◌, map}
-use mathlib.Core.Bool.{Bool, true, false, not, ◌||◌, cond}
+use mathlib.Core.Bool.{Bool, true, false, cond}
 use Prim.Native.Nat.{ℕ, ◌+◌, ◌≤◌, ◌<◌}
 use native.Mathlib.Omega.{arith}
 use lib.ListN.{length, take, drop, get_or}
 use lib.Seq.{get_or-take, get_or-drop}
-use lib.Dec.{ltb, eqb}
-use borrow.Author.Tests.{le-leb, lt-leb, ne_eqb, eqb-true, not-true, not-false}
+use lib.Dec.{ltb}
+use Rattle.std.specs.Prelude.{Some, None, Ok, Err}
 use Rattle.octets.specs.Numbers.{u32_at}
 use Rattle.format.specs.declared.Place.{Place}
-use Rattle.format.specs.Tests.{all, place, no_place}
-use Rattle.format.specs.Steps.Wrong.{wrong, first}
+use Rattle.format.specs.Tests.{place, no_place}
+use Rattle.format.specs.Steps.Wrong.{given}
 use Rattle.format.specs.Presence.{device_there, provider_there, device_unicode_there}
-use Rattle.format.specs.Pieces.{text_place, absent_zero, uncut, apart_tests}
-use Rattle.format.specs.Network.{has_device, network_unicode, network_head, network_pieces, network_head_tests, network_rules, network_fields, network_piece, has_device_unicode}
-use Rattle.format.proofs.Chains.{all-Pass}
-use Rattle.format.proofs.Holds.{network_piece_tests, network_head_holds}
-use Rattle.pieces.specs.declared.Text.{Text}
-use Rattle.pieces.specs.declared.NetworkTexts.{NetworkTexts}
-use Rattle.pieces.specs.declared.NetworkFound.{NetworkFound}
-use Rattle.pieces.specs.declared.NetworkRead.{NetworkRead}
-use Rattle.pieces.specs.declared.NetworkRead.TheVariants.{Good, Bad}
-use Rattle.pieces.specs.Steps.Found.{field_if, piece_found, body_length, text_found, network_if, network_in, network_number, network_value, PieceAnswers, NetworkAnswer, make_network, network_lengths, no_texts, network_texts_in, network_texts, network_found}
-use Rattle.pieces.proofs.TestLaws.{uncut_room, Fields, here, Fields-join, Fields-told, Fields-then, first_unless, unless_none, text_fields, AllFields, pieces_Fields, judge, pieces_judged}
-use Rattle.pieces.proofs.TextLaws.{text_judged, text_length_lem, place_length, body_place, place_field, text_field, zero_field}
-use Rattle.pieces.proofs.StructLaws.{answered, Kind}
+use Rattle.format.specs.Pieces.{Piece, text_piece, text_place, span, tests_of, each_ok, led, apart_tests}
+use Rattle.format.specs.Network.{has_device, network_unicode, network_head, network_pieces, network_head_tests, network_rules, network_fields, has_device_unicode}
+use Rattle.format.proofs.Holds.{network_piece_tests}
+use Rattle.pieces.specs.declared.Found.{Found}
+use Rattle.pieces.specs.Steps.Found.{field_if, body_length, text_found, end_at, OwnPart, placed, found, found, four_apart, network_in, network_lengths, no_texts, network_texts_in, network_found}
+use Rattle.pieces.proofs.TestLaws.{told, given_lost, given_then, piece_lost, piece_then, Fields, here, Fields-join, Fields-most, text_fields, AllFields, pieces_Fields}
+use Rattle.pieces.proofs.TextLaws.{text_lost, text_right, place_length, body_place, place_field, text_field}
+use Rattle.pieces.proofs.StructLaws.{struct_absent, struct_lost, struct_placed}
 
--- ---- the head, field after field
-
-module _ (v : List ℕ) {flags name : ℕ} (ef : flags ≡ u32_at v 4) (en : name ≡ u32_at v 8) where
-  pub head_flags : 3 < flags → 4 ≡ wrong (network_head_tests v)
-  head_flags h = rw (← ef, lt-leb flags 3 h)
-
-  module _ (hf : flags ≤ 3) where
-    pub head_name : name < 0x14 → 8 ≡ wrong (network_head_tests v)
-    head_name h = rw (← ef, le-leb flags 3 hf, ← en, lt-leb 0x14 name h)
-
-    module _ {x : Bool} (hn : 0x14 ≤ name) (ex : x ≡ uncut (ltb 0x14 name) 0x18 v) where
-      pub head_net : not x ≡ true → 20 ≡ wrong (network_head_tests v)
-      head_net t = rw (← ef, le-leb flags 3 hf, ← en, le-leb 0x14 name hn, ← ex, not-true x t)
-
-      module _ {y : Bool} (tx : not x ≡ false) (ey : y ≡ uncut (ltb 0x14 name) 0x1C v) where
-        pub head_device : not y ≡ true → 24 ≡ wrong (network_head_tests v)
-        head_device t = rw (← ef, le-leb flags 3 hf, ← en, le-leb 0x14 name hn, ← ex, not-false x tx, ← ey, not-true y t)
-
-        pub head_room : not y ≡ false → ltb 0x14 name ≡ true → 0x1C ≤ length v
-        head_room t = uncut_room (ltb 0x14 name) 0x1C v (sym ey ∙ not-false y t)
-
-        pub head_offsets : {there a b : Bool} {o₁ o₂ m n : ℕ} → not y ≡ false → there ≡ device_there flags → o₁ ≡ u32_at v 12 → a ≡ absent_zero there o₁
-            → o₂ ≡ field_if (ltb 0x14 name) v 24 → b ≡ absent_zero there o₂ → m ≡ cond b 0 24 → n ≡ cond a m 12 → n ≡ wrong (network_head_tests v)
-        head_offsets {there} {a} {b} {m = m} {n} t ed e₁ ea e₂ eb em eg =
-            let i : absent_zero (device_there flags) (u32_at v 12) ≡ a = rw (ea, e₁, ed) in
-            let j : (not (ltb 0x14 name) || absent_zero (device_there flags) (u32_at v 24)) ≡ b = sym (eb ∙ rw (e₂, ed) (zero_field (device_there flags) (ltb 0x14 name) v 24)) in
-            rw (← ef, le-leb flags 3 hf, ← en, le-leb 0x14 name hn, ← ex, not-false x tx, ← ey, not-false y t, i, j) (eg ∙ rw em)
-
--- ---- all of them are of fields up to 24
+-- ---- all tests are of fields up to 24
 
 head_Fields : (v : List ℕ) → Fields 24 (network_head_tests v)
 head_Fields v = (
-  here 24 4 (omega arith) (omega arith),
+  here 24 4 (omega arith),
   λ e. (
-    here 24 8 (omega arith) (omega arith),
+    here 24 8 (omega arith),
     λ e. (
-      here 24 20 (omega arith) (omega arith),
-      λ e. (
-        here 24 24 (omega arith) (omega arith),
-        λ e.
-            (here 24 12 (omega arith) (omega arith), λ e. (here 24 24 (omega arith) (omega arith), λ e. tt)),
-      ),
+      here 24 20 (omega arith),
+      λ e. (here 24 24 (omega arith), λ e. (here 24 12 (omega arith), λ e. (here 24 24 (omega arith), λ e. tt))),
     ),
   ),
 )
@@ -76,12 +39,12 @@ head_Fields v = (
 pieces_within : (v : List ℕ) → AllFields 24 (network_head (network_unicode v)) (network_pieces v)
 pieces_within v =
     let h : ℕ = network_head (network_unicode v) in (
-      text_fields 24 h true false v 8 (u32_at v 8) (omega arith) (omega arith),
+      text_fields 24 h true false v 8 (u32_at v 8) (omega arith),
       (
-        text_fields 24 h (has_device v) false v 12 (u32_at v 12) (omega arith) (omega arith),
+        text_fields 24 h (has_device v) false v 12 (u32_at v 12) (omega arith),
         (
-          text_fields 24 h (network_unicode v) true v 20 (u32_at v 20) (omega arith) (omega arith),
-          (text_fields 24 h (has_device_unicode v) true v 24 (u32_at v 24) (omega arith) (omega arith), tt),
+          text_fields 24 h (network_unicode v) true v 20 (u32_at v 20) (omega arith),
+          (text_fields 24 h (has_device_unicode v) true v 24 (u32_at v 24) (omega arith), tt),
         ),
       ),
     )
@@ -89,154 +52,134 @@ pieces_within v =
 pub network_Fields : (v : List ℕ) → Fields 24 (network_rules v)
 network_Fields v = Fields-join 24 (network_head_tests v) (network_piece_tests v) (head_Fields v) (pieces_Fields 24 (network_head (network_unicode v)) (network_pieces v) (pieces_within v))
 
--- a head of which no field is wrong lies inside
-pub network_room : (v : List ℕ) {k name : ℕ} → k ≡ wrong (network_head_tests v) → k ≡ 0 → name ≡ u32_at v 8 → ltb 0x14 name ≡ true → 0x1C ≤ length v
-network_room v {k} e z en u =
-    let q : all (network_head_tests v) ≡ true = sym (Fields-told 24 (network_head_tests v) (head_Fields v)) ∙ rw (← e, z) in
-    let c = network_head_holds v (all-Pass (network_head_tests v) q) in
-    uncut_room (network_unicode v) 0x1C v c.device_unicode_field (rw (← en) u)
+pub network_most : (v : List ℕ) {w : ℕ} → network_in v ≡ Err w → w ≤ 24
+unfolding network_in
+network_most v e = Fields-most 24 (network_rules v) _ (network_Fields v) e
 
--- ---- the answer, once the first field at fault is known
+-- ---- the network link's own bytes: each way out of its tests
 
-pub network_if_lem : (i : ℕ) (n : NetworkTexts) {r : NetworkRead} → r ≡ network_if i n → PieceAnswers network_number network_value (eqb i 0) 0 i (network_if i n) r
-unfolding network_number network_value
-network_if_lem i n = answered network_number network_value (eqb i 0) refl refl refl refl
+module _ (v : List ℕ) where
+  abbrev h : ℕ
+  h = network_head (network_unicode v)
 
--- ---- the network link's own bytes
+  abbrev net : Piece
+  net = text_piece true false v 8 (u32_at v 8)
 
--- the lengths as the code puts them together
-abbrev pub four_texts : Text → Text → Text → Text → NetworkTexts
-four_texts a b c d = record { net = a.len; device = b.len; net_unicode = c.len; device_unicode = d.len }
+  abbrev device : Piece
+  device = text_piece (has_device v) false v 12 (u32_at v 12)
 
--- the four strings, as they were found
-pub record Four (v : List ℕ) (a b c d : Text) : Type 0 where
-  pub net : a ≡ text_found true false v (network_head (network_unicode v)) (u32_at v 8)
-  pub device : b ≡ text_found (has_device v) false v (network_head (network_unicode v)) (u32_at v 12)
-  pub net_unicode : c ≡ text_found (network_unicode v) true v (network_head (network_unicode v)) (u32_at v 20)
-  pub device_unicode : d ≡ text_found (has_device_unicode v) true v (network_head (network_unicode v)) (u32_at v 24)
+  abbrev net_unicode : Piece
+  net_unicode = text_piece (network_unicode v) true v 20 (u32_at v 20)
 
-pub four : (v : List ℕ) {flags name head o₁ o₂ o₃ : ℕ} {device both : Bool} {a b c d : Text} → flags ≡ u32_at v 4 → name ≡ u32_at v 8 → device ≡ device_there flags
-    → both ≡ device_unicode_there (ltb 0x14 name) flags → head ≡ network_head (ltb 0x14 name) → a ≡ text_found true false v head name → o₁ ≡ u32_at v 12 → b ≡ text_found device false v head o₁
-    → o₂ ≡ field_if (ltb 0x14 name) v 20 → c ≡ text_found (ltb 0x14 name) true v head o₂
-    → o₃ ≡ field_if (ltb 0x14 name) v 24 → d ≡ text_found both true v head o₃ → Four v a b c d
-four v ef en ed et eh ea e₁ eb e₂ ec e₃ ee =
-    let h : ℕ = network_head (network_unicode v) in
-    let u : Bool = network_unicode v in
-    record {
-      net = ea ∙ rw (eh, en);
-      device = eb ∙ rw (eh, ed, ef, en, e₁);
-      net_unicode = ec ∙ rw (e₂, eh, en) (text_field u true v h 20 u (λ z. z));
-      device_unicode = ee ∙ rw (et, e₃, eh, ef, en) (text_field (has_device_unicode v) true v h 24 u (λ z. rw z));
-    }
+  abbrev device_unicode : Piece
+  device_unicode = text_piece (has_device_unicode v) true v 24 (u32_at v 24)
 
-module _ (v : List ℕ) {k : ℕ} (ek : k ≡ wrong (network_head_tests v)) where
-  rules_wrong : wrong (network_rules v) ≡ first k (wrong (network_piece_tests v))
-  rules_wrong = Fields-then 24 (network_head_tests v) (network_piece_tests v) (head_Fields v) ∙ rw ek
-
-  rules_pass : {n : ℕ} → wrong (network_rules v) ≡ n → all (network_rules v) ≡ eqb n 0
-  rules_pass e = sym (Fields-told 24 (network_rules v) (network_Fields v)) ∙ ap (λ (n : ℕ). eqb n 0) e
-
-  network_answered : {r : NetworkRead} → r ≡ network_in v → NetworkAnswer v r
-  unfolding network_in network_number network_value
-  network_answered = answered network_number network_value (all (network_rules v)) refl refl refl refl
-
-  pub network_fails : (k ≡ 0 → ⊥) → NetworkAnswer v (Bad k)
+  pub head_lost : {w : ℕ} → told (network_head_tests v) ≡ Err w → network_in v ≡ Err w
   unfolding network_in
-  network_fails z =
-      let q : wrong (network_rules v) ≡ k = rules_wrong ∙ rw (ne_eqb k 0 z) in
-      network_answered (rw (rules_pass q, q, ne_eqb k 0 z))
+  head_lost e = given_lost (network_head_tests v) (network_piece_tests v) tt (network_texts_in v) e
 
-  module _ {a b c d : Text} {far m₁ m₂ m₃ m₄ : ℕ} (z : k ≡ 0) (f : Four v a b c d) (ef : far ≡ wrong (apart_tests [] ((0, a.span) ∷ (12, b.span) ∷ (20, c.span) ∷ (24, d.span) ∷ [])))
-      (e₁ : m₁ ≡ cond d.ok far 24) (e₂ : m₂ ≡ cond c.ok m₁ 20) (e₃ : m₃ ≡ cond b.ok m₂ 12) (e₄ : m₄ ≡ cond a.ok m₃ 8) where
-    judged : wrong (network_rules v) ≡ m₄
-    judged =
-        let h : ℕ = network_head (network_unicode v) in
-        let fs : ((cond a.ok 0 8, (8, a.span)) ∷ (cond b.ok 0 12, (12, b.span)) ∷ (cond c.ok 0 20, (20, c.span)) ∷ (cond d.ok 0 24, (24, d.span)) ∷ [])
-        ≡ map (judge h) (network_pieces v)
-        = rw (
-          text_judged true false v h (u32_at v 8) f.net 8,
-          text_judged (has_device v) false v h (u32_at v 12) f.device 12,
-          text_judged (network_unicode v) true v h (u32_at v 20) f.net_unicode 20,
-          text_judged (has_device_unicode v) true v h (u32_at v 24) f.device_unicode 24,
-        ) in
-        let m : first (cond a.ok 0 8) (first (cond b.ok 0 12) (first (cond c.ok 0 20) (first (cond d.ok 0 24) far))) ≡ m₄
-        = rw (
-          e₄,
-          e₃,
-          e₂,
-          e₁,
-          first_unless d.ok far 24 (omega arith),
-          first_unless c.ok (cond d.ok far 24) 20 (omega arith),
-          first_unless b.ok (cond c.ok (cond d.ok far 24) 20) 12 (omega arith),
-          first_unless a.ok (cond b.ok (cond c.ok (cond d.ok far 24) 20) 12) 8 (omega arith),
-        ) in
-        rules_wrong ∙ rw z (pieces_judged 24 h (network_pieces v) (pieces_within v) fs ef ∙ m)
-
-    pub network_read : {r : NetworkRead} → r ≡ network_if m₄ (four_texts a b c d) → NetworkAnswer v r
+  module _ {x : Unit {0}} {head : ℕ} (H : told (network_head_tests v) ≡ Ok x) (eh : head ≡ h) where
+    -- the first of the strings that fails
+    each_lost : {w : ℕ} → told (each_ok h (network_pieces v)) ≡ Err w → network_in v ≡ Err w
     unfolding network_in
-    network_read er = network_answered (er ∙ go (eqb m₄ 0) refl ∙ rw (rules_pass judged, judged))
-      where
-        go : (x : Bool) → eqb m₄ 0 ≡ x → cond x (Good (four_texts a b c d)) (Bad m₄) ≡ cond x (Good (network_texts_in v)) (Bad m₄)
-        go true e =
-            let h : ℕ = network_head (network_unicode v) in
-            let (net, r₃) = unless_none a.ok m₃ 8 (omega arith) (sym e₄ ∙ eqb-true m₄ 0 e) in
-            let (device, r₂) = unless_none b.ok m₂ 12 (omega arith) (sym e₃ ∙ r₃) in
-            let (net_unicode, r₁) = unless_none c.ok m₁ 20 (omega arith) (sym e₂ ∙ r₂) in
-            let (device_unicode, apart) = unless_none d.ok far 24 (omega arith) (sym e₁ ∙ r₁) in
-            ap Good (rw (
-              place_length true false 0 v (u32_at v 8),
-              place_length (has_device v) false 0 v (u32_at v 12),
-              place_length (network_unicode v) true 0 v (u32_at v 20),
-              place_length (has_device_unicode v) true 0 v (u32_at v 24),
-              text_length_lem true false v h (u32_at v 8) f.net net,
-              text_length_lem (has_device v) false v h (u32_at v 12) f.device device,
-              text_length_lem (network_unicode v) true v h (u32_at v 20) f.net_unicode net_unicode,
-              text_length_lem (has_device_unicode v) true v h (u32_at v 24) f.device_unicode device_unicode,
-            ))
-        go false e = refl
+    each_lost e =
+        given_then (network_head_tests v) (network_piece_tests v) tt (network_texts_in v) H
+        ∙ given_lost (each_ok h (network_pieces v)) (apart_tests [] (map led (network_pieces v))) tt (network_texts_in v) e
+
+    pub net_lost : text_found true false v head (u32_at v 8) ≡ None → network_in v ≡ Err 8
+    net_lost e = each_lost (piece_lost h net (device ∷ net_unicode ∷ device_unicode ∷ []) (text_lost true false v h (u32_at v 8) 8 (rw eh at e) tt))
+
+    module _ {a : Found ℕ} (A : text_found true false v head (u32_at v 8) ≡ Some a) where
+      net_right : (told (tests_of h net) ≡ Ok tt) × (a ≡ found (span net) (body_length true false v (u32_at v 8)))
+      net_right = text_right true false v h (u32_at v 8) 8 (rw eh at A) tt
+
+      pub device_lost : text_found (has_device v) false v head (u32_at v 12) ≡ None → network_in v ≡ Err 12
+      device_lost e =
+          each_lost (piece_then h net (device ∷ net_unicode ∷ device_unicode ∷ []) net_right.0
+          ∙ piece_lost h device (net_unicode ∷ device_unicode ∷ []) (text_lost (has_device v) false v h (u32_at v 12) 12 (rw eh at e) tt))
+
+      module _ {b : Found ℕ} (B : text_found (has_device v) false v head (u32_at v 12) ≡ Some b) where
+        device_right : (told (tests_of h device) ≡ Ok tt) × (b ≡ found (span device) (body_length (has_device v) false v (u32_at v 12)))
+        device_right = text_right (has_device v) false v h (u32_at v 12) 12 (rw eh at B) tt
+
+        pub net_unicode_lost : text_found (network_unicode v) true v head (field_if (network_unicode v) v 20) ≡ None → network_in v ≡ Err 20
+        net_unicode_lost e =
+            let k : text_found (network_unicode v) true v h (u32_at v 20) ≡ None = sym (text_field (network_unicode v) true v h 20 (network_unicode v) (λ z. z)) ∙ rw eh at e in
+            each_lost (piece_then h net (device ∷ net_unicode ∷ device_unicode ∷ []) net_right.0
+            ∙ piece_then h device (net_unicode ∷ device_unicode ∷ []) device_right.0
+            ∙ piece_lost h net_unicode (device_unicode ∷ []) (text_lost (network_unicode v) true v h (u32_at v 20) 20 k tt))
+
+        module _ {c : Found ℕ} (C : text_found (network_unicode v) true v head (field_if (network_unicode v) v 20) ≡ Some c) where
+          net_unicode_right : (told (tests_of h net_unicode) ≡ Ok tt) × (c ≡ found (span net_unicode) (body_length (network_unicode v) true v (u32_at v 20)))
+          net_unicode_right =
+              let k : text_found (network_unicode v) true v h (u32_at v 20) ≡ Some c = sym (text_field (network_unicode v) true v h 20 (network_unicode v) (λ z. z)) ∙ rw eh at C in
+              text_right (network_unicode v) true v h (u32_at v 20) 20 k tt
+
+          three : told (each_ok h (network_pieces v)) ≡ given (each_ok h (device_unicode ∷ [])) tt
+          three =
+              piece_then h net (device ∷ net_unicode ∷ device_unicode ∷ []) net_right.0 ∙ piece_then h device (net_unicode ∷ device_unicode ∷ []) device_right.0
+              ∙ piece_then h net_unicode (device_unicode ∷ []) net_unicode_right.0
+
+          pub device_unicode_lost : text_found (has_device_unicode v) true v head (field_if (network_unicode v) v 24) ≡ None → network_in v ≡ Err 24
+          device_unicode_lost e =
+              let k : text_found (has_device_unicode v) true v h (u32_at v 24) ≡ None = sym (text_field (has_device_unicode v) true v h 24 (network_unicode v) (λ z. rw z)) ∙ rw eh at e in
+              each_lost (three ∙ piece_lost h device_unicode [] (text_lost (has_device_unicode v) true v h (u32_at v 24) 24 k tt))
+
+          module _ {d : Found ℕ} (D : text_found (has_device_unicode v) true v head (field_if (network_unicode v) v 24) ≡ Some d) where
+            device_unicode_right : (told (tests_of h device_unicode) ≡ Ok tt) × (d ≡ found (span device_unicode) (body_length (has_device_unicode v) true v (u32_at v 24)))
+            device_unicode_right =
+                let k : text_found (has_device_unicode v) true v h (u32_at v 24) ≡ Some d = sym (text_field (has_device_unicode v) true v h 24 (network_unicode v) (λ z. rw z)) ∙ rw eh at D in
+                text_right (has_device_unicode v) true v h (u32_at v 24) 24 k tt
+
+            abbrev sharing : List (ℕ × Place)
+            sharing = (0, a.span) ∷ (12, b.span) ∷ (20, c.span) ∷ (24, d.span) ∷ []
+
+            -- none of the strings fails, so their being apart decides
+            all_right : network_in v ≡ given (apart_tests [] sharing) (network_texts_in v)
+            unfolding network_in
+            all_right =
+                given_then (network_head_tests v) (network_piece_tests v) tt (network_texts_in v) H
+                ∙ given_then (each_ok h (network_pieces v)) (apart_tests [] (map led (network_pieces v))) tt (network_texts_in v)
+                (three ∙ piece_then h device_unicode [] device_unicode_right.0)
+                ∙ rw (net_right.1, device_right.1, net_unicode_right.1, device_unicode_right.1)
+
+            pub share_lost : {w : ℕ} → four_apart 12 a.span b.span c.span d.span ≡ Err w → network_in v ≡ Err w
+            unfolding four_apart
+            share_lost e = all_right ∙ given_lost (apart_tests [] sharing) [] tt (network_texts_in v) e
+
+            pub texts_right : {y : Unit {0}} → four_apart 12 a.span b.span c.span d.span ≡ Ok y
+                → network_in v ≡ Ok (record { net = a.body; device = b.body; net_unicode = c.body; device_unicode = d.body })
+            unfolding four_apart
+            texts_right e =
+                all_right ∙ given_then (apart_tests [] sharing) [] tt (network_texts_in v) e
+                ∙ ap Ok (rw (
+                  net_right.1,
+                  device_right.1,
+                  net_unicode_right.1,
+                  device_unicode_right.1,
+                  place_length (has_device v) false 0 v (u32_at v 12),
+                  place_length (network_unicode v) true 0 v (u32_at v 20),
+                  place_length (has_device_unicode v) true 0 v (u32_at v 24),
+                ))
+
+pub ruleset network_read = (head_lost, net_lost, device_lost, net_unicode_lost, device_unicode_lost, share_lost, texts_right)
 
 -- ---- the piece
 
-pub Good-not_bad : (a : NetworkTexts) (i : ℕ) → Good a ≡ Bad i → ⊥
-Good-not_bad a i e = let z : ◌≡◌ {A = ℕ} 0 1 = cc in omega arith
+module _ (b : Bool) (l : List ℕ) (head : ℕ) where
+  pub network_absent : b ≡ false → network_found b l head ≡ Ok (found no_place no_texts)
+  unfolding network_found
+  network_absent t = struct_absent 20 0x14 network_rules network_texts_in no_texts b l head t
 
-pub Good-same : (a c : NetworkTexts) → Good a ≡ Good c → a ≡ c
-Good-same a c e = cc
+  pub network_lost : {w : ℕ} → b ≡ true → end_at l head 0x14 20 (u32_at l 20) ≡ Err w → network_found b l head ≡ Err w
+  unfolding network_found
+  network_lost t e = struct_lost 20 0x14 network_rules network_texts_in no_texts b l head t e
 
-pub bad_same : (i j : ℕ) → Bad i ≡ Bad j → i ≡ j
-bad_same i j e = cc
+  pub network_placed : {o : ℕ} {v : List ℕ} → b ≡ true → OwnPart l head 0x14 20 o v → network_found b l head ≡ placed o (length v) (network_in v)
+  unfolding network_found network_in
+  network_placed t P = struct_placed 20 0x14 network_rules network_texts_in no_texts b l head t P
 
-pub read_is : (v : List ℕ) → network_in v ≡ cond (all (network_rules v)) (Good (network_texts_in v)) (Bad (wrong (network_rules v)))
-unfolding network_in
-read_is v = refl
-
-pub found_as_eq : (b : Bool) (l : List ℕ) (head : ℕ)
-    → network_found b l head ≡ piece_found make_network head (network_piece b l 20 (u32_at l 20)) (network_texts b l (u32_at l 20)) no_texts
-unfolding network_found
-found_as_eq b l head = refl
-
-abbrev pub network_kind : Kind NetworkTexts NetworkFound NetworkRead
-network_kind = record {
-  make = make_network;
-  span_of = λ r. r.span;
-  spans = λ i x a. refl;
-  none = no_texts;
-  offset_field = 20;
-  least = 0x14;
-  rules = network_rules;
-  fields = network_texts_in;
-  last = 24;
-  within = network_Fields;
-  good = Good;
-  bad = Bad;
-  differ = Good-not_bad;
-  same = Good-same;
-  same_bad = bad_same;
-  read_as = network_in;
-  read_is = read_is;
-  found_as = network_found;
-  found_as_eq = found_as_eq;
-}
+pub ruleset network_judged = (network_absent, network_lost, network_placed, network_most)
 
 -- ---- what it says, once it was accepted
 

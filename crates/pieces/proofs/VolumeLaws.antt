@@ -1,133 +1,75 @@
 -- VolumeID: its own bytes, and the piece of LinkInfo.
-use mathlib.Core.Path.{◌≡◌, refl, sym, ap, ◌∙◌}
+use mathlib.Core.Path.{◌≡◌, ◌∙◌}
 use mathlib.Core.List.{List}
-use mathlib.Core.Bool.{Bool, true, false, not, cond}
-use Prim.Native.Nat.{ℕ, ◌+◌, ◌≤◌, ◌<◌}
+use mathlib.Core.Bool.{Bool, true, false, cond}
+use Prim.Native.Nat.{ℕ, ◌≤◌, ◌<◌}
 use native.Mathlib.Omega.{arith}
 use lib.ListN.{length}
-use lib.Dec.{eqb}
-use borrow.Author.Tests.{le-leb, lt-leb, ne_eqb, not-true, not-false}
+use borrow.Author.Tests.{le-leb, lt-leb}
+use Rattle.std.specs.Prelude.{Some, None, Ok, Err}
 use Rattle.octets.specs.Numbers.{u32_at}
-use Rattle.format.specs.declared.Place.{Place}
-use Rattle.format.specs.declared.Label.{Label}
-use Rattle.format.specs.Tests.{all, place}
-use Rattle.format.specs.Steps.Wrong.{wrong}
-use Rattle.format.specs.Pieces.{uncut, text_piece}
-use Rattle.format.specs.Volume.{label_unicode, label_field, label_least, label_of, volume_rules, volume_fields, volume_piece}
-use Rattle.pieces.specs.declared.Text.{Text}
-use Rattle.pieces.specs.declared.VolumeFound.{VolumeFound}
-use Rattle.pieces.specs.declared.VolumeRead.{VolumeRead}
-use Rattle.pieces.specs.declared.VolumeRead.TheVariants.{Good, Bad}
-use Rattle.pieces.specs.Steps.Found.{piece_wrong, piece_found, text_found, make_volume, label_length, label_bytes, volume_found, volume_in, volume_number, volume_value, VolumeAnswer}
-use Rattle.pieces.proofs.TestLaws.{Fields, here, Fields-told, uncut_room}
-use Rattle.pieces.proofs.TextLaws.{text_wrong, text_length_lem}
-use Rattle.pieces.proofs.StructLaws.{answered, Kind}
+use Rattle.format.specs.Tests.{no_place}
+use Rattle.format.specs.Pieces.{uncut}
+use Rattle.format.specs.Volume.{label_unicode, label_field, label_offset, label_least, volume_rules}
+use Rattle.pieces.specs.declared.Found.{Found}
+use Rattle.pieces.specs.Steps.Found.{end_at, OwnPart, placed, text_found, found, label_length, volume_found, volume_in}
+use Rattle.pieces.proofs.TestLaws.{Fields, here, Fields-most}
+use Rattle.pieces.proofs.TextLaws.{text_lost, text_right}
+use Rattle.pieces.proofs.StructLaws.{struct_absent, struct_lost, struct_placed}
 
 -- ---- VolumeID's own bytes
 
-label_field_lem : (u : Bool) → (12 ≤ cond u 16 12) × (cond u 16 12 ≤ 16)
-label_field_lem true = (omega arith, omega arith)
-label_field_lem false = (omega arith, omega arith)
+label_field_lem : (u : Bool) → cond u 16 12 ≤ 16
+label_field_lem true = omega arith
+label_field_lem false = omega arith
 
 pub volume_Fields : (v : List ℕ) → Fields 16 (volume_rules v)
 volume_Fields v =
-    let (f, g) = label_field_lem (label_unicode v) in
+    let g = label_field_lem (label_unicode v) in
     let i : ℕ = label_field v in
-    (here 16 4 (omega arith) (omega arith), λ e. (here 16 16 (omega arith) (omega arith), λ e. (here 16 i (omega arith) g, λ e. (here 16 i (omega arith) g, λ e. tt))))
+    (here 16 4 (omega arith), λ e. (here 16 16 (omega arith), λ e. (here 16 i g, λ e. (here 16 i g, λ e. tt))))
 
--- the field that holds the label's offset lies inside
-pub field_room : (v : List ℕ) {i : ℕ} (u : Bool) → 0x11 ≤ length v → (u ≡ true → 0x14 ≤ length v) → i ≡ cond u 16 12 → i + 4 ≤ length v
-field_room v true h f q = omega (arith, f refl)
-field_room v false h f q = omega arith
+pub volume_most : (v : List ℕ) {w : ℕ} → volume_in v ≡ Err w → w ≤ 16
+unfolding volume_in
+volume_most v e = Fields-most 16 (volume_rules v) _ (volume_Fields v) e
 
-pub label_room : (v : List ℕ) {x : Bool} {i : ℕ} (u : Bool) → 0x11 ≤ length v → x ≡ uncut u 0x14 v → not x ≡ false → i ≡ cond u 16 12 → i + 4 ≤ length v
-label_room v {x} u h e t = field_room v u h (uncut_room u 0x14 v (sym e ∙ not-false x t))
-
-module _ (v : List ℕ) {drive : ℕ} (ed : drive ≡ u32_at v 4) where
-  volume_answered : {r : VolumeRead} → r ≡ volume_in v → VolumeAnswer v r
-  unfolding volume_in volume_number volume_value
-  volume_answered = answered volume_number volume_value (all (volume_rules v)) refl refl refl refl
-
-  pub volume_drive : 6 < drive → VolumeAnswer v (Bad 4)
+module _ (v : List ℕ) where
+  pub drive_lost : 6 < u32_at v 4 → volume_in v ≡ Err 4
   unfolding volume_in
-  volume_drive h = volume_answered (rw (← ed, lt-leb drive 6 h))
+  drive_lost h = rw (lt-leb (u32_at v 4) 6 h)
 
-  module _ {u x : Bool} (h : drive ≤ 6) (eu : u ≡ label_unicode v) (ex : x ≡ uncut u 0x14 v) where
-    field_uncut : uncut (label_unicode v) 0x14 v ≡ x
-    field_uncut = rw (ex, eu)
-
-    pub volume_cut : not x ≡ true → VolumeAnswer v (Bad 16)
+  module _ (h : u32_at v 4 ≤ 6) where
+    pub field_lost : uncut (label_unicode v) 0x14 v ≡ false → volume_in v ≡ Err 16
     unfolding volume_in
-    volume_cut t = volume_answered (rw (← ed, le-leb drive 6 h, field_uncut, not-true x t))
+    field_lost x = rw (le-leb (u32_at v 4) 6 h, x)
 
-    module _ {i o least : ℕ} {t : Text} (tx : not x ≡ false) (el : least ≡ label_least u) (ei : i ≡ cond u 16 12) (eo : o ≡ u32_at v i) (et : t ≡ text_found true u v least o) where
-      rules_wrong : wrong (volume_rules v) ≡ cond t.ok 0 i
-      rules_wrong =
-          let q : piece_wrong (label_least u) (text_piece true u v (cond u 16 12) (u32_at v (cond u 16 12))) ≡ cond t.ok 0 i = rw (← el, ← ei, ← eo) (text_wrong true u v least o et i) in
-          rw (← ed, le-leb drive 6 h, field_uncut, not-false x tx) (rw (← eu) q)
-
-      rules_pass : all (volume_rules v) ≡ t.ok
-      rules_pass = sym (Fields-told 16 (volume_rules v) (volume_Fields v)) ∙ ap (λ (n : ℕ). eqb n 0) rules_wrong ∙ go t.ok
-        where
-          go : (x : Bool) → eqb (cond x 0 i) 0 ≡ x
-          go true = refl
-          go false = ne_eqb i 0 (λ e. omega (arith, (label_field_lem u).0))
-
-      pub volume_open : not t.ok ≡ true → VolumeAnswer v (Bad i)
+    module _ {least : ℕ} (x : uncut (label_unicode v) 0x14 v ≡ true) (el : least ≡ label_least (label_unicode v)) where
+      pub label_lost : text_found true (label_unicode v) v least (label_offset v) ≡ None → volume_in v ≡ Err (label_field v)
       unfolding volume_in
-      volume_open q = volume_answered (rw (rules_pass, rules_wrong, not-true t.ok q))
+      label_lost e = rw (le-leb (u32_at v 4) 6 h, x) (text_lost true (label_unicode v) v (label_least (label_unicode v)) (label_offset v) (label_field v) (rw el at e) (label_length v))
 
-      pub volume_Good : not t.ok ≡ false → VolumeAnswer v (Good t.len)
+      pub label_right : {t : Found ℕ} → text_found true (label_unicode v) v least (label_offset v) ≡ Some t → volume_in v ≡ Ok t.body
       unfolding volume_in
-      volume_Good q =
-          let k : t.ok ≡ true = not-false t.ok q in
-          volume_answered (rw (rules_pass, k, text_length_lem true u v least o et k, eo, ei, eu))
+      label_right {t} e =
+          let r = text_right true (label_unicode v) v (label_least (label_unicode v)) (label_offset v) (label_field v) (rw el at e) (label_length v) in
+          rw (le-leb (u32_at v 4) 6 h, x) (r.0 ∙ rw r.1)
+
+-- each way out of its tests
+pub ruleset volume_read = (drive_lost, field_lost, label_lost, label_right)
 
 -- ---- the piece
 
-pub Good-not_bad : (n i : ℕ) → Good n ≡ Bad i → ⊥
-Good-not_bad n i e = let z : ◌≡◌ {A = ℕ} 0 1 = cc in omega arith
+module _ (b : Bool) (l : List ℕ) (head : ℕ) where
+  pub volume_absent : b ≡ false → volume_found b l head ≡ Ok (found no_place 0)
+  unfolding volume_found
+  volume_absent t = struct_absent 12 0x11 volume_rules label_length 0 b l head t
 
-pub Good-same : (n m : ℕ) → Good n ≡ Good m → n ≡ m
-Good-same n m e = cc
+  pub volume_lost : {w : ℕ} → b ≡ true → end_at l head 0x11 12 (u32_at l 12) ≡ Err w → volume_found b l head ≡ Err w
+  unfolding volume_found
+  volume_lost t e = struct_lost 12 0x11 volume_rules label_length 0 b l head t e
 
-pub bad_same : (i j : ℕ) → Bad i ≡ Bad j → i ≡ j
-bad_same i j e = cc
+  pub volume_placed : {o : ℕ} {v : List ℕ} → b ≡ true → OwnPart l head 0x11 12 o v → volume_found b l head ≡ placed o (length v) (volume_in v)
+  unfolding volume_found volume_in
+  volume_placed t P = struct_placed 12 0x11 volume_rules label_length 0 b l head t P
 
-pub read_is : (v : List ℕ) → volume_in v ≡ cond (all (volume_rules v)) (Good (label_length v)) (Bad (wrong (volume_rules v)))
-unfolding volume_in
-read_is v = refl
-
-pub found_as_eq : (b : Bool) (l : List ℕ) (head : ℕ)
-    → volume_found b l head ≡ piece_found make_volume head (volume_piece b l 12 (u32_at l 12)) (label_bytes b l (u32_at l 12)) 0
-unfolding volume_found
-found_as_eq b l head = refl
-
-abbrev pub volume_kind : Kind ℕ VolumeFound VolumeRead
-volume_kind = record {
-  make = make_volume;
-  span_of = λ r. r.span;
-  spans = λ i x a. refl;
-  none = 0;
-  offset_field = 12;
-  least = 0x11;
-  rules = volume_rules;
-  fields = label_length;
-  last = 16;
-  within = volume_Fields;
-  good = Good;
-  bad = Bad;
-  differ = Good-not_bad;
-  same = Good-same;
-  same_bad = bad_same;
-  read_as = volume_in;
-  read_is = read_is;
-  found_as = volume_found;
-  found_as_eq = found_as_eq;
-}
-
--- ---- what it says, once it was accepted
-
-pub volume_says : (p : ℕ) (v : List ℕ) {u : Bool} {i o n drive serial : ℕ} {b : Place} {label : Label} → n ≡ label_length v → u ≡ label_unicode v → i ≡ cond u 16 12 → o ≡ u32_at v i
-    → drive ≡ u32_at v 4 → serial ≡ u32_at v 8 → b ≡ place (p + o) n → label ≡ label_of u b → record { drive = drive; serial = serial; label = label } ≡ volume_fields p v
-volume_says p v en eu ei eo ed es eb el = rw (ed, es, el, eb, en, eo, ei, eu)
+pub ruleset volume_judged = (volume_absent, volume_lost, volume_placed, volume_most)

@@ -1,6 +1,5 @@
-pub mod Runs
+pub mod Found
 pub mod StepLaws
-pub mod WalkLaws
 pub mod OutlineLaws
 pub mod WholeLaws
 pub mod OneOutcome

@@ -1,487 +1,351 @@
--- The walk over the sections is the shortcut's reading, and the outline tells how it went.
-use mathlib.Core.Path.{◌≡◌, refl, sym, ap, ◌∙◌}
+-- The first phase answers as the shortcut reads, and fills its rows by what it reads.
+use mathlib.Core.Path.{◌≡◌, refl, sym, ap, subst, ◌∙◌}
 use mathlib.Core.List.{List, [], ◌∷◌}
 use mathlib.Core.Bool.{Bool, true, false, cond}
 use Prim.Native.Nat.{ℕ, ◌+◌, ◌≤◌, ◌<◌, ◌-◌}
 use native.Mathlib.Omega.{arith}
+use native.Mathlib.Nat.{zero-add}
 use lib.ListN.{length, drop}
-use lib.Dec.{leb, eqb}
-use borrow.Author.Tests.{le-leb, lt-leb, leb-true, leb-false, eq-eqb, eqb-true}
+use lib.Dec.{eqb}
+use borrow.Author.Tests.{le-leb, lt-leb, eqb-true, eq-eqb}
+use Rattle.std.specs.Prelude.{Result, Ok, Err}
 use Rattle.octets.specs.declared.Cursor.{Cursor}
 use Rattle.format.specs.declared.Profile.{Profile}
-use Rattle.format.specs.declared.Fault.{Fault}
-use Rattle.format.specs.declared.Spot.{Spot}
 use Rattle.format.specs.declared.Fault.TheVariants.{Long as LONG, Trail as TRAIL}
 use Rattle.format.specs.declared.Header.{Header}
-use Rattle.format.specs.declared.Record.{Record}
-use Rattle.format.specs.declared.Reading.{Reading}
-use Rattle.format.specs.declared.Place.{Place}
 use Rattle.format.specs.declared.Info.{Info}
-use Rattle.format.specs.declared.Verdict.{Verdict}
-use Rattle.format.specs.declared.Verdict.TheVariants.{Accepted, Refused as Stopped}
-use Rattle.format.specs.Bodies.{place_in, items_slot, string_slot, blocks_slot}
-use Rattle.format.specs.Tests.{section, no_section, spot_at, Outcome, got, refused, ◌else◌at◌, tests, place}
+use Rattle.format.specs.declared.Place.{Place}
+use Rattle.format.specs.declared.Record.{Record}
+use Rattle.format.specs.declared.Refusal.{Refusal}
+use Rattle.format.specs.Tests.{Outcome, got, refused, place, no_place, no_section, section, spot_at, Reader, and_then, ◌else◌at◌, tests}
 use Rattle.format.specs.Presence.{items_there, info_there, name_bit, relative_bit, workdir_bit, arguments_bit, icon_bit, string_there, strings_unicode}
+use Rattle.format.specs.Verdicts.{Verdict}
+use Rattle.format.specs.Numbers.{Numbered}
 use Rattle.format.specs.Header.{header}
-use Rattle.format.specs.Numbers.{answer_number, answer_value, outcome_value, Numbered}
+use Rattle.format.specs.Info.{info, no_info}
+use Rattle.format.specs.Items.{items}
+use Rattle.format.specs.Strings.{string}
+use Rattle.format.specs.Bodies.{place_in, blocks_slot}
+use Rattle.format.specs.Steps.Answers.{refusal, read_from}
 use Rattle.format.specs.Steps.Firsts.{firsts}
-use Rattle.format.specs.Steps.Answers.{outcome_end}
+use Rattle.format.specs.Shortcut.{Section, Tail, Sections, sum, blocks_of, most, found, tail, sections, shortcut, record_of, no_record, reading, verdict_of, faulted_by, faulted}
 use Rattle.format.specs.Demands.{Accepts}
-use Rattle.format.specs.Shortcut.{Section, verdict_of, faulted_by, faulted, Tail, Sections, most, tail, sections, shortcut, record_of, reading, sum}
+use Rattle.format.proofs.Chains.{chain_elim, got_elim, no_true}
+use Rattle.format.proofs.PlaceLaws.{found_elim}
 use Rattle.format.proofs.HeaderLaws.{header_size}
-use Rattle.format.proofs.Chains.{got_elim}
+use Rattle.format.proofs.BlockLaws.{blocks_Walked}
+use Rattle.format.specs.Blocks.{blocks}
+use Rattle.format.proofs.AcceptedLaws.{shortcut-Whole}
 use Rattle.format.proofs.AnswerLaws.{numbered}
-use Rattle.header.specs.Steps.Taken.{header_taken, header_at}
-use Rattle.header.specs.declared.HeaderTaken.{HeaderTaken}
-use Rattle.header.specs.declared.HeaderTaken.TheVariants.{Got, Refused}
-use Rattle.blocks.specs.Steps.Walk.{no_firsts}
+use Rattle.blocks.specs.Steps.Walk.{no_firsts, blocks_taken, blocks_at, blocks_firsts}
 use Rattle.info.specs.Steps.Found.{no_lengths, text_lengths}
-use Rattle.reader.specs.declared.Next.{Next}
-use Rattle.reader.specs.declared.Next.TheVariants.{On, Off}
-use Rattle.reader.specs.declared.Outline.{Outline}
+use Rattle.info.specs.Steps.Taken.{info_at, info_held}
 use Rattle.reader.specs.declared.SectionEnds.{SectionEnds}
-use Rattle.reader.specs.Steps.EachSection.{Walk, items_step, string_step, info_step, at_of, ends_of, record_from, walk_from}
-use Rattle.reader.specs.Steps.Finish.{walk_off, walk_after, walk_of, outline_off, trailing, ended_with, outline_is, lengths_in, FirstsOf, Whole, Told, next_verdict, next_number, next_value, OutlineAnswer}
-use Rattle.reader.proofs.Runs.{Reached, Runs, section_of, then-From, on_not_off}
-use Rattle.reader.proofs.WalkLaws.{Outlines}
-use Rattle.reader.proofs.StepLaws.{items-From, string-From, info-From, BlocksFact, blocks-From}
+use Rattle.reader.specs.Steps.EachSection.{go_on, given, after, string_on, info_on, info_lengths, ended_at, outline_from, lengths_from, firsts_from}
+use Rattle.reader.specs.Steps.Finish.{ends_in, outlined, outline, lengths_read, firsts_read, Whole, lengths_in, FirstsOf, Told, next_verdict, next_number, next_value, OutlineAnswer}
+use Rattle.reader.proofs.Found.{ends_from, FoundAt, StringAt, BlocksAt, TailAt, tail_at}
+use Rattle.reader.proofs.StepLaws.{led, sections_end, tail_led, steps_led}
 
--- ---- the header
-
-pub record HeaderRead (profile : Profile) (s : List ℕ) (h : Header) (c : Cursor) : Type 0 where
-  pub is : header profile 0 s ≡ got h 76
-  pub cursor : c ≡ record { at = 76 }
-
-pub header_got : (profile : Profile) (s : List ℕ) {r : HeaderTaken} {h : Header} {c : Cursor} → r ≡ header_at profile s → r ≡ Got h c → HeaderRead profile s h c
-unfolding header_at
-header_got profile s {r} {h} {c} e k = go (header profile 0 s) refl (sym k ∙ e)
-  where
-    go : (o : Outcome Header) → header profile 0 s ≡ o → Got h c ≡ header_taken o → HeaderRead profile s h c
-    go (got g n) i q =
-        let a : h ≡ g = cc in
-        let b : c ≡ record { at = n } = cc in
-        let m : n ≡ 76 = header_size profile 0 s g n i in
-        record { is = i ∙ rw (a, m); cursor = b ∙ rw m }
-    go (refused f p) i q = absurd (let z : ◌≡◌ {A = ℕ} 0 1 = cc in omega arith)
-
-pub header-refused : (profile : Profile) (s : List ℕ) {r : HeaderTaken} {f : Fault} {q : Spot} → r ≡ header_at profile s → r ≡ Refused f q → header profile 0 s ≡ refused f q
-unfolding header_at
-header-refused profile s {r} {f} {q} e k = go (header profile 0 s) refl (sym k ∙ e)
-  where
-    go : (o : Outcome Header) → header profile 0 s ≡ o → Refused f q ≡ header_taken o → header profile 0 s ≡ refused f q
-    go (got g n) i h = absurd (let z : ◌≡◌ {A = ℕ} 0 1 = cc in omega arith)
-    go (refused g p) i h =
-        let a : g ≡ f = cc in
-        let b : p ≡ q = cc in
-        i ∙ rw (a, b)
-
--- ---- the sections after it
-
--- the sections of a tail by name
-abbrev pub items_in : Tail → Section Place
-items_in v = v.0
-
-abbrev pub info_in : Tail → Section Info
-info_in v = v.1.0
-
-abbrev pub name_in : Tail → Section Place
-name_in v = v.1.1.0
-
-abbrev pub relative_in : Tail → Section Place
-relative_in v = v.1.1.1.0
-
-abbrev pub workdir_in : Tail → Section Place
-workdir_in v = v.1.1.1.1.0
-
-abbrev pub arguments_in : Tail → Section Place
-arguments_in v = v.1.1.1.1.1.0
-
-abbrev pub icon_in : Tail → Section Place
-icon_in v = v.1.1.1.1.1.1.0
-
-abbrev pub blocks_in : Tail → Section (List ℕ)
-blocks_in v = v.1.1.1.1.1.1.1
-
-abbrev string_held : Walk → ℕ → Place
-string_held o k = place_in o.held (string_slot k)
-
-abbrev strings_held : Walk → List Place
-strings_held o = string_held o name_bit ∷ string_held o relative_bit ∷ string_held o workdir_bit ∷ string_held o arguments_bit ∷ string_held o icon_bit ∷ []
-
--- each section stands where the outline says, and holds what it holds; of LinkInfo, what its reader answered
-pub record Outlined (s : List ℕ) (h : Header) (o : Walk) (v : Tail) : Type 0 where
-  pub read : Info
-  pub items : items_in v ≡ section_of (items_there h.flags) 76 o.ends.items (place_in o.held items_slot)
-  pub info : info_in v ≡ section_of (info_there h.flags) o.ends.items o.ends.info read
-  pub name : name_in v ≡ section_of (string_there name_bit h.flags) o.ends.info o.ends.name (string_held o name_bit)
-  pub relative : relative_in v ≡ section_of (string_there relative_bit h.flags) o.ends.name o.ends.relative (string_held o relative_bit)
-  pub workdir : workdir_in v ≡ section_of (string_there workdir_bit h.flags) o.ends.relative o.ends.workdir (string_held o workdir_bit)
-  pub arguments : arguments_in v ≡ section_of (string_there arguments_bit h.flags) o.ends.workdir o.ends.arguments (string_held o arguments_bit)
-  pub icon : icon_in v ≡ section_of (string_there icon_bit h.flags) o.ends.arguments o.ends.icon (string_held o icon_bit)
-  pub blocks : BlocksFact s o.ends.icon o.next (place_in o.held blocks_slot) o.firsts (blocks_in v)
-  pub held : o.held ≡ record_from h (place_in o.held items_slot) read (strings_held o) (place_in o.held blocks_slot)
-
-pub outline_Runs : (profile : Profile) (s : List ℕ) (h : Header) → Runs s (tail profile h.flags) 76 (walk_from profile s h (record { at = 76 })).next (Outlined s h (walk_from profile s h (record { at = 76 })))
-unfolding walk_from record_from at_of ends_of
-outline_Runs profile s h =
-    let f = h.flags in
-    let u = strings_unicode f in
-    let start : Next = On (record { at = 76 }) in
-    let items = items_step s (items_there f) start in
-    let info = info_step profile s (info_there f) items.next in
-    let name = string_step s (string_there name_bit f) (name_bit + 1) u info.next in
-    let relative = string_step s (string_there relative_bit f) (relative_bit + 1) u name.next in
-    let workdir = string_step s (string_there workdir_bit f) (workdir_bit + 1) u relative.next in
-    let arguments = string_step s (string_there arguments_bit f) (arguments_bit + 1) u workdir.next in
-    let icon = string_step s (string_there icon_bit f) (icon_bit + 1) u arguments.next in
-    let r =
-    (then-From (items-From s (items_there f) start)
-    (then-From (info-From profile s (info_there f) items.next)
-    (then-From (string-From s (string_there name_bit f) (name_bit + 1) u info.next)
-    (then-From (string-From s (string_there relative_bit f) (relative_bit + 1) u name.next)
-    (then-From (string-From s (string_there workdir_bit f) (workdir_bit + 1) u relative.next)
-    (then-From (string-From s (string_there arguments_bit f) (arguments_bit + 1) u workdir.next)
-    (then-From (string-From s (string_there icon_bit f) (icon_bit + 1) u arguments.next) (blocks-From s icon.next)))))))).runs (record { at = 76 }) refl in
-    record {
-      on = λ c e.
-          let x = r.on c e in
-          let (items, (info, (name, (relative, (workdir, (arguments, (icon, blocks))))))) = x.fact in
-          record {
-            value = x.value;
-            count = x.count;
-            is = x.is;
-            ends = x.ends;
-            fact = record {
-              read = (info_step profile s (info_there f) (items_step s (items_there f) start).next).held;
-              items = items;
-              info = info;
-              name = name;
-              relative = relative;
-              workdir = workdir;
-              arguments = arguments;
-              icon = icon;
-              blocks = blocks;
-              held = refl;
-            };
-          };
-      off = r.off;
-    }
-
--- ---- the whole
-
-abbrev pub header_section : Header → Section Header
-header_section h = record { there = true; start = 0; len = 76; read = h }
-
-section_read : {A : Type 0} (b : Bool) (p e : ℕ) (a : A) → (section_of b p e a).read ≡ a
-section_read true p e a = refl
-section_read false p e a = refl
-
-holds : {A : Type 0} (b : Bool) (p e : ℕ) (a : A) {c : Section A} → c ≡ section_of b p e a → c.read ≡ a
-holds b p e a k = ap (λ (x : Section _). x.read) k ∙ section_read b p e a
-
-abbrev pub outline : Profile → List ℕ → Header → Walk
-outline profile s h = walk_from profile s h (record { at = 76 })
-
-pub header_held : (profile : Profile) (s : List ℕ) (h : Header) → (outline profile s h).held.header ≡ h
-unfolding walk_from record_from
-header_held profile s h = refl
-
-record_held : (profile : Profile) (s : List ℕ) (h : Header) (v : Tail) → Outlined s h (outline profile s h) v → record_of (header_section h, v) ≡ (outline profile s h).held
-unfolding record_from
-record_held profile s h v F =
-    let f : ℕ = h.flags in
-    let o : Walk = outline profile s h in
-    let j : place (blocks_in v).start (sum (blocks_in v).read) ≡ place_in o.held blocks_slot
-    = ap (λ (p : ℕ). place p (sum (blocks_in v).read)) F.blocks.start ∙ sym F.blocks.body in
-    same
-    (holds (items_there f) 76 o.ends.items _ F.items)
-    (holds (info_there f) o.ends.items o.ends.info _ F.info)
-    (holds (string_there name_bit f) o.ends.info o.ends.name _ F.name)
-    (holds (string_there relative_bit f) o.ends.name o.ends.relative _ F.relative)
-    (holds (string_there workdir_bit f) o.ends.relative o.ends.workdir _ F.workdir)
-    (holds (string_there arguments_bit f) o.ends.workdir o.ends.arguments _ F.arguments)
-    (holds (string_there icon_bit f) o.ends.arguments o.ends.icon _ F.icon) j
-    ∙ sym F.held
-  where
-    same : {a b c d e g i x₁ x₃ x₄ x₅ x₆ x₇ x₈ : Place} {j x₂ : Info} → x₁ ≡ a → x₂ ≡ j → x₃ ≡ b → x₄ ≡ c → x₅ ≡ d → x₆ ≡ e → x₇ ≡ g → x₈ ≡ i
-        → record_from h x₁ x₂ (x₃ ∷ x₄ ∷ x₅ ∷ x₆ ∷ x₇ ∷ []) x₈ ≡ record_from h a j (b ∷ c ∷ d ∷ e ∷ g ∷ []) i
-    same p q r s t u v w = rw (p, q, r, s, t, u, v, w)
-
-pub sections-refused : (profile : Profile) (s : List ℕ) (h : Header) {f : Fault} {q : Spot} → header profile 0 s ≡ got h 76 → tail profile h.flags 76 (drop 76 s) ≡ refused f q → sections profile 0 s ≡ refused f q
-unfolding sections
-sections-refused profile s h e k = rw (e, k)
-
-pub sections-got : (profile : Profile) (s : List ℕ) (h : Header) {v : Tail} {n : ℕ} → header profile 0 s ≡ got h 76 → tail profile h.flags 76 (drop 76 s) ≡ got v n
-    → sections profile 0 s ≡ got (header_section h, v) (76 + n)
-unfolding sections
-sections-got profile s h e k = rw (e, k)
-
-module _ (profile : Profile) (s : List ℕ) (small : length s ≤ most) where
-  pub shortcut-refused : {f : Fault} {q : Spot} → sections profile 0 s ≡ refused f q → shortcut profile s ≡ refused f q
-  unfolding shortcut
-  shortcut-refused e = rw (le-leb (length s) most small, e)
-
-  pub shortcut_ends : {c : Sections} {n : ℕ} → sections profile 0 s ≡ got c n → shortcut profile s ≡ tests (section 9 (n - 4)) (eqb n (length s) else TRAIL at 4 ∷ []) (got c n)
-  unfolding shortcut
-  shortcut_ends e = rw (le-leb (length s) most small, e)
-
-  pub header-refused-shortcut : {f : Fault} {q : Spot} → header profile 0 s ≡ refused f q → shortcut profile s ≡ refused f q
-  unfolding sections
-  header-refused-shortcut e = shortcut-refused (rw e)
+-- ---- the answer
 
 pub long_shortcut : (profile : Profile) (s : List ℕ) → most < length s → shortcut profile s ≡ refused LONG (spot_at no_section most)
 unfolding shortcut
 long_shortcut profile s h = rw (lt-leb (length s) most h)
 
--- ---- how the walk went
-
--- all of s was read: its header, and the sections after it up to the last byte
-pub record Walked (profile : Profile) (s : List ℕ) : Type 0 where
-  pub small : length s ≤ most
-  pub head : Header
-  pub is : header profile 0 s ≡ got head 76
-  pub walk : walk_of profile s ≡ outline profile s head
-  pub next : (outline profile s head).next ≡ On (record { at = length s })
-
-pub data Went (profile : Profile) (s : List ℕ) : Type 0 where
-  whole : Walked profile s → Went profile s
-  stopped : (f : Fault) (p : Spot) → outline_is s (walk_of profile s) ≡ outline_off f p → shortcut profile s ≡ refused f p → Went profile s
-
 module _ (profile : Profile) (s : List ℕ) where
-  pub went : Went profile s
-  unfolding walk_of walk_off ended_with
-  went = go (leb (length s) most) refl refl
+  -- too long
+  pub outline_long : most < length s → Err (refusal LONG (spot_at no_section most)) ≡ outline profile s
+  unfolding outline
+  outline_long h = ap outlined (sym (long_shortcut profile s h))
+
+  -- else the header, and the sections after it
+  pub outline_step : length s ≤ most → {r : Result (Header × Cursor) Refusal} → r ≡ read_from 0 (header profile 0 s) → go_on r (λ x. outline_from profile s x.0 x.1) ≡ outline profile s
+  unfolding outline shortcut
+  outline_step h e = rw e (steps_led profile s ∙ sym (rw (le-leb (length s) most h) (go (sections profile 0 s))))
     where
-      ended : length s ≤ most → (h : Header) → header profile 0 s ≡ got h 76 → walk_of profile s ≡ outline profile s h → (c : Cursor) → (outline profile s h).next ≡ On c
-          → (b : Bool) → eqb c.at (length s) ≡ b → Went profile s
-      ended k h e y c n true q =
-          let m : c.at ≡ length s = eqb-true _ _ q in
-          whole (record { small = k; head = h; is = e; walk = y; next = n ∙ rw m })
-      ended k h e y c n false q =
-          let x = (outline_Runs profile s h).on c n in
-          let j : 76 + x.count ≡ c.at = x.ends in
-          let m : c.at - 4 + 4 ≡ c.at = omega arith in
-          stopped TRAIL (trailing c) (rw (y, n, q)) (shortcut_ends profile s k (sections-got profile s h e x.is) ∙ rw (j, q, m))
+      trailing : (b : Bool) (c : Sections) (n : ℕ)
+          → outlined (cond b (got c n) (refused TRAIL (spot_at (section 9 (n - 4)) 4))) ≡ cond b (Ok (ends_in c)) (Err (refusal TRAIL (spot_at (section 9 (n - 4)) 4)))
+      trailing true c n = refl
+      trailing false c n = refl
 
-      from : length s ≤ most → (h : Header) → header profile 0 s ≡ got h 76 → walk_of profile s ≡ outline profile s h → (t : Next) → (outline profile s h).next ≡ t → Went profile s
-      from k h e y (On c) n = ended k h e y c n (eqb c.at (length s)) refl
-      from k h e y (Off f q) n = stopped f q (rw (y, n)) (shortcut-refused profile s k (sections-refused profile s h e ((outline_Runs profile s h).off f q n)))
+      go : (o : Outcome Sections) → outlined (and_then o (λ c n. tests (section 9 (n - 4)) (eqb n (length s) else TRAIL at 4 ∷ []) (got c n))) ≡ led (sections_end s) o
+      go (got c n) = trailing (eqb n (length s)) c n
+      go (refused f q) = refl
 
-      after : length s ≤ most → (t : HeaderTaken) → t ≡ header_at profile s → walk_of profile s ≡ walk_after profile s t → Went profile s
-      after k (Got h c) i x =
-          let g = header_got profile s i refl in
-          from k h g.is (x ∙ ap (walk_from profile s h) g.cursor) (outline profile s h).next refl
-      after k (Refused f p) i x = stopped f p (rw x) (header-refused-shortcut profile s k (header-refused profile s i refl))
+  -- ---- the two rows
 
-      go : (b : Bool) → leb (length s) most ≡ b → walk_of profile s ≡ cond b (walk_after profile s (header_at profile s)) (walk_off LONG (spot_at no_section most)) → Went profile s
-      go true k x = after (leb-true (length s) most k) (header_at profile s) refl x
-      go false k x = stopped LONG (spot_at no_section most) (rw x) (long_shortcut profile s (leb-false (length s) most k))
+  pub lengths_long : most < length s → no_lengths ≡ lengths_read profile s
+  unfolding lengths_read
+  lengths_long h = rw (lt-leb (length s) most h)
 
--- ---- what the outline tells
+  pub lengths_step : length s ≤ most → {r : Result (Header × Cursor) Refusal} → r ≡ read_from 0 (header profile 0 s) → given r (λ x. lengths_from profile s x.0 x.1) no_lengths ≡ lengths_read profile s
+  unfolding lengths_read
+  lengths_step h e = rw (e, le-leb (length s) most h)
 
-module _ {profile : Profile} {s : List ℕ} (W : Walked profile s) where
-  -- the reader of the sections after the header
-  pub walked_tail : Reached s (tail profile W.head.flags) 76 (length s) (Outlined s W.head (outline profile s W.head))
-  walked_tail = (outline_Runs profile s W.head).on (record { at = length s }) W.next
+  pub firsts_long : most < length s → no_firsts ≡ firsts_read profile s
+  unfolding firsts_read
+  firsts_long h = rw (lt-leb (length s) most h)
 
-  walked_shortcut : shortcut profile s ≡ got (header_section W.head, walked_tail.value) (length s)
-  walked_shortcut =
-      let x = walked_tail in
-      let j : 76 + x.count ≡ length s = x.ends in
-      shortcut_ends profile s W.small (sections-got profile s W.head W.is x.is) ∙ rw (j, eq-eqb (length s) (length s) refl)
+  pub firsts_step : length s ≤ most → {r : Result (Header × Cursor) Refusal} → r ≡ read_from 0 (header profile 0 s) → given r (λ x. firsts_from profile s x.0 x.1) no_firsts ≡ firsts_read profile s
+  unfolding firsts_read
+  firsts_step h e = rw (e, le-leb (length s) most h)
 
-  pub walked_held : (reading profile s).held ≡ (walk_of profile s).held
-  unfolding reading
-  walked_held = rw (walked_shortcut, W.walk) (record_held profile s W.head walked_tail.value walked_tail.fact)
-
-  pub walked_Accepts : Accepts profile s (reading profile s).held
-  unfolding Accepts reading
-  walked_Accepts = rw walked_shortcut
-
-  -- the row of an accepted shortcut is that of its blocks
-  walked_firsts : FirstsOf s (reading profile s).held (walk_of profile s).firsts
-  walked_firsts lengths n e =
-      let o : Walk = outline profile s W.head in
-      let F = walked_tail.fact.blocks in
-      let held : (reading profile s).held ≡ o.held = walked_held ∙ ap (λ (w : Walk). w.held) W.walk in
-      let start : (place_in (reading profile s).held blocks_slot).at ≡ o.ends.icon = ap (λ (r : Record). (place_in r blocks_slot).at) held ∙ ap (λ (b : Place). b.at) F.body in
-      rw (start, W.walk) (got_elim (λ ls n. o.firsts ≡ firsts s o.ends.icon ls) (sym F.is ∙ (rw start at e)) F.first)
-
-refused_not : {f : Fault} {p n : ℕ} → ◌≡◌ {A = Verdict} (Stopped f p) (Accepted n) → ⊥
-refused_not e = let z : ◌≡◌ {A = ℕ} 0 1 = cc in omega arith
-
--- an accepted shortcut was walked over
-pub Whole-Walked : {profile : Profile} {s : List ℕ} {e : SectionEnds} {texts : List ℕ} → Whole profile s e texts → Walked profile s
-unfolding Accepts reading
-Whole-Walked {profile} {s} A = go (went profile s)
+-- the terminal block has four bytes
+pub four_after : (s : List ℕ) (p : ℕ) {b : Place} {c : Cursor} → Ok (b, c) ≡ blocks_at s p → 4 ≤ c.at
+unfolding blocks_at
+four_after s p {b} {c} e = go (blocks p (drop p s)) refl e
   where
-    go : Went profile s → Walked profile s
-    go (whole W) = W
-    go (stopped f p i e) =
-        absurd (refused_not (ap (λ (o : Outcome Sections). verdict_of o) (sym e) ∙ ap (λ (x : Reading). x.verdict) A.accepted))
+    go : (o : Outcome (List ℕ)) → blocks p (drop p s) ≡ o → Ok (b, c) ≡ blocks_taken p o → 4 ≤ c.at
+    go (got ls n) i h =
+        let z : (b, c) ≡ (place p (sum ls), record { at = p + n }) = cc in
+        let m : c.at ≡ p + n = ap (λ (x : Place × Cursor). x.1.at) z in
+        omega (arith, (blocks_Walked [] p (drop p s) ls n i).adds)
+    go (refused f q) i h = absurd (let z : ◌≡◌ {A = ℕ} 0 1 = cc in omega arith)
 
-module _ (profile : Profile) (s : List ℕ) {o : Outline} {texts row : List ℕ} where
-  Told-off : {f : Fault} {p : Spot} → o.next ≡ Off f p → shortcut profile s ≡ refused f p → Told profile s o texts row
+-- ---- a step over a section that was found goes on at its end
+
+place_step : {s : List ℕ} (P : Reader Place) (b : Bool) (p : ℕ) {v : Section Place} → FoundAt s P b no_place p v
+    → cond b (after (read_from p (P p (drop p s)))) (Ok (record { at = p })) ≡ Ok (record { at = p + v.len })
+place_step P true p F = rw (F.there refl)
+place_step P false p {v} F = let z : p ≡ p + v.len = omega (arith, (F.lacking refl).1) in ap (λ (q : ℕ). Ok (record { at = q })) z
+
+module _ (profile : Profile) {s : List ℕ} where
+  info_step : (b : Bool) (p : ℕ) {v : Section Info} → FoundAt s (info profile) b no_info p v → info_on profile s b (record { at = p }) ≡ Ok (record { at = p + v.len })
+  unfolding info_at
+  info_step true p F = rw (F.there refl)
+  info_step false p {v} F = let z : p ≡ p + v.len = omega (arith, (F.lacking refl).1) in ap (λ (q : ℕ). Ok (record { at = q })) z
+
+  info_said : (b : Bool) (p : ℕ) {v : Section Info} → FoundAt s (info profile) b no_info p v → info_lengths profile s b (record { at = p }) ≡ text_lengths v.read
+  unfolding info_held text_lengths
+  info_said true p F = rw (F.there refl)
+  info_said false p F = sym (ap text_lengths (F.lacking refl).0)
+
+blocks_noted : {s : List ℕ} {p q : ℕ} {v : Section (List ℕ)} → BlocksAt s p v q → blocks_firsts s p ≡ firsts s v.start v.read
+unfolding blocks_firsts
+blocks_noted F = rw (F.is, F.start)
+
+-- the rows, where the sections after the header are known
+module _ {profile : Profile} {s : List ℕ} (h : Header) {p q : ℕ} {v : Tail} (T : TailAt profile s h.flags p v q) where
+  lengths_tail : lengths_from profile s h (record { at = p }) ≡ text_lengths v.1.0.read
+  lengths_tail = rw (place_step items (items_there h.flags) p T.items) (info_said profile (info_there h.flags) _ T.info)
+
+  string_step : (k p : ℕ) {v : Section Place} → StringAt s h.flags k p v
+      → string_on s (string_there k h.flags) (k + 1) (strings_unicode h.flags) (record { at = p }) ≡ Ok (record { at = p + v.len })
+  string_step k p F = place_step (string (k + 1) (strings_unicode h.flags)) (string_there k h.flags) p F
+
+  firsts_tail : firsts_from profile s h (record { at = p }) ≡ firsts s v.1.1.1.1.1.1.1.start v.1.1.1.1.1.1.1.read
+  firsts_tail =
+      let e = ends_from p v in
+      rw (
+        place_step items (items_there h.flags) p T.items,
+        info_step profile (info_there h.flags) e.items T.info,
+        string_step name_bit e.info T.name,
+        string_step relative_bit e.name T.relative,
+        string_step workdir_bit e.relative T.workdir,
+        string_step arguments_bit e.workdir T.arguments,
+        string_step icon_bit e.arguments T.icon,
+      )
+      (blocks_noted T.blocks)
+
+-- ---- the sections after the header
+
+-- they were read as the tail v of n bytes, each where the one before it ended; the rows are those of its LinkInfo and of its blocks
+pub record Outlined (profile : Profile) (s : List ℕ) (h : Header) (v : Tail) (n : ℕ) : Type 0 where
+  pub is : tail profile h.flags 76 (drop 76 s) ≡ got v n
+  pub found : TailAt profile s h.flags 76 v (76 + n)
+  pub lengths : lengths_from profile s h (record { at = 76 }) ≡ text_lengths v.1.0.read
+  pub firsts : firsts_from profile s h (record { at = 76 }) ≡ firsts s v.1.1.1.1.1.1.1.start v.1.1.1.1.1.1.1.read
+
+-- how the steps r over them run: up to the end, up to a terminal block with bytes after it, or to a refusal, which is that of reading them
+pub data Runs (profile : Profile) (s : List ℕ) (h : Header) (r : Result SectionEnds Refusal) : Type 0 where
+  whole : (v : Tail) (n : ℕ) → Outlined profile s h v n → 76 + n ≡ length s → r ≡ Ok (ends_from 76 v) → Runs profile s h r
+  trailing : (v : Tail) (n : ℕ) → Outlined profile s h v n → (76 + n ≡ length s → ⊥) → r ≡ Err (refusal TRAIL (spot_at (section 9 (76 + n - 4)) 4)) → Runs profile s h r
+  stopped : (x : Refusal) → tail profile h.flags 76 (drop 76 s) ≡ refused x.fault x.spot → r ≡ Err x → Runs profile s h r
+
+pub outline_Runs : (profile : Profile) (s : List ℕ) (h : Header) → Runs profile s h (outline_from profile s h (record { at = 76 }))
+outline_Runs profile s h = go (tail profile h.flags 76 (drop 76 s)) refl (tail_led profile s h 76)
+  where
+    ended : (v : Tail) (n : ℕ) → Outlined profile s h v n → (b : Bool) → eqb (76 + n) (length s) ≡ b
+        → outline_from profile s h (record { at = 76 }) ≡ ended_at (length s) (ends_from 76 v) (record { at = 76 + n }) → Runs profile s h (outline_from profile s h (record { at = 76 }))
+    ended v n w true q e = whole v n w (eqb-true (76 + n) (length s) q) (e ∙ rw q)
+    ended v n w false q e = trailing v n w (λ z. no_true (sym q ∙ eq-eqb (76 + n) (length s) z)) (e ∙ rw q)
+
+    go : (o : Outcome Tail) → tail profile h.flags 76 (drop 76 s) ≡ o → outline_from profile s h (record { at = 76 }) ≡ led (λ v n. ended_at (length s) (ends_from 76 v) (record { at = 76 + n })) o
+        → Runs profile s h (outline_from profile s h (record { at = 76 }))
+    go (got v n) i e =
+        let t : TailAt profile s h.flags 76 v (76 + n) = tail_at profile s h.flags 76 v n i in
+        ended v n (record { is = i; found = t; lengths = lengths_tail h t; firsts = firsts_tail h t }) (eqb (76 + n) (length s)) refl e
+    go (refused f q) i e = stopped (refusal f q) i e
+
+-- ---- an accepted shortcut
+
+-- the sections c were read, up to q
+pub record Reads (profile : Profile) (s : List ℕ) (c : Sections) (q : ℕ) : Type 0 where
+  pub header : header profile 0 s ≡ got c.0.read c.0.len
+  pub head : c.0.len ≡ 76
+  pub first : c.0 ≡ record { there = true; start = 0; len = 76; read = c.0.read }
+  pub tail : TailAt profile s c.0.read.flags c.0.len c.1 q
+
+sections_read : (profile : Profile) (s : List ℕ) (c : Sections) (n : ℕ) → sections profile 0 s ≡ got c n → Reads profile s c n
+unfolding sections
+sections_read profile s c n e =
+    chain_elim (found (header profile)) (λ (h : Section Header). tail profile h.read.flags) 0 s (Reads profile s)
+    (λ a k b m i j. found_elim (header profile) 0 s (λ a k. tail profile a.read.flags (0 + k) (drop k s) ≡ got b m → Reads profile s (a, b) (k + m)) (from b m) a k i j) c n e
+  where
+    from : (b : Tail) (m : ℕ) (h : Header) (k : ℕ) → header profile 0 s ≡ got h k → tail profile h.flags (0 + k) (drop k s) ≡ got b m
+        → Reads profile s (record { there = true; start = 0; len = k; read = h }, b) (k + m)
+    from b m h k i j =
+        let z : tail profile h.flags k (drop k s) ≡ got b m = subst (λ (p : ℕ). tail profile h.flags p (drop k s) ≡ got b m) (zero-add k) j in
+        let size = header_size profile 0 s h k i in
+        record { header = i; head = size; first = ap (λ (n : ℕ). record { there = true; start = 0; len = n; read = h }) size; tail = tail_at profile s h.flags k b m z }
+
+-- s reads as the sections c, all of it
+pub record Whole_is (profile : Profile) (s : List ℕ) (c : Sections) : Type 0 where
+  pub small : length s ≤ most
+  pub is : shortcut profile s ≡ got c (length s)
+  pub reads : Reads profile s c (length s)
+
+pub whole_is : (profile : Profile) (s : List ℕ) {c : Sections} {n : ℕ} → shortcut profile s ≡ got c n → Whole_is profile s c
+whole_is profile s {c} {n} e =
+    let W = shortcut-Whole profile s c n e in
+    record { small = W.limit; is = e ∙ ap (got c) W.all; reads = subst (Reads profile s c) W.all (sections_read profile s c n W.read) }
+
+module _ {profile : Profile} {s : List ℕ} {c : Sections} (W : Whole_is profile s c) where
+  pub whole_held : (reading profile s).held ≡ record_of c
   unfolding reading
-  Told-off {f} {p} e i = record {
-    on = λ c k. absurd (on_not_off k e);
-    end = λ c k. absurd (on_not_off k e);
-    noted = λ c k. absurd (on_not_off k e);
-    off = λ g q k. same g q k;
-    stopped = λ g q k. rw (same g q k);
+  whole_held = rw W.is
+
+  whole_Accepts : Accepts profile s (reading profile s).held
+  unfolding Accepts reading
+  whole_Accepts = rw W.is
+
+  abbrev the_header : List ℕ → Header → ℕ → Type 0
+  the_header s h n = read_from 0 (header profile 0 s) ≡ Ok (h, record { at = n })
+
+  header_step : the_header s c.0.read c.0.len
+  header_step = let z = zero-add c.0.len in rw (W.reads.header, z)
+
+  whole_lengths : lengths_read profile s ≡ lengths_in (reading profile s).held
+  unfolding lengths_read lengths_in text_lengths
+  whole_lengths = rw (le-leb (length s) most W.small, header_step, whole_held) (lengths_tail c.0.read W.reads.tail)
+
+  -- the row of signatures is that of the blocks
+  whole_firsts : firsts_read profile s ≡ firsts s (blocks_of c).start (blocks_of c).read
+  unfolding firsts_read
+  whole_firsts = rw (le-leb (length s) most W.small, header_step) (firsts_tail c.0.read W.reads.tail)
+
+  whole_noted : FirstsOf s (reading profile s).held (firsts_read profile s)
+  whole_noted lengths n e =
+      let b = W.reads.tail.blocks in
+      let start : (place_in (reading profile s).held blocks_slot).at ≡ (blocks_of c).start = ap (λ (r : Record). (place_in r blocks_slot).at) whole_held in
+      rw start (whole_firsts ∙ got_elim (λ ls n. firsts s (blocks_of c).start (blocks_of c).read ≡ firsts s (blocks_of c).start ls) (sym b.is ∙ rw (start, b.start) at e) refl)
+
+-- ---- what the answer tells
+
+module _ {profile : Profile} {s : List ℕ} {e : SectionEnds} {texts : List ℕ} (w : Whole profile s e texts) where
+  -- an accepted shortcut by its sections
+  pub record Sectioned : Type 0 where
+    pub sections : Sections
+    pub ends : e ≡ ends_in sections
+    pub whole : Whole_is profile s sections
+
+  pub sectioned : Sectioned
+  unfolding outline
+  sectioned = go (shortcut profile s) refl w.ends
+    where
+      go : (o : Outcome Sections) → shortcut profile s ≡ o → outlined o ≡ Ok e → Sectioned
+      go (got c n) i h =
+          let z : ends_in c ≡ e = cc in
+          record { sections = c; ends = sym z; whole = whole_is profile s i }
+      go (refused f q) i h = absurd (let z : ◌≡◌ {A = ℕ} 0 1 = cc in omega arith)
+
+  pub accepted : Accepts profile s (reading profile s).held
+  accepted = whole_Accepts sectioned.whole
+
+  pub lengths_held : texts ≡ lengths_in (reading profile s).held
+  lengths_held = w.lengths ∙ whole_lengths sectioned.whole
+
+abbrev pub faults_in : ℕ → Result SectionEnds Refusal → Result ℕ Refusal
+faults_in n (Ok e) = Ok n
+faults_in n (Err r) = Err r
+
+-- of the answer itself
+module _ (profile : Profile) (s : List ℕ) where
+  pub outline_refused : {r : Refusal} → outline profile s ≡ Err r → shortcut profile s ≡ refused r.fault r.spot
+  unfolding outline
+  outline_refused {r} h = go (shortcut profile s) refl h
+    where
+      go : (o : Outcome Sections) → shortcut profile s ≡ o → outlined o ≡ Err r → shortcut profile s ≡ refused r.fault r.spot
+      go (got c n) i h = absurd (let z : ◌≡◌ {A = ℕ} 0 1 = cc in omega arith)
+      go (refused f q) i h =
+          let z : refusal f q ≡ r = cc in
+          i ∙ ap (λ (x : Refusal). refused x.fault x.spot) z
+
+  -- the code's answer o accepts, with the row of signatures beside it
+  module _ {o : Result SectionEnds Refusal} {e : SectionEnds} (i : o ≡ outline profile s) (k : o ≡ Ok e) where
+    accepting : Whole profile s e (lengths_read profile s)
+    accepting = record { ends = sym i ∙ k; lengths = refl }
+
+    pub outline_accepted : Accepts profile s (reading profile s).held
+    outline_accepted = accepted accepting
+
+    pub outline_noted : {row : List ℕ} → row ≡ firsts_read profile s → FirstsOf s (reading profile s).held row
+    outline_noted r = rw r (whole_noted (sectioned accepting).whole)
+
+  -- the verdict of the outline is that of reading
+  pub outline_verdict : next_verdict (length s) (outline profile s) ≡ (reading profile s).verdict
+  unfolding outline reading
+  outline_verdict = go (shortcut profile s) refl
+    where
+      go : (o : Outcome Sections) → shortcut profile s ≡ o → next_verdict (length s) (outlined o) ≡ verdict_of o
+      go (got c n) i = ap Ok (sym (shortcut-Whole profile s c n i).all)
+      go (refused f q) i = refl
+
+  pub read_Numbered : {v : Verdict} → v ≡ (reading profile s).verdict → Numbered v (shortcut profile s)
+  unfolding reading
+  read_Numbered e = numbered (shortcut profile s) e
+
+  -- the code's answer o, and what it gives for it
+  module _ {o : Result SectionEnds Refusal} (is : o ≡ outline profile s) {v : Verdict} (verdict : v ≡ next_verdict (length s) o) where
+    pub verdict_held : v ≡ (reading profile s).verdict
+    verdict_held = verdict ∙ ap (next_verdict (length s)) is ∙ outline_verdict
+
+    pub read_accepted : {r : Record} → r ≡ (reading profile s).held → record { verdict = v; held = r } ≡ reading profile s
+    read_accepted e = rw (verdict_held, e)
+
+    pub read_refused : {r : Refusal} → o ≡ Err r → record { verdict = v; held = no_record } ≡ reading profile s
+    unfolding reading
+    read_refused e = rw (verdict_held, outline_refused (sym is ∙ e))
+
+  -- the shortcut's length, or the refusal as it is
+  pub outline_fault : {o : Result SectionEnds Refusal} → o ≡ outline profile s → faults_in (length s) o ≡ faulted profile s
+  unfolding outline faulted
+  outline_fault e = ap (faults_in (length s)) e ∙ go (shortcut profile s) refl
+    where
+      go : (o : Outcome Sections) → shortcut profile s ≡ o → faults_in (length s) (outlined o) ≡ faulted_by o
+      go (got c n) i = ap Ok (sym (shortcut-Whole profile s c n i).all)
+      go (refused f q) i = refl
+
+  -- its number and its value are those of the shortcut's reading
+  pub outline_answers : {o : Result SectionEnds Refusal} → o ≡ outline profile s → OutlineAnswer profile s o
+  unfolding outline next_number next_value
+  outline_answers e = rw e (go (shortcut profile s) refl)
+    where
+      go : (o : Outcome Sections) → shortcut profile s ≡ o → OutlineAnswer profile s (outlined o)
+      go (got c n) i = record { is = ap outlined (sym i); number = rw i; value = rw (i, (shortcut-Whole profile s c n i).all) (sym (zero-add (length s))) }
+      go (refused f q) i = record { is = ap outlined (sym i); number = rw i; value = rw i }
+
+  -- all that the first phase tells
+  pub told : {o : Result SectionEnds Refusal} {texts row : List ℕ} → o ≡ outline profile s → texts ≡ lengths_read profile s → row ≡ firsts_read profile s → Told profile s o texts row
+  unfolding reading
+  told {o} {texts} {row} i t r = record {
+    whole = λ e k. is_whole e k;
+    accepted = λ e k. accepted (is_whole e k);
+    lengths = λ e k. lengths_held (is_whole e k);
+    noted = λ e k. rw r (whole_noted (sectioned (is_whole e k)).whole);
+    off = λ x k. outline_refused (sym i ∙ k);
+    stopped = λ x k. rw (outline_refused (sym i ∙ k));
   }
     where
-      same : (g : Fault) (q : Spot) → o.next ≡ Off g q → shortcut profile s ≡ refused g q
-      same g q k =
-          let z : Off f p ≡ Off g q = sym e ∙ k in
-          let a : f ≡ g = cc in
-          let b : p ≡ q = cc in
-          i ∙ rw (a, b)
-
-  pub told : o ≡ outline_is s (walk_of profile s) → texts ≡ lengths_in (walk_of profile s).held → row ≡ (walk_of profile s).firsts → Told profile s o texts row
-  unfolding ended_with outline_off
-  told O T F = go (went profile s)
-    where
-      go : Went profile s → Told profile s o texts row
-      go (whole W) =
-          let i : o ≡ record { next = On (record { at = length s }); ends = (walk_of profile s).ends } = O ∙ rw (W.walk, W.next, eq-eqb (length s) (length s) refl) in
-          record {
-            on = λ c k. record {
-              accepted = walked_Accepts W;
-              held = walked_held W;
-              ends = ap (λ (x : Outline). x.ends) i;
-              lengths = T ∙ ap lengths_in (sym (walked_held W));
-            };
-            end = λ c k.
-                let z : On (record { at = length s }) ≡ On c = sym (ap (λ (x : Outline). x.next) i) ∙ k in
-                let y : ◌≡◌ {A = Cursor} (record { at = length s }) c = cc in
-                ap (λ (x : Cursor). x.at) (sym y);
-            noted = λ c k. rw F (walked_firsts W);
-            off = λ f p k. absurd (on_not_off (ap (λ (x : Outline). x.next) i) k);
-            stopped = λ f p k. absurd (on_not_off (ap (λ (x : Outline). x.next) i) k);
-          }
-      go (stopped f p i e) = Told-off (ap (λ (x : Outline). x.next) (O ∙ i)) e
-
--- ---- the verdict and the fault
-
-module _ {profile : Profile} {s : List ℕ} {o : Outline} {texts row : List ℕ} (T : Told profile s o texts row) where
-  pub told_accepted : {c : Cursor} → o.next ≡ On c → Accepted c.at ≡ (reading profile s).verdict
-  unfolding Accepts
-  told_accepted {c} k = ap Accepted (T.end c k) ∙ sym (ap (λ (x : Reading). x.verdict) (T.on c k).accepted)
-
-  pub told_refused : {f : Fault} {p : Spot} → o.next ≡ Off f p → Stopped f p.position ≡ (reading profile s).verdict
-  told_refused {f} {p} k = sym (ap (λ (x : Reading). x.verdict) (T.stopped f p k))
-
-  pub told_verdict : {v : Verdict} → v ≡ next_verdict o.next → v ≡ (reading profile s).verdict
-  unfolding next_verdict
-  told_verdict {v} e = go o.next refl e
-    where
-      go : (t : Next) → o.next ≡ t → v ≡ next_verdict t → v ≡ (reading profile s).verdict
-      go (On c) k q = q ∙ told_accepted k
-      go (Off f p) k q = q ∙ told_refused k
-
-  -- an accepting verdict is that of an outline that goes on
-  pub told_on : {v : Verdict} {n : ℕ} → v ≡ next_verdict o.next → v ≡ Accepted n → Whole profile s o.ends texts
-  unfolding next_verdict
-  told_on {v} {n} e q = go o.next refl e
-    where
-      go : (t : Next) → o.next ≡ t → v ≡ next_verdict t → Whole profile s o.ends texts
-      go (On c) k x = T.on c k
-      go (Off f p) k x = absurd (refused_not (sym x ∙ q))
-
-  -- a refusing one that of an outline that stops
-  pub told_left : {v : Verdict} {f : Fault} {n : ℕ} → v ≡ next_verdict o.next → v ≡ Stopped f n → (p : Spot) × ((v ≡ Stopped f p.position) × (shortcut profile s ≡ refused f p))
-  unfolding next_verdict
-  told_left {v} {f} {n} e q = go o.next refl e
-    where
-      go : (t : Next) → o.next ≡ t → v ≡ next_verdict t → (p : Spot) × ((v ≡ Stopped f p.position) × (shortcut profile s ≡ refused f p))
-      go (On c) k x = absurd (refused_not (sym q ∙ x))
-      go (Off g p) k x =
-          let z : Stopped g p.position ≡ Stopped f n = sym x ∙ q in
-          let w : g ≡ f = cc in
-          (p, (x ∙ rw w, T.off g p k ∙ rw w))
-
-  -- an accepted shortcut with its record
-  pub told_read : {c : Cursor} {r : Record} → o.next ≡ On c → r ≡ (reading profile s).held → record { verdict = Accepted c.at; held = r } ≡ reading profile s
-  unfolding Accepts
-  told_read {c} k e = rw (T.end c k, e) (sym (T.on c k).accepted)
-
-  pub fault_whole : {c : Cursor} → o.next ≡ On c → record { verdict = Accepted c.at; section = 0; start = 0 } ≡ faulted profile s
-  unfolding faulted reading
-  fault_whole {c} k = go (shortcut profile s) (told_accepted k)
-    where
-      go : (q : Outcome Sections) → Accepted c.at ≡ verdict_of q → record { verdict = Accepted c.at; section = 0; start = 0 } ≡ faulted_by q
-      go (got v n) e = rw e
-      go (refused f p) e = absurd (refused_not (sym e))
-
-  pub fault_off : {f : Fault} {p : Spot} → o.next ≡ Off f p → record { verdict = Stopped f p.position; section = p.section; start = p.start } ≡ faulted profile s
-  unfolding faulted
-  fault_off {f} {p} k = rw (T.off f p k)
-
--- the answer has the number and the value of the reading
-pub read_Numbered : (profile : Profile) (s : List ℕ) {v : Verdict} → v ≡ (reading profile s).verdict → Numbered v (shortcut profile s)
-unfolding reading
-read_Numbered profile s e = numbered (shortcut profile s) e
-
-abbrev verdict_at : Next → Verdict
-verdict_at (On c) = Accepted c.at
-verdict_at (Off f p) = Stopped f p.position
-
-next_number_lem : (t : Next) → next_number t ≡ answer_number (verdict_at t)
-unfolding next_number answer_number
-next_number_lem (On c) = refl
-next_number_lem (Off f p) = refl
-
-next_value_lem : (t : Next) → next_value t ≡ answer_value (verdict_at t)
-unfolding next_value answer_value
-next_value_lem (On c) = refl
-next_value_lem (Off f p) = refl
-
-outcome_end_lem : (q : Outcome Sections) → outcome_value q ≡ outcome_end 0 q
-outcome_end_lem (got v n) = omega arith
-outcome_end_lem (refused f p) = refl
-
-outlined : {profile : Profile} {s : List ℕ} {o : Outline} {texts row : List ℕ} → Told profile s o texts row → o ≡ outline_is s (walk_of profile s) → OutlineAnswer profile s o
-outlined {profile} {s} {o} T e =
-    let n = read_Numbered profile s (verdict o.next refl) in
-    record { is = e; number = next_number_lem o.next ∙ n.0; value = next_value_lem o.next ∙ n.1 ∙ outcome_end_lem (shortcut profile s) }
-  where
-    verdict : (t : Next) → o.next ≡ t → verdict_at t ≡ (reading profile s).verdict
-    verdict (On c) k = told_accepted T k
-    verdict (Off f p) k = told_refused T k
-
--- ---- for the code
-
--- what the first phase answers, with its two rows
-abbrev pub Phase : Profile → List ℕ → Outline → List ℕ → List ℕ → Type 0
-Phase profile s o texts row =
-    OutlineAnswer profile s o × ((texts ≡ lengths_in (walk_of profile s).held) × ((row ≡ (walk_of profile s).firsts) × Told profile s o texts row))
-
--- the slots of LinkInfo's texts have the lengths of what LinkInfo says
-held_lengths : (profile : Profile) (s : List ℕ) (h : Header) (c : Cursor) → text_lengths (walk_from profile s h c).info ≡ lengths_in (walk_from profile s h c).held
-unfolding walk_from record_from lengths_in text_lengths
-held_lengths profile s h c = refl
-
-module _ (profile : Profile) (s : List ℕ) {o : Outline} {texts row : List ℕ} where
-  phase : o ≡ outline_is s (walk_of profile s) → texts ≡ lengths_in (walk_of profile s).held → row ≡ (walk_of profile s).firsts → Phase profile s o texts row
-  phase e t r =
-      let T = told profile s e t r in
-      (outlined T e, (t, (r, T)))
-
-  Phase-off : (f : Fault) (p : Spot) → walk_of profile s ≡ walk_off f p → o ≡ outline_off f p → texts ≡ no_lengths → row ≡ no_firsts → Phase profile s o texts row
-  unfolding walk_off ended_with lengths_in
-  Phase-off f p w e t r = phase (e ∙ ap (outline_is s) (sym w)) (t ∙ ap (λ (x : Walk). lengths_in x.held) (sym w)) (r ∙ ap (λ (x : Walk). x.firsts) (sym w))
-
-  pub outline_long : most < length s → o ≡ outline_off LONG (spot_at no_section most) → texts ≡ no_lengths → row ≡ no_firsts → Phase profile s o texts row
-  unfolding walk_of
-  outline_long h = Phase-off LONG (spot_at no_section most) (rw (lt-leb (length s) most h))
-
-  pub outline_refused : {t : HeaderTaken} {f : Fault} {q : Spot} → length s ≤ most → t ≡ header_at profile s → t ≡ Refused f q → o ≡ outline_off f q → texts ≡ no_lengths → row ≡ no_firsts → Phase profile s o texts row
-  unfolding walk_of
-  outline_refused {f = f} {q = q} k e i = Phase-off f q (rw (le-leb (length s) most k, ← e, i))
-
-  pub outline_got : {t : HeaderTaken} {h : Header} {c : Cursor} → length s ≤ most → t ≡ header_at profile s → t ≡ Got h c → Outlines profile s h c o texts row → Phase profile s o texts row
-  unfolding walk_of
-  outline_got {h = h} {c = c} k e i (x, (t, r)) =
-      let w : walk_of profile s ≡ walk_from profile s h c = rw (le-leb (length s) most k, ← e, i) in
-      phase (x ∙ ap (outline_is s) (sym w)) (t ∙ held_lengths profile s h c ∙ ap (λ (y : Walk). lengths_in y.held) (sym w)) (r ∙ ap (λ (y : Walk). y.firsts) (sym w))
+      is_whole : (e : SectionEnds) → o ≡ Ok e → Whole profile s e texts
+      is_whole e k = record { ends = sym i ∙ k; lengths = t }

@@ -14,7 +14,6 @@ use Rattle.format.specs.declared.Fault.{Fault}
 use Rattle.format.specs.declared.Fault.TheVariants.{Cut as CUT}
 use Rattle.format.specs.declared.Spot.{Spot}
 use Rattle.format.specs.declared.Reading.{Reading}
-use Rattle.format.specs.declared.Verdict.TheVariants.{Refused}
 use Rattle.format.specs.Tests.{section, spot_at, Outcome, got, refused}
 use Rattle.format.specs.Presence.{strings_unicode}
 use Rattle.format.specs.Shortcut.{most, Sections, sections, shortcut, reading}
@@ -26,6 +25,7 @@ use Rattle.refusals.specs.Due.{needed, needed_to}
 use Rattle.refusals.proofs.StepLaws.{Begins, Begins-take, Begins-length, Begins-drop, NoCut, Cuts-step}
 use Rattle.refusals.proofs.FileLaws.{Flagged, Flagged-take, Origin, too_long, in_section, trailing, origin, DueAt, reached, resumed, due_within}
 use Rattle.refusals.proofs.NeedLaws.{needed_more, needed_filled}
+use Rattle.format.proofs.VerdictLaws.{same_position}
 
 -- ---- from reading to its definition and back
 
@@ -178,9 +178,7 @@ cut_Begins profile s {w} e b i = go (begun_at profile s (cut_shape profile (u32_
 
 one_position : (profile : Profile) (s : List ℕ) (f g : Fault) (p q : ℕ) → Refuses profile s f p → Refuses profile s g q → p ≡ q
 unfolding Refuses
-one_position profile s f g p q a b =
-    let z : Refused f p ≡ Refused g q = ap (λ (x : Reading). x.verdict) (sym a ∙ b) in
-    cc
+one_position profile s f g p q a b = same_position (ap (λ (x : Reading). x.verdict) (sym a ∙ b))
 
 pub Begins-taken : (k : ℕ) (s : List ℕ) → Begins (take k s) s
 Begins-taken k s =

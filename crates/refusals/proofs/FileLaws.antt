@@ -14,9 +14,8 @@ use Rattle.octets.proofs.NumberLaws.{number_same}
 use Rattle.format.specs.declared.Profile.{Profile}
 use Rattle.format.specs.declared.Fault.{Fault}
 use Rattle.format.specs.declared.Fault.TheVariants.{Long as LONG, Cut as CUT, Trail as TRAIL}
-use Rattle.format.specs.declared.Faulted.{Faulted}
 use Rattle.format.specs.declared.Spot.{Spot}
-use Rattle.format.specs.declared.Verdict.TheVariants.{Accepted, Refused}
+use Rattle.format.specs.declared.Refusal.{Refusal}
 use Rattle.format.specs.declared.Header.{Header}
 use Rattle.format.specs.Tests.{◌else◌at◌, section, no_section, spot_at, tests, Outcome, got, refused, Reader, and_then, chain}
 use Rattle.format.specs.Presence.{strings_unicode}
@@ -31,6 +30,7 @@ use Rattle.format.proofs.PositionDemands.{positions_inside}
 use Rattle.refusals.specs.Due.{Due}
 use Rattle.refusals.proofs.StepLaws.{Belongs, step, step-Belongs, step_none}
 use Rattle.refusals.proofs.ReachLaws.{Walks-file}
+use Rattle.std.specs.Prelude.{Result, Ok, Err}
 
 -- ---- the flags
 
@@ -200,17 +200,23 @@ spot_is k q w a b c =
     make : ℕ → ℕ → ℕ → Spot
     make x y z = record { section = x; start = y; position = z }
 
+accepted_not : {n : ℕ} {r : Refusal} → ◌≡◌ {A = Result ℕ Refusal} (Ok n) (Err r) → ⊥
+accepted_not z = let y : ◌≡◌ {A = ℕ} 0 1 = cc in omega arith
+
+refusal_parts : {r q : Refusal} → ◌≡◌ {A = Result ℕ Refusal} (Err r) (Err q) → (r.fault ≡ q.fault) × (r.spot ≡ q.spot)
+refusal_parts {r} {q} z =
+    let e : r ≡ q = cc in
+    (ap (λ (x : Refusal). x.fault) e, ap (λ (x : Refusal). x.spot) e)
+
 pub due_at : (profile : Profile) (s : List ℕ) (k q : ℕ) → Due profile s k q → DueAt profile s k q
 unfolding faulted
 due_at profile s k q e = go (shortcut profile (take q s)) refl e
   where
-    go : (o : Outcome Sections) → shortcut profile (take q s) ≡ o → faulted_by o ≡ record { verdict = Refused CUT q; section = k; start = q } → shortcut profile (take q s) ≡ refused CUT (spot_at (section k q) 0)
-    go (got c n) i z = absurd (let v : Accepted n ≡ Refused CUT q = ap (λ (x : Faulted). x.verdict) z in let y : ◌≡◌ {A = ℕ} 0 1 = cc in omega arith)
+    go : (o : Outcome Sections) → shortcut profile (take q s) ≡ o → faulted_by o ≡ Err (record { fault = CUT; spot = record { section = k; start = q; position = q } }) → shortcut profile (take q s) ≡ refused CUT (spot_at (section k q) 0)
+    go (got c n) i z = absurd (accepted_not z)
     go (refused f w) i z =
-        let v : Refused f w.position ≡ Refused CUT q = ap (λ (x : Faulted). x.verdict) z in
-        let a : f ≡ CUT = cc in
-        let b : w.position ≡ q = cc in
-        let c = spot_is k q w (ap (λ (x : Faulted). x.section) z) (ap (λ (x : Faulted). x.start) z) b in
+        let (a, b) = refusal_parts z in
+        let c = spot_is k q w (ap (λ (x : Spot). x.section) b) (ap (λ (x : Spot). x.start) b) (ap (λ (x : Spot). x.position) b) in
         i ∙ ap (λ (g : Fault). refused g w) a ∙ ap (refused CUT) c
 
 pub at_Due : (profile : Profile) (s : List ℕ) (k q : ℕ) → DueAt profile s k q → Due profile s k q

@@ -1,11 +1,10 @@
 -- FORMAT: Refusals. Where a section is due, how many bytes it needs for not being cut, what beginnings are refused with, and with which numbers.
-use Rattle.std.specs.Prelude.{ℕ, ◌+◌, ◌≡◌, List, [], ◌∷◌, Bool, cond, take, drop, ltb, eqb}
+use Rattle.std.specs.Prelude.{ℕ, ◌+◌, ◌≡◌, List, [], ◌∷◌, Bool, cond, take, drop, ltb, eqb, Err}
 use Rattle.octets.specs.Numbers.{u16_at, u32_at}
 use Rattle.octets.specs.Characters.{bytes_of}
 use Rattle.format.specs.declared.Profile.{Profile}
 use Rattle.format.specs.declared.Fault.{Fault}
 use Rattle.format.specs.declared.Fault.TheVariants.{Cut as CUT}
-use Rattle.format.specs.declared.Verdict.TheVariants.{Refused}
 use Rattle.format.specs.Presence.{strings_unicode}
 use Rattle.format.specs.Positions.{is_string}
 use Rattle.format.specs.Shortcut.{faulted}
@@ -13,7 +12,7 @@ use Rattle.format.specs.Demands.{Refuses}
 
 -- in s the section k is due at q: the first q bytes alone are cut, and all that they lack begins with that section, where they end. 9: a block or the terminal
 abbrev pub Due : Profile → List ℕ → ℕ → ℕ → Type 0
-Due profile s k q = faulted profile (take q s) ≡ record { verdict = Refused CUT q; section = k; start = q }
+Due profile s k q = faulted profile (take q s) ≡ Err (record { fault = CUT; spot = record { section = k; start = q; position = q } })
 
 -- a size that is refused for being below the least needs its four bytes alone
 abbrev pub size_or_field : ℕ → ℕ → ℕ

@@ -1,8 +1,6 @@
 // Writes the canonical form of one shortcut from standard input, or the listing's refusal line.
 #![tactic(auto)]
 
-use format::Verdict;
-
 fn main(rt: HostRuntime) {
     if lines::wrong_words(&rt) {
         return;
@@ -11,11 +9,10 @@ fn main(rt: HostRuntime) {
     let mut room = [0u8; 65537];
     let n = io::read_full(0, &mut room);
     let mut out = [0u8; 65536];
-    let v = rewriting::rewrite(&room[..n], &mut out, lines::profile_asked(&rt));
-    match v {
-        Verdict::Accepted(m) => {
+    match rewriting::rewrite(&room[..n], &mut out, lines::profile_asked(&rt)) {
+        Ok(m) => {
             io::write_all(1, octets::part(&out, 0, m));
         }
-        Verdict::Refused(f, p) => lines::refused_line(f, p),
+        Err(r) => lines::refused_line(r),
     }
 }

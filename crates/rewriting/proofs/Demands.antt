@@ -5,7 +5,6 @@ use Prim.Native.Nat.{ℕ}
 use lib.ListN.{length}
 use Rattle.format.specs.declared.Profile.{Profile}
 use Rattle.format.specs.declared.Record.{Record}
-use Rattle.format.specs.declared.Verdict.{Verdict}
 use Rattle.format.specs.Bodies.{further_slot, place_in}
 use Rattle.format.specs.Contents.{Contents, bytes_at, body_in, bodies_of, contents, Same}
 use Rattle.format.specs.Demands.{Accepts}
@@ -14,6 +13,7 @@ use Rattle.format.proofs.RowLaws.{bytes_at_lem}
 use Rattle.format.proofs.AcceptedLaws.{accepted_present}
 use Rattle.format.proofs.KeySame.{Same-record_Same_key}
 use Rattle.rewriting.specs.Kept.{Kept}
+use Rattle.format.specs.Verdicts.{Verdict}
 
 -- the form has the key of the shortcut that it was made of
 pub rewrite_keeps_key : (profile : Profile) (s : List ℕ) (r : Record) (out : List ℕ) {v : Verdict} {x : List ℕ} → Accepts profile s r → (k : Kept profile s r out v x) → key_in profile k.form ≡ key_in profile s

@@ -7,10 +7,8 @@ use lib.ListN.{length}
 use Rattle.octets.specs.Numbers.{Bytes}
 use Rattle.format.specs.declared.Profile.{Profile}
 use Rattle.format.specs.declared.Record.{Record}
-use Rattle.format.specs.declared.Fault.{Fault}
+use Rattle.format.specs.declared.Refused.{Refused}
 use Rattle.format.specs.declared.Reading.{Reading}
-use Rattle.format.specs.declared.Verdict.{Verdict}
-use Rattle.format.specs.declared.Verdict.TheVariants.{Accepted, Refused}
 use Rattle.format.specs.Shortcut.{reading}
 use Rattle.format.specs.Numbers.{Numbered}
 use Rattle.format.specs.Writing.{writing, output_of, write_answer, write_output}
@@ -21,6 +19,8 @@ use Rattle.format.proofs.AcceptedLaws.{accepted_Read, accepted_held, refused_rea
 use Rattle.format.proofs.Demands.{bodies_inside, Same-self}
 use Rattle.rewriting.specs.Rewrite.{rewriting, rewrite_answer, rewrite_output}
 use Rattle.rewriting.specs.Kept.{Kept, Keeps}
+use Rattle.format.specs.Verdicts.{Verdict}
+use Rattle.std.specs.Prelude.{Ok, Err}
 
 -- the shortcut reads as its own record, so the writer cannot refuse that record where the shortcut itself has room
 kept : (profile : Profile) (s : List ℕ) (r : Record) (out : List ℕ) → Accepts profile s r → Bytes s → length s ≤ length out → {v : Verdict} {x : List ℕ} → Ends profile r s out v x → Kept profile s r out v x
@@ -44,26 +44,26 @@ unfolding rewrite_answer
 rewrite_call profile s out a o k = (a, (o, (numbered (rewriting profile s (length out)) a, k)))
 
 module _ (profile : Profile) (s out : List ℕ) {g : Reading} (e : g ≡ reading profile s) where
-  held_is : {r : Record} → Accepts profile s r → g ≡ record { verdict = Accepted (length s); held = r }
+  held_is : {r : Record} → Accepts profile s r → g ≡ record { verdict = Ok (length s); held = r }
   unfolding Accepts
   held_is a = e ∙ a
 
-  pub rewrite_left : {f : Fault} {p : ℕ} → g.verdict ≡ Refused f p → RewriteCall profile s out g.verdict out
+  pub rewrite_left : {r : Refused} → g.verdict ≡ Err r → RewriteCall profile s out g.verdict out
   unfolding rewrite_answer rewrite_output rewriting output_of
-  rewrite_left {f} {p} q =
+  rewrite_left {r} q =
       let i = refused_read profile s (ap (λ (x : Reading). x.verdict) (sym e) ∙ q) in
       rewrite_call profile s out (q ∙ rw (i.is, i.told)) (rw i.is)
-      (λ r a l.
-      let v : Refused f p ≡ Accepted (length s) = sym q ∙ ap (λ (x : Reading). x.verdict) (held_is a) in
+      (λ held a l.
+      let v : Err r ≡ Ok (length s) = sym q ∙ ap (λ (x : Reading). x.verdict) (held_is a) in
       absurd (let z : ◌≡◌ {A = ℕ} 0 1 = cc in omega arith))
 
-  written_is : {n : ℕ} → g.verdict ≡ Accepted n → rewriting profile s (length out) ≡ writing profile g.held s (length out)
+  written_is : {n : ℕ} → g.verdict ≡ Ok n → rewriting profile s (length out) ≡ writing profile g.held s (length out)
   unfolding rewriting
   written_is {n} q =
       let y = accepted_Read profile s g.held n (accepted_held profile s e q) in
       rw y.is (ap (λ (r : Record). writing profile r s (length out)) y.held)
 
-  pub rewrite_written : {n : ℕ} {v : Verdict} {x : List ℕ} → Bytes s → g.verdict ≡ Accepted n
+  pub rewrite_written : {n : ℕ} {v : Verdict} {x : List ℕ} → Bytes s → g.verdict ≡ Ok n
       → (v ≡ write_answer profile g.held s out) × ((x ≡ write_output profile g.held s out) × (Numbered v (writing profile g.held s (length out)) × Ends profile g.held s out v x)) → RewriteCall profile s out v x
   unfolding rewrite_answer rewrite_output write_answer write_output
   rewrite_written {n} {v} {x} b q (h, (k, (number, z))) =

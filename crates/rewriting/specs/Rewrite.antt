@@ -1,10 +1,10 @@
 -- A shortcut read, then written again over its own bytes.
 use Rattle.std.specs.Prelude.{ℕ, List, length}
 use Rattle.format.specs.declared.Profile.{Profile}
-use Rattle.format.specs.declared.Verdict.{Verdict}
 use Rattle.format.specs.Tests.{Outcome, and_then}
 use Rattle.format.specs.Shortcut.{shortcut, record_of, verdict_of}
 use Rattle.format.specs.Writing.{writing, output_of}
+use Rattle.format.specs.Verdicts.{Verdict}
 
 -- a refusal stays; what was accepted is written
 unfoldable pub rewriting : Profile → List ℕ → ℕ → Outcome (List ℕ)

@@ -15,10 +15,8 @@ pub fn rewrite(s: &[u8], out: &mut [u8], profile: Profile) -> Verdict
     ensures kept { Keeps profile s.now out.old result out.new }
 {
     let g = reader::read(s, profile);
-    let v = g.verdict;
-    let Verdict::Accepted(_) = v else {
-        return v;
+    let Ok(_) = g.verdict else {
+        return g.verdict;
     };
-    let r = g.held;
-    writer::write(r, s, out, profile)
+    writer::write(g.held, s, out, profile)
 }

@@ -3,66 +3,57 @@
 
 ghost use Rattle.std.specs.Prelude.{◌≡◌, cond, ◌+◌, ◌≤◌, length};
 ghost use Rattle.octets.specs.Parts.{put};
-ghost use Rattle.format.specs.Numbers.{Numbered};
-ghost use Rattle.format.specs.Salvage.{mendable, nothing, refused_by, rescue_of, rescued, salvaging, salvage_answer, salvage_output, SalvageEnds};
-ghost use Rattle.salvaging.specs.Steps.Saving.{keeping, unsaved};
+ghost use Rattle.format.specs.Numbers.{number_of, Numbered};
+ghost use Rattle.format.specs.Salvage.{mendable, refused_by, rescue, rescued, salvaging, salvage_verdict, salvage_answer, salvage_output, SalvageEnds};
 
-use format::{Fault, Faulted, Profile, Rescue, Salvaged, Verdict};
+use format::{Fault, Profile, Refusal, Refused, Rescue, Salvaged};
 
 // ---- what can be kept
 
 // The first n bytes, which end with their own terminal block or get one.
 fn keep(number: u8, n: usize, mended: bool) -> Rescue
-    ensures { result ≡ keeping number n mended }
+    ensures { result ≡ record { number = number; kept = n; mended = mended } }
 {
     Rescue {
-        can: true,
         number,
         kept: n,
         mended,
     }
 }
 
-fn nothing() -> Rescue
-    ensures { result ≡ nothing }
+#[tactic(auto, using(crate::proofs::Laws::no_mend), unfolding(format::specs::Numbers::number_of))]
+fn can_mend(f: Fault) -> bool
+    ensures { result ≡ mendable (number_of f) }
 {
-    Rescue {
-        can: false,
-        number: 0,
-        kept: 0,
-        mended: false,
-    }
+    matches!(f, Fault::Cut | Fault::Block | Fault::Twice | Fault::Store)
 }
 
-// CUT, BLOCK, TWICE, STORE.
-fn can_mend(number: u8) -> bool
-    ensures { result ≡ mendable number }
+// By the fault, the section at fault and its start.
+#[tactic(auto, using(crate::proofs::Laws::by_trail, crate::proofs::Laws::by_mending, crate::proofs::Laws::by_nothing))]
+fn refused_by(r: Refusal) -> Option<Rescue>
+    requires { r.spot.start ≤ 65536 }
+    ensures { result ≡ refused_by (number_of r.fault) r.spot.section r.spot.start }
 {
-    (number == 2) | (number == 8) | (number == 14) | (number == 15)
+    let number = format::number_of(r.fault);
+    let section = r.spot.section;
+    let start = r.spot.start;
+    if matches!(r.fault, Fault::Trail) {
+        return Some(keep(number, start + 4, false));
+    }
+    if can_mend(r.fault) & ((section == 8) | (section == 9)) {
+        return Some(keep(number, start, true));
+    }
+    None
 }
 
-// By the number of the refusal, the section at fault and its start.
-fn refused_by(number: u8, section: u32, start: usize) -> Rescue
-    requires { start ≤ 65536 }
-    ensures { result ≡ refused_by number section start }
+// What can be kept of the shortcut.
+#[tactic(auto, using(crate::proofs::Laws::start_small, crate::proofs::Laws::of_accepted, crate::proofs::Laws::of_refused))]
+fn rescue(s: &[u8]) -> Option<Rescue>
+    ensures { result ≡ rescue s.now }
 {
-    if number == 9 {
-        return keep(number, start + 4, false);
-    }
-    if can_mend(number) & ((section == 8) | (section == 9)) {
-        return keep(number, start, true);
-    }
-    nothing()
-}
-
-fn rescue_of(g: Faulted) -> Rescue
-    requires { g.start ≤ 65536 }
-    ensures { result ≡ rescue_of g }
-{
-    let v = g.verdict;
-    match v {
-        Verdict::Accepted(n) => keep(0, n, false),
-        Verdict::Refused(f, _) => refused_by(format::number_of(f), g.section, g.start),
+    match reader::fault(s, Profile::Strict) {
+        Ok(n) => Some(keep(0, n, false)),
+        Err(r) => refused_by(r),
     }
 }
 
@@ -73,10 +64,7 @@ fn length_of(r: Rescue) -> usize
     requires { r.kept ≤ 65536 }
     ensures { result ≡ r.kept + cond r.mended 4 0 }
 {
-    if r.mended {
-        return r.kept + 4;
-    }
-    r.kept
+    if r.mended { r.kept + 4 } else { r.kept }
 }
 
 fn put_saved(s: &[u8], r: Rescue, out: &mut [u8])
@@ -91,41 +79,27 @@ fn put_saved(s: &[u8], r: Rescue, out: &mut [u8])
     }
 }
 
-fn refuse(f: Fault) -> Salvaged
-    ensures { result ≡ unsaved f }
-{
-    Salvaged {
-        verdict: Verdict::Refused(f, 0),
-        number: 0,
-        kept: 0,
-        dropped: 0,
-    }
-}
-
-pub fn salvage(s: &[u8], out: &mut [u8]) -> Salvaged
+pub fn salvage(s: &[u8], out: &mut [u8]) -> Result<Salvaged, Refused>
     ensures answer { result ≡ salvage_answer s.now out.old }
     ensures output { out.new ≡ salvage_output s.now out.old }
-    ensures numbers { Numbered result.verdict (salvaging s.now (length out.old)) }
+    ensures numbers { Numbered (salvage_verdict result) (salvaging s.now (length out.old)) }
     ensures saved { SalvageEnds s.now out.old result out.new }
 {
-    let g = reader::fault(s, Profile::Strict);
-    let r = rescue_of(g);
+    let Some(r) = rescue(s) else {
+        return Err(Refused::at(Fault::Lost, 0));
+    };
     let n = length_of(r);
-    if !r.can {
-        return refuse(Fault::Lost);
-    }
     if n > 65536 {
-        return refuse(Fault::Lost);
+        return Err(Refused::at(Fault::Lost, 0));
     }
     if n > out.len() {
-        return refuse(Fault::Room);
+        return Err(Refused::at(Fault::Room, 0));
     }
     put_saved(s, r, out);
-    let dropped = s.len() - r.kept;
-    Salvaged {
-        verdict: Verdict::Accepted(n),
+    Ok(Salvaged {
+        len: n,
         number: r.number,
         kept: r.kept,
-        dropped,
-    }
+        dropped: s.len() - r.kept,
+    })
 }

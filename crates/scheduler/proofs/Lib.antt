@@ -1,3 +1,4 @@
+pub mod ProfileLaws
 pub mod PositionLaws
 pub mod CodeLaws
 pub mod FieldLaws

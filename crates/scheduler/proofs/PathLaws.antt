@@ -10,7 +10,6 @@ use borrow.Author.Tests.{eq-eqb, ne_eqb, not-true, not-false}
 use Rattle.format.specs.declared.Profile.{Profile}
 use Rattle.format.specs.declared.Record.{Record}
 use Rattle.format.specs.declared.Fault.TheVariants.{Place as PLACE, Unwritable as UNWRITABLE, Room as ROOM}
-use Rattle.format.specs.declared.Verdict.{Verdict}
 use Rattle.format.specs.Tests.{Outcome, got, refused}
 use Rattle.format.specs.Numbers.{Numbered, answer_value}
 use Rattle.format.specs.Shortcut.{most, verdict_of}
@@ -25,6 +24,7 @@ use Rattle.scheduler.specs.Code.{code_of}
 use Rattle.scheduler.specs.Records.{FIELDS, VALUES}
 use Rattle.scheduler.specs.Paths.{path_code, path_written, PathEndsOf}
 use Rattle.scheduler.proofs.PositionLaws.{writable_few}
+use Rattle.format.specs.Verdicts.{Verdict}
 
 -- what is written is a shortcut
 pub path_small : (profile : Profile) (r : Record) (d : List ℕ) (signature : ℕ) (text unicode out : List ℕ) → answer_value (path_answer profile r d signature text unicode out) ≤ 4194820

@@ -1,17 +1,19 @@
--- The code of a fetch, by its verdict.
-use mathlib.Core.Path.{◌≡◌, ap, ◌∙◌}
-use Prim.Native.Nat.{ℕ, ◌+◌, ◌*◌}
-use Rattle.format.specs.declared.Fault.{Fault}
-use Rattle.format.specs.declared.Verdict.TheVariants.{Accepted, Refused}
-use Rattle.shelving.specs.declared.Fetched.{Fetched}
+-- The code of a fetch.
+use mathlib.Core.Path.{◌≡◌, refl}
+use Prim.Native.Nat.{◌+◌, ◌*◌}
+use Rattle.format.specs.declared.Place.{Place}
+use Rattle.format.specs.declared.Refused.{Refused}
 use Rattle.scheduler.specs.Code.{code_of}
 use Rattle.scheduler.specs.Shelves.{fetch_code}
+use Rattle.std.specs.Prelude.{Ok, Err}
 
-module _ (g : Fetched) where
-  pub fetch_shown : {n : ℕ} → g.verdict ≡ Accepted n → 256 * (g.place.len + 65537 * g.place.at) ≡ fetch_code g
-  unfolding fetch_code
-  fetch_shown e = rw e
+pub fetch_shown : (b : Place) → 256 * (b.len + 65537 * b.at) ≡ fetch_code (Ok b)
+unfolding fetch_code
+fetch_shown b = refl
 
-  pub fetch_refused : {f : Fault} {p r : ℕ} → g.verdict ≡ Refused f p → r ≡ code_of g.verdict → r ≡ fetch_code g
-  unfolding fetch_code
-  fetch_refused e c = rw e (c ∙ ap code_of e)
+pub fetch_refused : (r : Refused) → code_of (Err r) ≡ fetch_code (Err r)
+unfolding fetch_code
+fetch_refused r = refl
+
+-- what the code of a fetch rests on
+pub ruleset fetched = (fetch_shown, fetch_refused)

@@ -7,11 +7,9 @@ use native.Mathlib.Omega.{arith}
 use lib.ListN.{length, take, drop}
 use lib.Dec.{leb, ltb, eqb}
 use Rattle.format.specs.declared.Profile.{Profile}
-use Rattle.format.specs.declared.Fault.{Fault}
 use Rattle.format.specs.declared.Fault.TheVariants.{Long as LONG, Cut as CUT, Info as INFO, Trail as TRAIL}
-use Rattle.format.specs.declared.Faulted.{Faulted}
-use Rattle.format.specs.declared.Verdict.TheVariants.{Accepted, Refused}
-use Rattle.format.specs.Numbers.{number_of, answer_value}
+use Rattle.format.specs.declared.Refusal.{Refusal}
+use Rattle.format.specs.Numbers.{number_of}
 use Rattle.format.specs.Tests.{Site, section, no_section, spot_at, Test, ◌else◌at◌, tests, Outcome, got, refused, Reader, and_then, chain, ◌then◌, place, no_place}
 use Rattle.format.specs.Presence.{items_there, info_there, name_bit, relative_bit, workdir_bit, arguments_bit, icon_bit, string_there, strings_unicode}
 use Rattle.octets.specs.Numbers.{u16_at}
@@ -23,8 +21,8 @@ use Rattle.format.specs.Strings.{string, string_length}
 use Rattle.format.specs.Blocks.{slot_at, block_size, block, terminal, Standing, a_block, a_terminal, block_tests, block_step, once_tests, follow, blocks_from, blocks}
 use Rattle.format.specs.Shortcut.{Section, found, section_if, string_section, tail, Sections, sections, shortcut, faulted_by, faulted, most}
 use Rattle.scheduler.specs.Code.{fault_code}
-use Rattle.format.proofs.AcceptedLaws.{shortcut-Whole}
 use Rattle.format.proofs.PositionDemands.{positions_small, starts_before}
+use Rattle.std.specs.Prelude.{Ok, Err}
 
 -- a refusal in one of the ten sections
 abbrev Few : {A : Type 0} → Outcome A → Type 0
@@ -157,33 +155,40 @@ Few-shortcut profile s =
     go (refused f w) k = k
 
 -- all three parts of the answer are small
-pub record SmallFault (g : Faulted) : Type 0 where
-  pub position : answer_value g.verdict ≤ 65536
-  pub section : g.section ≤ 9
-  pub start : g.start ≤ 65536
-
-pub fault_small : (profile : Profile) (s : List ℕ) → SmallFault (faulted profile s)
-unfolding faulted answer_value
-fault_small profile s = go (shortcut profile s) refl (Few-shortcut profile s)
-  where
-    go : (o : Outcome Sections) → shortcut profile s ≡ o → Few o → SmallFault (faulted_by o)
-    go (got c n) i k = record { position = omega (arith, (shortcut-Whole profile s c n i).limit, (shortcut-Whole profile s c n i).all); section = omega arith; start = omega arith }
-    go (refused f w) i k = record { position = positions_small profile s f w i; section = k; start = omega (arith, positions_small profile s f w i, starts_before profile s f w i) }
+pub record SmallFault (r : Refusal) : Type 0 where
+  pub position : r.spot.position ≤ 65536
+  pub section : r.spot.section ≤ 9
+  pub start : r.spot.start ≤ 65536
 
 -- ---- for the code
 
-module _ (profile : Profile) (s : List ℕ) {g : Faulted} (e : g ≡ faulted profile s) where
-  pub fault_fits : SmallFault g
-  fault_fits = rw e (fault_small profile s)
+module _ (profile : Profile) (s : List ℕ) (r : Refusal) (e : Err r ≡ faulted profile s) where
+  pub fault_small : SmallFault r
+  unfolding faulted
+  fault_small = go (shortcut profile s) refl (Few-shortcut profile s) e
+    where
+      go : (o : Outcome Sections) → shortcut profile s ≡ o → Few o → Err r ≡ faulted_by o → SmallFault r
+      go (got c n) i k h = absurd (let z : ◌≡◌ {A = ℕ} 0 1 = cc in omega arith)
+      go (refused f w) i k h =
+          let z : r ≡ record { fault = f; spot = w } = cc in
+          rw z (record { position = positions_small profile s f w i; section = k; start = omega (arith, positions_small profile s f w i, starts_before profile s f w i) })
 
-  pub position_fits : {f : Fault} {p : ℕ} → g.verdict ≡ Refused f p → p ≤ 65536
-  unfolding answer_value
-  position_fits q = rw q at fault_fits.position
+  pub fault_start : r.spot.start ≤ 65536
+  fault_start = fault_small.start
 
-  pub fault_none : {n : ℕ} → g.verdict ≡ Accepted n → 0 ≡ fault_code (faulted profile s)
+  pub fault_section : r.spot.section ≤ 9
+  fault_section = fault_small.section
+
+  pub fault_position : r.spot.position ≤ 65536
+  fault_position = fault_small.position
+
+  pub fault_told : number_of r.fault + 256 * (r.spot.position + 65537 * (r.spot.start + 65537 * r.spot.section)) ≡ fault_code (faulted profile s)
   unfolding fault_code
-  fault_none q = rw (← e, q)
+  fault_told = rw (← e)
 
-  pub fault_told : {f : Fault} {p k : ℕ} → g.verdict ≡ Refused f p → k ≡ number_of f → k + 256 * (p + 65537 * (g.start + 65537 * g.section)) ≡ fault_code (faulted profile s)
-  unfolding fault_code
-  fault_told q h = rw (← e, q, h)
+pub fault_none : (profile : Profile) (s : List ℕ) (n : ℕ) → Ok n ≡ faulted profile s → 0 ≡ fault_code (faulted profile s)
+unfolding fault_code
+fault_none profile s n e = rw (← e)
+
+-- what the code of a fault rests on
+pub ruleset faults = (fault_start, fault_section, fault_position, fault_told, fault_none)

@@ -9,7 +9,6 @@ use lib.Dec.{leb, eqb}
 use borrow.Author.Tests.{leb-true, eq-eqb, ne_eqb}
 use Rattle.format.specs.declared.Profile.{Profile}
 use Rattle.format.specs.declared.Fault.TheVariants.{Place as PLACE, Unwritable as UNWRITABLE, Room as ROOM}
-use Rattle.format.specs.declared.Verdict.{Verdict}
 use Rattle.format.specs.Numbers.{answer_value, Numbered}
 use Rattle.format.specs.Tests.{◌else◌at◌, no_section, tests, Outcome, got, refused, and_then}
 use Rattle.format.specs.Shortcut.{Sections, shortcut, verdict_of}
@@ -23,6 +22,7 @@ use Rattle.storing.proofs.FewLaws.{rows_few}
 use Rattle.scheduler.specs.Code.{code_of}
 use Rattle.scheduler.specs.Records.{FIELDS}
 use Rattle.scheduler.specs.Stores.{store_write_code, store_written_rows, StoreEndsOf}
+use Rattle.format.specs.Verdicts.{Verdict}
 
 pub store_list_small : (profile : Profile) (s out : List ℕ) → answer_value (store_list_answer profile s out) ≤ 4194820
 unfolding answer_value store_list_answer store_list

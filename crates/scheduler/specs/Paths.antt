@@ -1,11 +1,11 @@
 -- FORMAT: Numbers that fit, Path block call. A path block put into a record of fields: the slice of numbers is tested first.
 use Rattle.std.specs.Prelude.{ℕ, ◌≡◌, List, true, cond, length, eqb}
 use Rattle.format.specs.declared.Profile.{Profile}
-use Rattle.format.specs.declared.Verdict.{Verdict}
 use Rattle.format.specs.PathWriting.{path_answer, path_output, PathEnds}
 use Rattle.fields.specs.Fields.{field_count, are_record, record_from}
 use Rattle.scheduler.specs.Code.{code_of}
 use Rattle.scheduler.specs.Records.{FIELDS, VALUES}
+use Rattle.format.specs.Verdicts.{Verdict}
 
 unfoldable pub path_code : Profile → List ℕ → List ℕ → ℕ → List ℕ → List ℕ → List ℕ → ℕ
 unfolding code_of are_record record_from path_answer

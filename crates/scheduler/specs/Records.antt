@@ -1,14 +1,13 @@
 -- FORMAT: Numbers that fit. Reading into fields and writing from them: the slice of numbers is tested first.
-use Rattle.std.specs.Prelude.{ℕ, ◌≡◌, List, true, cond, length, eqb}
+use Rattle.std.specs.Prelude.{ℕ, ◌≡◌, List, true, cond, length, eqb, Ok, Err}
 use Rattle.format.specs.declared.Profile.{Profile}
-use Rattle.format.specs.declared.Verdict.{Verdict}
-use Rattle.format.specs.declared.Verdict.TheVariants.{Accepted, Refused}
 use Rattle.format.specs.declared.Record.{Record}
 use Rattle.format.specs.Shortcut.{reading}
 use Rattle.format.specs.Writing.{write_answer, write_output}
 use Rattle.format.specs.Demands.{Ends}
 use Rattle.fields.specs.Fields.{field_count, fields_of, are_record, record_from}
 use Rattle.scheduler.specs.Code.{code_of}
+use Rattle.format.specs.Verdicts.{Verdict}
 
 -- a slice of another length than 49, or of rows that are not whole; numbers that are no record; both with value 0
 abbrev pub FIELDS : ℕ
@@ -19,8 +18,8 @@ VALUES = 202
 
 -- on success all of the fields are written, on refusal nothing in them changes
 abbrev pub filled_by : Verdict → Record → List ℕ → List ℕ
-filled_by (Accepted n) q f = fields_of q
-filled_by (Refused e p) q f = f
+filled_by (Ok n) q f = fields_of q
+filled_by (Err r) q f = f
 
 unfoldable pub read_code : Profile → List ℕ → List ℕ → ℕ
 unfolding code_of reading

@@ -1,9 +1,9 @@
 -- FORMAT: Store writing. Writing a store from a slice of numbers, which is tested first.
 use Rattle.std.specs.Prelude.{ℕ, ◌%◌, ◌≡◌, List, cond, length, eqb}
-use Rattle.format.specs.declared.Verdict.{Verdict}
 use Rattle.format.specs.StoreWriting.{store_write_answer, store_write_output, StoreEnds}
 use Rattle.scheduler.specs.Code.{code_of}
 use Rattle.scheduler.specs.Records.{FIELDS}
+use Rattle.format.specs.Verdicts.{Verdict}
 
 -- numbers left over after the last whole row are the slice's own fault, before all others
 unfoldable pub store_write_code : List ℕ → List ℕ → List ℕ → ℕ

@@ -1,19 +1,17 @@
 -- Entries one after another: the first of those that are left, and how many bytes they are.
 use mathlib.Core.Path.{◌≡◌, refl, sym, ap, ◌∙◌}
 use mathlib.Core.List.{List, [], ◌∷◌, ◌++◌, map, append_assoc}
-use mathlib.Core.Bool.{false}
-use Prim.Native.Nat.{ℕ, suc, ◌+◌, ◌*◌, ◌-◌, ◌≤◌, ◌<◌}
+use Prim.Native.Nat.{ℕ, suc, ◌+◌, ◌-◌, ◌*◌, ◌≤◌, ◌<◌}
 use native.Mathlib.Omega.{arith}
 use native.Mathlib.Numerals.{add-one}
 use lib.ListN.{length, take, drop, get_or, length-append, length-drop, length-map}
-use lib.Seq.{drop-cons, drop-drop, drop-length, length-take-le}
-use lib.Dec.{eqb}
-use borrow.Author.Tests.{eqb-true, eq-eqb, ne_eqb}
+use lib.Seq.{drop-cons, drop-length, length-take-le}
+use Rattle.std.specs.List.{between}
+use Rattle.std.proofs.lemmas.Slice.{between_to_end}
 use Rattle.octets.specs.Numbers.{little}
 use Rattle.octets.proofs.NumberLaws.{length-little}
 use Rattle.format.specs.Shortcut.{most, sum}
 use Rattle.format.specs.Writing.{end_to_end}
-use Rattle.format.proofs.Bools.{same_truth}
 use Rattle.shelves.specs.Table.{bodies_start, table_bytes, shelf_bytes}
 use Rattle.shelves.specs.OldFile.{old_bytes}
 use Rattle.shelves.specs.Steps.Apart.{apart, span, Small, OldRoom}
@@ -27,41 +25,10 @@ left_first ns k h = rw (add-one, drop-cons ns k 0)
 pub left_none : (ns : List ℕ) {k : ℕ} → k ≡ length ns → drop k ns ≡ []
 left_none ns e = rw e (drop-length ns)
 
--- the entries of d from the place p on, the first of which is n bytes
-pub apart_first : (gap n : ℕ) (ns d : List ℕ) (p : ℕ)
-    → apart gap (n ∷ ns) (drop p d) ≡ take n (drop (p + gap) d) ∷ apart gap ns (drop (p + gap + n) d)
-apart_first gap n ns d p =
-    let e : p + (gap + n) ≡ p + gap + n = omega arith in
-    rw (drop-drop, drop-drop, e)
-
--- those that are left, the first of them in front
-pub apart_left : (d : List ℕ) (gap : ℕ) (ns : List ℕ) (k p : ℕ) → k < length ns
-    → apart gap (drop k ns) (drop p d) ≡ take (get_or ns k 0) (drop (p + gap) d) ∷ apart gap (drop (k + 1) ns) (drop (p + gap + get_or ns k 0) d)
-apart_left d gap ns k p h =
-    ap (λ (l : List ℕ). apart gap l (drop p d)) (left_first ns k h) ∙ apart_first gap (get_or ns k 0) (drop (k + 1) ns) d p
-
-module _ (d : List ℕ) (gap : ℕ) (ns : List ℕ) (k p : ℕ) (more : k < length ns) (inside : p + span gap (drop k ns) ≤ length d) where
-  pub first_inside : p + gap + get_or ns k 0 + span gap (drop (k + 1) ns) ≤ length d
-  first_inside = omega (arith, ap (span gap) (left_first ns k more))
-
 -- ---- sums
 
 pub sum_first : (ns : List ℕ) (k : ℕ) → k < length ns → sum (drop k ns) ≡ get_or ns k 0 + sum (drop (k + 1) ns)
 sum_first ns k h = ap sum (left_first ns k h)
-
-module _ (ns : List ℕ) (n k left : ℕ) (sums : sum ns + left ≡ n + sum (drop k ns)) where
-  pub sums_over : k < length ns → left < get_or ns k 0 → false ≡ eqb (sum ns) n
-  sums_over h m = sym (ne_eqb (sum ns) n (λ (e : sum ns ≡ n). omega (arith, sum_first ns k h)))
-
-  pub sums_on : k < length ns → get_or ns k 0 ≤ left → sum ns + (left - get_or ns k 0) ≡ n + sum (drop (k + 1) ns)
-  sums_on h m = omega (arith, sum_first ns k h)
-
-  pub sums_end : k ≡ length ns → eqb left 0 ≡ eqb (sum ns) n
-  sums_end e =
-      let none : sum (drop k ns) ≡ 0 = ap sum (left_none ns e) in
-      same_truth (eqb left 0) (eqb (sum ns) n)
-      (λ t. eq-eqb (sum ns) n (omega (arith, eqb-true left 0 t)))
-      (λ t. eq-eqb left 0 (omega (arith, eqb-true (sum ns) n t)))
 
 -- ---- as many, as long, as many bytes
 
@@ -109,40 +76,35 @@ table_left p ns k h = ap (table_bytes p) (left_first ns k h) ∙ sym (append_ass
 pub table_none : (p : ℕ) (ns : List ℕ) {k : ℕ} → k ≡ length ns → table_bytes p (drop k ns) ≡ []
 table_none p ns e = ap (table_bytes p) (left_none ns e)
 
-module _ (d : List ℕ) (gap : ℕ) (ns : List ℕ) (k p : ℕ) where
-  pub bodies_left : k < length ns → end_to_end (apart gap (drop k ns) (drop p d))
-      ≡ take (get_or ns k 0) (drop (p + gap) d) ++ end_to_end (apart gap (drop (k + 1) ns) (drop (p + gap + get_or ns k 0) d))
-  bodies_left h = ap end_to_end (apart_left d gap ns k p h)
-
-  pub bodies_none : k ≡ length ns → end_to_end (apart gap (drop k ns) (drop p d)) ≡ []
-  bodies_none e = ap (λ (l : List ℕ). end_to_end (apart gap l (drop p d))) (left_none ns e)
-
 pub bodies_long : (gap : ℕ) (ns d : List ℕ) → span gap ns ≤ length d → length (end_to_end (apart gap ns d)) ≡ sum ns
 bodies_long gap ns d h = length_end (apart gap ns d) ∙ ap sum (apart_lengths gap ns d h)
 
 -- the same with each length in front
-module _ (d : List ℕ) (ns : List ℕ) (k p : ℕ) where
-  pub old_left : k < length ns → p + get_or ns k 0 ≤ length d → old_bytes (apart 0 (drop k ns) (drop p d))
-      ≡ (little 4 (get_or ns k 0) ++ take (get_or ns k 0) (drop p d)) ++ old_bytes (apart 0 (drop (k + 1) ns) (drop (p + get_or ns k 0) d))
-  unfolding old_bytes
-  old_left h i =
-      let z : p + 0 ≡ p = omega arith in
-      let l : length (take (get_or ns k 0) (drop p d)) ≡ get_or ns k 0 = length-take-le (get_or ns k 0) (drop p d) (omega (arith, length-drop p d)) in
-      ap old_bytes (apart_left d 0 ns k p h) ∙ rw (z, l) (sym (append_assoc (little 4 (get_or ns k 0)) (take (get_or ns k 0) (drop p d)) (old_bytes (apart 0 (drop (k + 1) ns) (drop (p + get_or ns k 0) d)))))
+pub old_more : {es more : List (List ℕ)} {e : List ℕ} → es ≡ e ∷ more → old_bytes es ≡ (little 4 (length e) ++ e) ++ old_bytes more
+unfolding old_bytes
+old_more {more = more} {e = e} i = rw i (sym (append_assoc (little 4 (length e)) e (old_bytes more)))
 
-  pub old_none : k ≡ length ns → old_bytes (apart 0 (drop k ns) (drop p d)) ≡ []
-  unfolding old_bytes
-  old_none e = ap (λ (l : List ℕ). old_bytes (apart 0 l (drop p d))) (left_none ns e)
+pub old_more_long : {es more : List (List ℕ)} {e : List ℕ} → es ≡ e ∷ more → length (old_bytes es) ≡ 4 + length e + length (old_bytes more)
+old_more_long i = ap length (old_more i) ∙ simp (length-append, length-little) refl
+
+pub old_none : {es : List (List ℕ)} → es ≡ [] → old_bytes es ≡ []
+unfolding old_bytes
+old_none e = rw e
 
 pub old_long : (es : List (List ℕ)) → length (old_bytes es) ≡ span 4 (map length es)
 unfolding old_bytes
 old_long [] = refl
 old_long (e ∷ es) = simp (length-append, length-little) (omega (arith, old_long es))
 
-pub by_base : {d : List ℕ} {base : ℕ} {ns out : List ℕ} → OldRoom d base ns out → 0 + length (old_bytes (apart 0 ns (drop base d))) ≤ length out
-by_base {d} {base} {ns} o =
-    let lengths = apart_lengths 0 ns (drop base d) (omega (arith, length-drop base d, o.inside)) in
-    omega (arith, o.room, old_long (apart 0 ns (drop base d)) ∙ ap (span 4) lengths)
+module _ {d : List ℕ} {base : ℕ} {ns out : List ℕ} (o : OldRoom d base ns out) where
+  pub base_inside : span 0 ns ≤ length (drop base d)
+  base_inside = omega (arith, length-drop base d, o.inside)
+
+  pub base_long : length (old_bytes (apart 0 ns (drop base d))) ≡ span 4 ns
+  base_long = old_long (apart 0 ns (drop base d)) ∙ ap (span 4) (apart_lengths 0 ns (drop base d) base_inside)
+
+  pub base_few : length (old_bytes (apart 0 ns (drop base d))) < 4294967296
+  base_few = omega (arith, base_long, span_four ns, Small-sum o.small, o.small.few)
 
 -- ---- the bytes of a shelf, by the lengths of its entries
 
@@ -161,3 +123,9 @@ module _ (gap : ℕ) (ns d : List ℕ) (inside : span gap ns ≤ length d) where
 
   pub shelf_size : length (shelf_bytes (apart gap ns d)) ≡ bodies_start (length ns) + sum ns
   shelf_size = shelf_long (apart gap ns d) ∙ rw (apart_count gap ns d, apart_lengths gap ns d inside)
+
+-- the first as a part of the slice, and the others in what follows it
+pub apart_first : (gap n : ℕ) (ns d : List ℕ) → apart gap (n ∷ ns) d ≡ between gap (gap + n) d ∷ apart gap ns (between (gap + n) (length d) d)
+apart_first gap n ns d =
+    let own : gap + n - gap ≡ n = omega arith in
+    rw (own, between_to_end d (gap + n) (length d) (omega arith))

@@ -1,87 +1,59 @@
 -- The old form, entry after entry.
-use mathlib.Core.Path.{◌≡◌, refl, ap, ◌∙◌}
-use mathlib.Core.List.{List, [], ◌∷◌, ◌++◌, map}
+use mathlib.Core.Path.{◌≡◌, refl, sym, ap, ◌∙◌}
+use mathlib.Core.List.{List, [], ◌∷◌, map}
 use mathlib.Core.Bool.{Bool, true, false, ◌&&◌, ◌||◌, cond}
 use Prim.Native.Nat.{ℕ, zero, suc, ◌+◌, ◌-◌, ◌≤◌, ◌<◌}
 use native.Mathlib.Omega.{arith}
-use lib.ListN.{length, take, drop, length-drop}
-use lib.Seq.{drop-drop, length-take-le}
+use lib.ListN.{length, take, drop, set, get_or, length-drop, length-map}
+use lib.Seq.{drop-drop, get_or-drop, length-take-le}
 use lib.Dec.{leb, eqb}
-use borrow.Author.Tests.{leb-true, le-leb, lt-leb, eqb-true, eq-eqb, ne_eqb}
+use borrow.Author.Tests.{leb-true, le-leb, lt-leb, eqb-true, eqb-false, eq-eqb, ne_eqb}
+use Rattle.std.specs.Prelude.{None, Some}
+use Rattle.std.specs.Bool.{then_some}
 use Rattle.octets.specs.Numbers.{u32_at}
-use Rattle.octets.proofs.NumberLaws.{number_drop}
-use Rattle.format.proofs.Bools.{and-true, and_no, or-true}
+use Rattle.octets.specs.Parts.{put}
+use Rattle.octets.proofs.WroteLaws.{put-nil}
+use Rattle.format.proofs.Bools.{clash, and-true, and_no}
+use Rattle.shelves.proofs.PutLaws.{front_next, front_all}
 use Rattle.shelves.specs.Table.{most_entries}
 use Rattle.shelves.specs.OldFile.{old_fits, old_entries}
 use Rattle.shelves.specs.Steps.Apart.{apart, span, old_lengths}
 
 -- ---- the entry at hand
 
--- k entries at most are left of s from the place p on
-module _ (s : List ℕ) (p : ℕ) where
-  left_long : length (drop p s) ≡ length s - p
-  left_long = length-drop p s
+module _ (t : List ℕ) where
+  -- none is left
+  pub old_end : (k : ℕ) → length t ≡ 0 → (old_fits k t ≡ true) × (old_entries k t ≡ [])
+  unfolding old_fits old_entries
+  old_end zero e = (eq-eqb (length t) 0 e, refl)
+  old_end (suc k) e = let f = eq-eqb (length t) 0 e in (rw f, rw f)
 
-  length_there : u32_at (drop p s) 0 ≡ u32_at s p
-  length_there = let z : p + 0 ≡ p = omega arith in number_drop 4 p s 0 ∙ ap (u32_at s) z
-
-  module _ (more : p < length s) where
-    some : eqb (length (drop p s)) 0 ≡ false
-    some = ne_eqb (length (drop p s)) 0 (λ (e : length (drop p s) ≡ 0). omega (arith, left_long))
-
-    pub old_many : {k : ℕ} → k ≡ 0 → old_fits k (drop p s) ≡ false
+  module _ (more : length t ≡ 0 → ⊥) where
+    pub old_many : old_fits 0 t ≡ false
     unfolding old_fits
-    old_many e = rw (e, some)
+    old_many = ne_eqb (length t) 0 more
 
-    pub old_cut : (k : ℕ) → length s - p < 4 → old_fits k (drop p s) ≡ false
+    -- its length is cut or passes the end
+    pub old_past : (k : ℕ) → length t < 4 + u32_at t 0 → old_fits k t ≡ false
     unfolding old_fits
-    old_cut zero h = some
-    old_cut (suc k) h = rw (some, lt-leb 4 (length (drop p s)) (omega (arith, left_long)))
+    old_past zero h = ne_eqb (length t) 0 more
+    old_past (suc k) h = rw (ne_eqb (length t) 0 more, lt-leb (4 + u32_at t 0) (length t) h) (and_no (leb 4 (length t)))
 
-    pub old_past : (k : ℕ) → length s - p < 4 + u32_at s p → old_fits k (drop p s) ≡ false
-    unfolding old_fits
-    old_past zero h = some
-    old_past (suc k) h =
-        let f : leb (4 + u32_at s p) (length (drop p s)) ≡ false = lt-leb (4 + u32_at s p) (length (drop p s)) (omega (arith, left_long)) in
-        rw (some, length_there, f) (and_no (leb 4 (length (drop p s))))
-
-    pub old_on : (k : ℕ) → 0 < k → 4 + u32_at s p ≤ length s - p
-        → (old_fits k (drop p s) ≡ old_fits (k - 1) (drop (p + (4 + u32_at s p)) s))
-        × (old_entries k (drop p s) ≡ take (u32_at s p) (drop (p + 4) s) ∷ old_entries (k - 1) (drop (p + (4 + u32_at s p)) s))
+    pub old_on : (k : ℕ) → 0 < k → 4 + u32_at t 0 ≤ length t
+        → (old_fits k t ≡ old_fits (k - 1) (drop (4 + u32_at t 0) t)) × (old_entries k t ≡ take (u32_at t 0) (drop 4 t) ∷ old_entries (k - 1) (drop (4 + u32_at t 0) t))
     unfolding old_fits old_entries
     old_on zero h i = absurd (omega arith)
     old_on (suc k) h i =
         let e : suc k - 1 ≡ k = omega arith in
-        let f : leb (4 + u32_at s p) (length (drop p s)) ≡ true = le-leb (4 + u32_at s p) (length (drop p s)) (omega (arith, left_long)) in
-        let g : leb 4 (length (drop p s)) ≡ true = le-leb 4 (length (drop p s)) (omega (arith, left_long)) in
-        (rw (some, length_there, f, g, e, drop-drop (4 + u32_at s p) p s), rw (some, length_there, e, drop-drop (4 + u32_at s p) p s, drop-drop 4 p s))
+        let f : leb (4 + u32_at t 0) (length t) ≡ true = le-leb (4 + u32_at t 0) (length t) i in
+        let g : leb 4 (length t) ≡ true = le-leb 4 (length t) (omega arith) in
+        let some = ne_eqb (length t) 0 more in
+        (rw (some, f, g, e), rw (some, e))
 
-  module _ (none : length s ≤ p) where
-    no_more : eqb (length (drop p s)) 0 ≡ true
-    no_more = eq-eqb (length (drop p s)) 0 (omega (arith, left_long))
-
-    pub old_end : (k : ℕ) → (old_fits k (drop p s) ≡ true) × (old_entries k (drop p s) ≡ [])
-    unfolding old_fits old_entries
-    old_end zero = (no_more, refl)
-    old_end (suc k) = (rw no_more, rw no_more)
-
--- ---- what fits
-
-pub record OldNext (s : List ℕ) (p k : ℕ) : Type 0 where
-  pub some : 0 < k
-  pub inside : 4 + u32_at s p ≤ length s - p
-
--- where the entries fit and bytes are left, so does one more
-pub old_next : (s : List ℕ) (p k : ℕ) → p < length s → old_fits k (drop p s) ≡ true → OldNext s p k
-unfolding old_fits
-old_next s p zero h e = absurd (omega (arith, eqb-true (length (drop p s)) 0 e, left_long s p))
-old_next s p (suc k) h e =
-    or-true (eqb (length (drop p s)) 0) _ e
-    (λ t. absurd (omega (arith, eqb-true (length (drop p s)) 0 t, left_long s p)))
-    (λ t.
-    let (a, b) = and-true (leb 4 (length (drop p s))) _ t in
-    let (c, d) = and-true (leb (4 + u32_at (drop p s) 0) (length (drop p s))) _ b in
-    record { some = omega arith; inside = omega (arith, leb-true (4 + u32_at (drop p s) 0) (length (drop p s)) c, left_long s p, length_there s p) })
+    pub lengths_on : (k : ℕ) → 0 < k → 4 + u32_at t 0 ≤ length t → map length (old_entries k t) ≡ u32_at t 0 ∷ map length (old_entries (k - 1) (drop (4 + u32_at t 0) t))
+    lengths_on k h i =
+        let l : length (take (u32_at t 0) (drop 4 t)) ≡ u32_at t 0 = length-take-le (u32_at t 0) (drop 4 t) (omega (arith, length-drop 4 t)) in
+        ap (map length) (old_on k h i).1 ∙ rw l
 
 -- the entries stand one after another, each after its length, to the end
 pub record OldApart (s : List ℕ) (es : List (List ℕ)) (k : ℕ) : Type 0 where
@@ -110,20 +82,88 @@ old_apart (suc k) s e = go (eqb (length s) 0) refl e (old_apart k (drop (4 + u32
           few = omega (arith, o.few);
         }
 
-pub wrong_count : (s : List ℕ) → old_fits most_entries s ≡ false → 65 ≡ cond (old_fits most_entries s) (length (old_entries most_entries s)) 65
-wrong_count s e = rw e
+-- ---- counting: k entries are passed, and t is left
 
--- ---- the lengths that are left
+module _ (s t : List ℕ) (k : ℕ) (fits : old_fits (most_entries - k) t ≡ old_fits most_entries s) (count : k + length (old_entries (most_entries - k) t) ≡ length (old_entries most_entries s)) where
+  pub count_end : length t ≡ 0 → Some k ≡ cond (old_fits most_entries s) (Some (length (old_entries most_entries s))) None
+  count_end e =
+      let (f, g) = old_end t (most_entries - k) e in
+      let n : length (old_entries most_entries s) ≡ k = omega (arith, count, ap length g) in
+      rw (sym fits ∙ f, n)
 
-pub lengths_left : (s : List ℕ) (p k : ℕ) → p < length s → 0 < k → 4 + u32_at s p ≤ length s - p
-    → map length (old_entries k (drop p s)) ≡ (u32_at s p ∷ []) ++ map length (old_entries (k - 1) (drop (p + (4 + u32_at s p)) s))
-lengths_left s p k h i j =
-    let l : length (take (u32_at s p) (drop (p + 4) s)) ≡ u32_at s p = length-take-le (u32_at s p) (drop (p + 4) s) (omega (arith, length-drop (p + 4) s)) in
-    ap (map length) (old_on s p h k i j).1 ∙ rw l
+  pub count_past : (length t ≡ 0 → ⊥) → length t < 4 + u32_at t 0 → None ≡ cond (old_fits most_entries s) (Some (length (old_entries most_entries s))) None
+  count_past more h = rw (sym fits ∙ old_past t more (most_entries - k) h)
 
-pub lengths_none : (s : List ℕ) (p k : ℕ) → length s ≤ p → map length (old_entries k (drop p s)) ≡ []
-lengths_none s p k h = ap (map length) (old_end s p h k).1
+  pub count_last : k ≡ most_entries → {b : Bool} → b ≡ eqb (length t) 0 → then_some b 64 ≡ cond (old_fits most_entries s) (Some (length (old_entries most_entries s))) None
+  count_last e {b} i = go b i
+    where
+      none : most_entries - k ≡ 0
+      none = omega arith
 
-pub lengths_all : (s : List ℕ) → old_lengths s ≡ map length (old_entries most_entries s)
+      go : (b : Bool) → b ≡ eqb (length t) 0 → then_some b 64 ≡ cond (old_fits most_entries s) (Some (length (old_entries most_entries s))) None
+      go true i = ap Some (sym e) ∙ count_end (eqb-true (length t) 0 (sym i))
+      go false i = rw (sym fits ∙ ap (λ (n : ℕ). old_fits n t) none ∙ old_many t (eqb-false (length t) 0 (sym i)))
+
+-- ---- the lengths of the first i entries stand in front of l, which is x then, and t is left
+
+pub record Passed (s : List ℕ) (i : ℕ) (t l x : List ℕ) : Type 0 where
+  pub few : i ≤ most_entries
+  pub fits : old_fits (most_entries - i) t ≡ true
+  pub left : map length (old_entries (most_entries - i) t) ≡ drop i (old_lengths s)
+  pub content : x ≡ put l 0 (take i (old_lengths s))
+
+pub Passed-none : (s l : List ℕ) → old_fits most_entries s ≡ true → Passed s 0 s l l
 unfolding old_lengths
-lengths_all s = refl
+Passed-none s l h = record { few = omega arith; fits = h; left = refl; content = put-nil l 0 }
+
+module _ {s t l x : List ℕ} {i : ℕ} (p : Passed s i t l x) where
+  none_left : drop i (old_lengths s) ≡ [] → x ≡ put l 0 (old_lengths s)
+  none_left e = p.content ∙ front_all l (old_lengths s) i (omega (arith, length-drop i (old_lengths s), ap length e))
+
+  pub passed_all : length t < 4 + u32_at t 0 → x ≡ put l 0 (old_lengths s)
+  passed_all h = go (eqb (length t) 0) refl
+    where
+      go : (b : Bool) → eqb (length t) 0 ≡ b → x ≡ put l 0 (old_lengths s)
+      go true e = none_left (sym p.left ∙ ap (map length) (old_end t (most_entries - i) (eqb-true (length t) 0 e)).1)
+      go false e = clash p.fits (old_past t (eqb-false (length t) 0 e) (most_entries - i) h)
+
+  pub passed_full : most_entries ≤ i → x ≡ put l 0 (old_lengths s)
+  unfolding old_entries
+  passed_full h = let e : most_entries - i ≡ 0 = omega arith in none_left (sym p.left ∙ ap (λ (n : ℕ). map length (old_entries n t)) e)
+
+  module _ (inside : 4 + u32_at t 0 ≤ length t) where
+    more : length t ≡ 0 → ⊥
+    more e = omega arith
+
+    some : 0 < most_entries - i
+    some = go (most_entries - i) refl
+      where
+        go : (n : ℕ) → most_entries - i ≡ n → 0 < most_entries - i
+        go zero e = clash (rw e at p.fits) (old_many t more)
+        go (suc n) e = omega arith
+
+    next : drop i (old_lengths s) ≡ u32_at t 0 ∷ map length (old_entries (most_entries - i - 1) (drop (4 + u32_at t 0) t))
+    next = sym p.left ∙ lengths_on t more (most_entries - i) some inside
+
+    pub Passed-more : most_entries ≤ length l → {n : ℕ} → n ≡ u32_at t 0 → Passed s (i + 1) (drop (4 + u32_at t 0) t) l (set x i n)
+    Passed-more room {n} e =
+        let w : List ℕ = old_lengths s in
+        let z : i + 0 ≡ i = omega arith in
+        let fewer : most_entries - i - 1 ≡ most_entries - (i + 1) = omega arith in
+        let head : get_or w i 0 ≡ u32_at t 0 = ap (λ (k : ℕ). get_or w k 0) (sym z) ∙ sym (get_or-drop i w 0 0) ∙ ap (λ (l : List ℕ). get_or l 0 0) next in
+        let long = ap length next in
+        let o = old_apart (most_entries - i) t p.fits in
+        let all : length w ≤ length l = omega (arith, length-drop i w, ap length p.left, length-map (old_entries (most_entries - i) t) length, o.few) in
+        let on : i < length w = omega (arith, length-drop i w, long) in
+        record {
+          few = omega (arith, some);
+          fits = rw (← fewer) (sym (old_on t more (most_entries - i) some inside).0 ∙ p.fits);
+          left = rw (← fewer) (sym (ap tail next) ∙ tail-drop w i on);
+          content = rw p.content (front_next l w i (e ∙ sym head) on all);
+        }
+      where
+        tail : List ℕ → List ℕ
+        tail l = drop 1 l
+
+        tail-drop : (w : List ℕ) (i : ℕ) → i < length w → drop 1 (drop i w) ≡ drop (i + 1) w
+        tail-drop w i h = drop-drop 1 i w

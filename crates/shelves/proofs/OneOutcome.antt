@@ -1,6 +1,8 @@
 -- Any two outcomes that the contract of a public call allows are equal.
 use mathlib.Core.Path.{refl, sym, ◌∙◌}
 use Rattle.octets.proofs.Outcomes.{OneAnswer, OneOutcome}
+use Rattle.shelves.proofs.entries.Entries.new as entries_new
+use Rattle.shelves.specs.contracts.entries.Entries.new as entries_new_contract
 use Rattle.shelves.proofs.making.adds_up
 use Rattle.shelves.specs.contracts.making.adds_up as adds_up_contract
 use Rattle.shelves.proofs.making.put_shelf
@@ -17,6 +19,9 @@ use Rattle.shelves.proofs.table.shelf_row
 use Rattle.shelves.specs.contracts.table.shelf_row as shelf_row_contract
 use Rattle.shelves.proofs.table.table_lengths
 use Rattle.shelves.specs.contracts.table.table_lengths as table_lengths_contract
+
+pub entries_new_one_outcome : OneAnswer entries_new_contract.ended entries_new.Reads.Post
+entries_new_one_outcome κs a r q s t p o = p ∙ sym o
 
 pub adds_up_one_outcome : OneAnswer adds_up_contract.ended adds_up.Reads.Post
 adds_up_one_outcome κs a r q s t p o = p ∙ sym o

@@ -1,10 +1,10 @@
 -- The table of a shelf, row after row, and what its tests say of the entries.
 use mathlib.Core.Path.{◌≡◌, refl, sym, ap, ◌∙◌}
-use mathlib.Core.List.{List, [], ◌∷◌, ◌++◌, map}
+use mathlib.Core.List.{List, [], ◌∷◌, map}
 use mathlib.Core.Bool.{Bool, true, false}
 use Prim.Native.Nat.{ℕ, zero, suc, ◌+◌, ◌*◌, ◌-◌, ◌≤◌, ◌<◌}
 use native.Mathlib.Omega.{arith}
-use lib.ListN.{length, drop, get_or, length-drop, length-map}
+use lib.ListN.{length, drop, get_or, get_or-map, length-drop, length-map}
 use lib.Seq.{drop-drop, length-take-le}
 use lib.Dec.{eqb}
 use borrow.Author.Tests.{leb-true, le-leb, lt-leb, eqb-true, ne_eqb, eq-eqb}
@@ -19,7 +19,7 @@ use Rattle.format.specs.Contents.{bytes_at}
 use Rattle.format.proofs.Bools.{and-true, and_yes}
 use Rattle.format.proofs.Chains.{all-Pass}
 use Rattle.shelves.specs.Table.{most_entries, shelf_count, table_rows, shelf_rows, bodies_start, rows_follow, shelf_tests, shelf_entries, shelf_row}
-use Rattle.shelves.specs.Steps.Apart.{apart, table_lengths}
+use Rattle.shelves.specs.Steps.Apart.{apart, row, table_lengths}
 
 abbrev pub length_of : Place → ℕ
 length_of b = b.len
@@ -29,13 +29,28 @@ length_of b = b.len
 number_at : (s : List ℕ) (i j : ℕ) → u32_at (drop i s) j ≡ u32_at s (i + j)
 number_at s i j = number_drop 4 i s j
 
--- the rows that are left from the place i on, the first of them in front
-pub rows_first : (s : List ℕ) (i left : ℕ) → 0 < left → table_rows left (drop i s) ≡ place (u32_at s i) (u32_at s (i + 4)) ∷ table_rows (left - 1) (drop (i + 8) s)
+-- the rows of a table of n from the one of the number k on
+abbrev pub rows_on : List ℕ → ℕ → ℕ → List Place
+rows_on s n k = table_rows (n - k) (drop (4 + 8 * k) s)
+
+rows_first : (s : List ℕ) (i left : ℕ) → 0 < left → table_rows left (drop i s) ≡ place (u32_at s i) (u32_at s (i + 4)) ∷ table_rows (left - 1) (drop (i + 8) s)
 rows_first s i zero h = absurd (omega arith)
 rows_first s i (suc k) h =
     let e : suc k - 1 ≡ k = omega arith in
     let z : i + 0 ≡ i = omega arith in
     rw (number_at s i 0, number_at s i 4, z, e, drop-drop)
+
+pub rows_on-more : (s : List ℕ) (n k : ℕ) → k < n → rows_on s n k ≡ row s k ∷ rows_on s n (k + 1)
+rows_on-more s n k h =
+    let i : 4 + 8 * k + 8 ≡ 4 + 8 * (k + 1) = omega arith in
+    let e : n - k - 1 ≡ n - (k + 1) = omega arith in
+    rows_first s (4 + 8 * k) (n - k) (omega arith) ∙ rw (i, e)
+
+pub rows_on-none : (s : List ℕ) (n : ℕ) → rows_on s n n ≡ []
+rows_on-none s n = let e : n - n ≡ 0 = omega arith in rw e
+
+pub rows_on-all : (s : List ℕ) (n : ℕ) → rows_on s n 0 ≡ table_rows n (drop 4 s)
+rows_on-all s n = let e : n - 0 ≡ n = omega arith in rw e
 
 pub rows_count : (k : ℕ) (t : List ℕ) → length (table_rows k t) ≡ k
 rows_count zero t = refl
@@ -43,15 +58,16 @@ rows_count (suc k) t = ap suc (rows_count k (drop 8 t))
 
 -- ---- whether the bodies follow
 
-module _ (s : List ℕ) (i left p end : ℕ) (more : 0 < left) where
-  pub follow_stop : (u32_at s i ≡ p → ⊥) → false ≡ rows_follow end p (table_rows left (drop i s))
-  follow_stop a = rw (rows_first s i left more, ne_eqb (u32_at s i) p a)
+module _ (s : List ℕ) (n k p end : ℕ) (more : k < n) where
+  pub follow_stop : ((row s k).at ≡ p → ⊥) → false ≡ rows_follow end p (rows_on s n k)
+  follow_stop a = rw (rows_on-more s n k more, ne_eqb (row s k).at p a)
 
-  pub follow_on : u32_at s i ≡ p → rows_follow end (p + u32_at s (i + 4)) (table_rows (left - 1) (drop (i + 8) s)) ≡ rows_follow end p (table_rows left (drop i s))
-  follow_on e = rw (rows_first s i left more, eq-eqb (u32_at s i) p e)
+  pub follow_on : (row s k).at ≡ p → rows_follow end (p + (row s k).len) (rows_on s n (k + 1)) ≡ rows_follow end p (rows_on s n k)
+  follow_on e = rw (rows_on-more s n k more, eq-eqb (row s k).at p e)
 
-pub follow_end : (t : List ℕ) (p end : ℕ) {left : ℕ} → left ≡ 0 → eqb p end ≡ rows_follow end p (table_rows left t)
-follow_end t p end e = rw e
+-- after the last row
+pub follow_end : (s : List ℕ) (n k p end : ℕ) → n ≤ k → eqb p end ≡ rows_follow end p (rows_on s n k)
+follow_end s n k p end h = let none : n - k ≡ 0 = omega arith in rw none
 
 -- ---- what the tests say
 
@@ -130,25 +146,14 @@ nth_row s i (suc n) (suc k) h =
     let e : i + 8 + 8 * k ≡ i + 8 * suc k = omega arith in
     rw (drop-drop, ← e) (nth_row s (i + 8) n k (omega arith))
 
-pub row_is : (s : List ℕ) (k : ℕ) → k < shelf_count s → shelf_row s k ≡ place (u32_at s (4 + 8 * k)) (u32_at s (4 + 8 * k + 4))
+pub row_is : (s : List ℕ) (k : ℕ) → k < shelf_count s → shelf_row s k ≡ row s k
 unfolding shelf_row shelf_rows
 row_is s k h = nth_row s 4 (shelf_count s) k h
 
--- ---- the lengths of the rows that are left
-
-pub lengths_left : (s : List ℕ) (i left : ℕ) → 0 < left → map length_of (table_rows left (drop i s)) ≡ (u32_at s (i + 4) ∷ []) ++ map length_of (table_rows (left - 1) (drop (i + 8) s))
-lengths_left s i left h = rw (rows_first s i left h)
-
-pub lengths_none : (t : List ℕ) {left : ℕ} → left ≡ 0 → map length_of (table_rows left t) ≡ []
-lengths_none t e = rw e
-
-pub lengths_all : (s : List ℕ) → table_lengths s ≡ map length_of (table_rows (shelf_count s) (drop 4 s))
-unfolding table_lengths shelf_rows
-lengths_all s = refl
-
--- more rows are left, so the buffer of lengths has a place for one more
-pub left_long : (t : List ℕ) (left : ℕ) → length (map length_of (table_rows left t)) ≡ left
-left_long t left = length-map (table_rows left t) length_of ∙ rows_count left t
+-- and its length
+pub length_is : (s : List ℕ) (k : ℕ) → k < shelf_count s → get_or (table_lengths s) k 0 ≡ (row s k).len
+unfolding table_lengths shelf_row
+length_is s k h = get_or-map length_of (shelf_rows s) k no_place ∙ ap length_of (row_is s k h)
 
 -- ---- a row lies in the shelf
 

@@ -12,7 +12,6 @@ use borrow.Author.Tests.{eqb-true}
 use Rattle.octets.specs.Numbers.{u32_at}
 use Rattle.octets.proofs.NumberLaws.{number_same}
 use Rattle.format.specs.declared.Place.{Place}
-use Rattle.format.specs.declared.Verdict.TheVariants.{Accepted}
 use Rattle.format.specs.Tests.{all, place}
 use Rattle.format.proofs.Bools.{and-true}
 use Rattle.format.proofs.Chains.{drop-take}
@@ -23,6 +22,7 @@ use Rattle.shelves.proofs.TableLaws.{Right, shelf_Right}
 use Rattle.shelving.proofs.CallLaws.{table_wrong, check_wrong}
 use Rattle.shelving.proofs.FileLaws.{to_told, to_wrong}
 use Rattle.shelving.proofs.ShelfLaws.{shelf_is, gives}
+use Rattle.std.specs.Prelude.{Ok}
 
 -- bodies that follow each other end at one place
 one_end : (p e f : ℕ) (bs : List Place) → rows_follow e p bs ≡ true → rows_follow f p bs ≡ true → e ≡ f
@@ -65,7 +65,7 @@ module _ (s : List ℕ) (k : ℕ) (h : k < length s) where
       go true i = absurd (not_Right (shelf_Right s e) (shelf_Right t i))
       go false i = refl
 
-  pub shelf_beginning : {n : ℕ} → shelf_answer s ≡ Accepted n → NoShelf t
+  pub shelf_beginning : {n : ℕ} → shelf_answer s ≡ Ok n → NoShelf t
   unfolding shelf_answer shelf_entry shelf_one entry_answer one_answer
   shelf_beginning e =
       let x = gives (shelf s) e in

@@ -11,15 +11,14 @@ use borrow.Author.Tests.{leb-true, le-leb, eq-eqb}
 use Rattle.octets.specs.Numbers.{Bytes}
 use Rattle.format.specs.declared.Place.{Place}
 use Rattle.format.specs.declared.Fault.TheVariants.{Shelf as SHELF}
-use Rattle.format.specs.declared.Verdict.TheVariants.{Accepted}
-use Rattle.format.specs.Tests.{Outcome, got, refused, ◌else◌at◌, no_section}
+use Rattle.format.specs.Tests.{Outcome, got, refused, ◌else◌at◌, no_section, no_place}
 use Rattle.format.specs.Shortcut.{sum}
 use Rattle.format.specs.Contents.{bytes_at}
 use Rattle.format.specs.Writing.{end_to_end}
 use Rattle.format.proofs.AnswerLaws.{nowhere}
 use Rattle.format.proofs.Chains.{passed, pass, Pass-all, all-Pass}
 use Rattle.shelves.specs.Table.{most_entries, shelf_count, shelf_tests, shelf_entries, shelf_row, shelf_bytes}
-use Rattle.shelving.specs.Shelf.{shelf, shelf_answer, shelf_entry, shelf_one, fetched_by, entry_answer, one_answer, entry_shown}
+use Rattle.shelving.specs.Shelf.{shelf, shelf_answer, shelf_entry, shelf_one, fetched_by, fetch_verdict, entry_answer, one_answer, entry_shown}
 use Rattle.shelving.specs.Building.{filed, bodies_by, shelf_build, build_answer, build_output}
 use Rattle.shelves.specs.OldFile.{old_fits, old_entries, old_bytes}
 use Rattle.shelving.specs.OldForm.{from_old, from_old_answer, from_old_output, to_old, to_old_answer, to_old_output}
@@ -33,6 +32,8 @@ use Rattle.shelving.proofs.FileLaws.{bodies_apart}
 use Rattle.shelving.proofs.RoundLaws.{ShelfOf, built, rebuilt, bodies_cut, old_of, old_back}
 use Rattle.shelving.specs.Promises.{Leaves}
 use Rattle.shelving.proofs.ShelfLaws.{Good, small, shelf_is, file_is, build_long, from_long, to_long, entry_is, of_Good, gives, leaves, taken}
+use Rattle.std.specs.Prelude.{Ok}
+use Rattle.std.specs.Result.{result_unwrap_or}
 
 -- ---- the promises over the definitions
 
@@ -105,14 +106,14 @@ one_is_entry s k e =
 
 -- ---- the promises of the calls: what they answer, and what stands in the buffers afterwards
 
-pub built_answered : (ns d out : List ℕ) {n : ℕ} → build_answer ns d out ≡ Accepted n
+pub built_answered : (ns d out : List ℕ) {n : ℕ} → build_answer ns d out ≡ Ok n
     → shelf (take n (build_output ns d out)) ≡ got (bodies_by ns d) (length ns)
 unfolding build_answer build_output
 built_answered ns d out e =
     let g = gives (shelf_build ns d (length out)) e in
     rw (taken out g.is (build_long ns d (length out) g.is)) (built_shelf ns d (length out) g.is)
 
-pub shelf_answered : (s : List ℕ) → Bytes s → {n : ℕ} → shelf_answer s ≡ Accepted n → (out : List ℕ) → length s ≤ length out
+pub shelf_answered : (s : List ℕ) → Bytes s → {n : ℕ} → shelf_answer s ≡ Ok n → (out : List ℕ) → length s ≤ length out
     → let es = shelf_entries s in Leaves (build_answer (map length es) (end_to_end es) out) (build_output (map length es) (end_to_end es) out) s
 unfolding shelf_answer build_answer build_output
 shelf_answered s b {n} e out h =
@@ -120,14 +121,14 @@ shelf_answered s b {n} e out h =
     let is : g.value ≡ shelf_entries s = (shelf_is s g.is).entries in
     leaves out (shelf_built s b (g.is ∙ ap (λ (es : List (List ℕ)). got es n) is) (length out) h)
 
-pub there_answered : (o : List ℕ) → Bytes o → (out : List ℕ) {n : ℕ} → from_old_answer o out ≡ Accepted n → (again : List ℕ) → length o ≤ length again
+pub there_answered : (o : List ℕ) → Bytes o → (out : List ℕ) {n : ℕ} → from_old_answer o out ≡ Ok n → (again : List ℕ) → length o ≤ length again
     → let w = take n (from_old_output o out) in Leaves (to_old_answer w again) (to_old_output w again) o
 unfolding from_old_answer from_old_output to_old_answer to_old_output
 there_answered o b out e again h =
     let g = gives (from_old o (length out)) e in
     rw (taken out g.is (from_long o (length out) g.is)) (leaves again (there_and_back o b (length out) g.is (length again) h))
 
-pub back_answered : (s : List ℕ) → Bytes s → (out : List ℕ) {n : ℕ} → to_old_answer s out ≡ Accepted n → (again : List ℕ) → length s ≤ length again
+pub back_answered : (s : List ℕ) → Bytes s → (out : List ℕ) {n : ℕ} → to_old_answer s out ≡ Ok n → (again : List ℕ) → length s ≤ length again
     → let w = take n (to_old_output s out) in Leaves (from_old_answer w again) (from_old_output w again) s
 unfolding from_old_answer from_old_output to_old_answer to_old_output
 back_answered s b out e again h =
@@ -135,22 +136,22 @@ back_answered s b out e again h =
     rw (taken out g.is (to_long s (length out) g.is)) (leaves again (back_and_there s b (length out) g.is (length again) h))
 
 -- the entry is shown, with its own length
-pub entry_answered : (s : List ℕ) (k : ℕ) {n : ℕ} → (entry_answer s k).verdict ≡ Accepted n → (entry_shown s k ≡ get_or (shelf_entries s) k []) × (n ≡ length (entry_shown s k))
+pub entry_answered : (s : List ℕ) (k : ℕ) {n : ℕ} → fetch_verdict (entry_answer s k) ≡ Ok n → (entry_shown s k ≡ get_or (shelf_entries s) k []) × (n ≡ length (entry_shown s k))
 unfolding entry_answer entry_shown
 entry_answered s k {n} e = go (shelf_entry s k) refl e
   where
-    go : (o : Outcome Place) → shelf_entry s k ≡ o → (fetched_by o).verdict ≡ Accepted n → (bytes_at s (fetched_by o).place ≡ get_or (shelf_entries s) k []) × (n ≡ length (bytes_at s (fetched_by o).place))
+    go : (o : Outcome Place) → shelf_entry s k ≡ o → fetch_verdict (fetched_by o) ≡ Ok n → (bytes_at s (result_unwrap_or (fetched_by o) no_place) ≡ get_or (shelf_entries s) k []) × (n ≡ length (bytes_at s (result_unwrap_or (fetched_by o) no_place)))
     go (got b m) i f =
         let x = entry_is s k i in
         let e : b ≡ shelf_row s k = x.place in
-        let q : m ≡ n = cc in
-        (rw e (row_entry s k), rw e (sym q ∙ x.long ∙ sym (row_long s (shelf_Right s x.right) k x.on)))
+        let q : b.len ≡ n = cc in
+        (rw e (row_entry s k), rw e (sym (rw e at q) ∙ sym (row_long s (shelf_Right s x.right) k x.on)))
     go (refused f p) i g = absurd (let z : ◌≡◌ {A = ℕ} 0 1 = cc in omega arith)
 
-pub one_answered : (s : List ℕ) (k : ℕ) {n : ℕ} → (entry_answer s k).verdict ≡ Accepted n → one_answer s k ≡ entry_answer s k
+pub one_answered : (s : List ℕ) (k : ℕ) {n : ℕ} → fetch_verdict (entry_answer s k) ≡ Ok n → one_answer s k ≡ entry_answer s k
 unfolding entry_answer one_answer
 one_answered s k {n} e = go (shelf_entry s k) refl e
   where
-    go : (o : Outcome Place) → shelf_entry s k ≡ o → (fetched_by o).verdict ≡ Accepted n → fetched_by (shelf_one s k) ≡ fetched_by o
+    go : (o : Outcome Place) → shelf_entry s k ≡ o → fetch_verdict (fetched_by o) ≡ Ok n → fetched_by (shelf_one s k) ≡ fetched_by o
     go (got b m) i f = rw (one_is_entry s k i)
     go (refused f p) i g = absurd (let z : ◌≡◌ {A = ℕ} 0 1 = cc in omega arith)

@@ -4,44 +4,27 @@ use mathlib.Core.List.{List, [], ◌∷◌, ◌++◌, map}
 use mathlib.Core.Bool.{Bool, true, false, not, cond}
 use Prim.Native.Nat.{ℕ, zero, suc, ◌+◌, ◌≤◌, ◌<◌}
 use native.Mathlib.Omega.{arith}
-use lib.ListN.{length, take, drop, get_or}
-use lib.Dec.{leb}
-use borrow.Author.Tests.{le-leb, lt-leb, not-true, not-false}
-use Rattle.octets.specs.Steps.Puts.{part}
-use Rattle.octets.proofs.PartLaws.{part_in}
+use lib.ListN.{length, get_or}
+use lib.Dec.{leb, ltb}
+use borrow.Author.Tests.{le-leb, lt-leb, le-ltb, lt-ltb}
 use Rattle.format.specs.declared.Fault.TheVariants.{Entry as ENTRY, Room as ROOM}
 use Rattle.format.specs.declared.Profile.TheVariants.{Strict}
-use Rattle.format.specs.declared.Verdict.{Verdict}
-use Rattle.format.specs.declared.Verdict.TheVariants.{Accepted, Refused}
 use Rattle.format.specs.Tests.{Outcome, got, refused, Test, ◌else◌at◌, Site, no_section, spot_at, tests}
 use Rattle.format.specs.Shortcut.{most, reading}
 use Rattle.format.proofs.AcceptedLaws.{accepted_held, accepted_limit}
 use Rattle.format.proofs.AnswerLaws.{nowhere}
 use Rattle.format.proofs.Chains.{Pass, no_true}
-use Rattle.shelves.specs.Steps.Apart.{apart, span}
-use Rattle.shelves.proofs.ApartLaws.{left_none, apart_left, first_inside}
 use Rattle.shelving.specs.Shelf.{accepted_by, accepted_entry, entry_tests}
 use Rattle.shelving.specs.Building.{filed}
-use Rattle.shelving.specs.Steps.Filing.{first_bad}
+use Rattle.shelving.specs.Steps.Filing.{first_bad, bad_entry}
+use Rattle.std.specs.Prelude.{Option, None, Some}
+use Rattle.std.specs.Option.{is_some, unwrap_or}
+use Rattle.std.specs.List.{position_or_len}
+use Rattle.format.proofs.Bools.{by_order}
+use Rattle.format.specs.Verdicts.{Verdict}
+use Rattle.std.specs.Prelude.{Ok, Err}
 
 -- ---- the number of the first bad one
-
-module _ (d : List ℕ) (gap : ℕ) (ns : List ℕ) (k p : ℕ) (more : k < length ns) (inside : p + span gap (drop k ns) ≤ length d)
-    {b : Bool} (told : b ≡ accepted_entry (part d (p + gap) (get_or ns k 0))) where
-  first_told : b ≡ accepted_entry (take (get_or ns k 0) (drop (p + gap) d))
-  first_told = told ∙ ap accepted_entry (sym (part_in d (p + gap) (get_or ns k 0) (omega (arith, first_inside d gap ns k p more inside))))
-
-  pub first_stop : not b ≡ true → first_bad (apart gap (drop k ns) (drop p d)) ≡ 0
-  unfolding first_bad
-  first_stop t = ap first_bad (apart_left d gap ns k p more) ∙ rw (← first_told, not-true b t)
-
-  pub first_on : not b ≡ false → first_bad (apart gap (drop k ns) (drop p d)) ≡ 1 + first_bad (apart gap (drop (k + 1) ns) (drop (p + gap + get_or ns k 0) d))
-  unfolding first_bad
-  first_on t = ap first_bad (apart_left d gap ns k p more) ∙ rw (← first_told, not-false b t)
-
-pub first_none : (d : List ℕ) (gap : ℕ) (ns : List ℕ) {k : ℕ} → k ≡ length ns → first_bad (apart gap (drop k ns) d) ≡ 0
-unfolding first_bad
-first_none d gap ns e = rw (left_none ns e)
 
 pub first_le : (es : List (List ℕ)) → first_bad es ≤ length es
 unfolding first_bad
@@ -51,6 +34,40 @@ first_le (e ∷ es) = go (accepted_entry e) (first_le es)
     go : (b : Bool) → first_bad es ≤ length es → cond b (1 + first_bad es) 0 ≤ suc (length es)
     go true h = omega arith
     go false h = omega arith
+
+-- what a search for it answers
+searched : (es : List (List ℕ)) → position_or_len (λ (e : List ℕ). not (accepted_entry e)) es ≡ first_bad es
+unfolding first_bad
+searched [] = refl
+searched (e ∷ es) = go (accepted_entry e) (searched es)
+  where
+    go : (b : Bool) → position_or_len (λ (e : List ℕ). not (accepted_entry e)) es ≡ first_bad es
+        → cond (not (not b)) (1 + position_or_len (λ (e : List ℕ). not (accepted_entry e)) es) 0 ≡ cond b (1 + first_bad es) 0
+    go true i = omega arith
+    go false i = refl
+
+bad_is : (es : List (List ℕ)) → bad_entry es ≡ cond (ltb (first_bad es) (length es)) (Some (first_bad es)) None
+bad_is es = rw (searched es) refl
+
+pub bad_some : (es : List (List ℕ)) {n : ℕ} → Some n ≡ bad_entry es → (n ≡ first_bad es) × (n < length es)
+bad_some es {n} e =
+    by_order (length es) (first_bad es)
+    (λ h. no_true (sym (ap is_some (e ∙ bad_is es) ∙ rw (le-ltb (first_bad es) (length es) h))))
+    (λ h. let i : n ≡ first_bad es = ap (λ (o : Option ℕ). unwrap_or o 0) (e ∙ bad_is es) ∙ rw (lt-ltb (first_bad es) (length es) h) in (i, omega arith))
+
+pub bad_none : (es : List (List ℕ)) → None ≡ bad_entry es → first_bad es ≡ length es
+bad_none es e =
+    by_order (length es) (first_bad es)
+    (λ h. omega (arith, first_le es))
+    (λ h. no_true (ap is_some (e ∙ bad_is es) ∙ rw (lt-ltb (first_bad es) (length es) h)))
+
+-- as a number, where there is none their count
+pub first_number : (es : List (List ℕ)) → first_bad es ≡ unwrap_or (bad_entry es) (length es)
+first_number es = go (bad_entry es) refl
+  where
+    go : (o : Option ℕ) → o ≡ bad_entry es → first_bad es ≡ unwrap_or o (length es)
+    go None e = bad_none es e
+    go (Some n) e = sym (bad_some es e).0
 
 -- all are good, or one is bad
 pub first_good : (e : List ℕ) (es : List (List ℕ)) → first_bad (e ∷ es) ≡ length (e ∷ es) → (accepted_entry e ≡ true) × (first_bad es ≡ length es)
@@ -113,8 +130,8 @@ unfolding accepted_entry
 good_small e h = go (reading Strict e).verdict refl h
   where
     go : (v : Verdict) → (reading Strict e).verdict ≡ v → accepted_by v ≡ true → length e ≤ most
-    go (Accepted n) i j = accepted_limit Strict e (reading Strict e).held n (accepted_held Strict e refl i)
-    go (Refused f p) i j = no_true j
+    go (Ok n) i j = accepted_limit Strict e (reading Strict e).held n (accepted_held Strict e refl i)
+    go (Err r) i j = no_true j
 
 pub all_small : (es : List (List ℕ)) → first_bad es ≡ length es → (k : ℕ) → get_or (map length es) k 0 ≤ most
 all_small [] h k = omega arith

@@ -11,7 +11,6 @@ use borrow.Author.Tests.{leb-true, ne_eqb}
 use Rattle.octets.specs.Numbers.{Bytes, u32_at, little}
 use Rattle.octets.proofs.NumberLaws.{Bytes-take, length-little, number_same}
 use Rattle.format.specs.declared.Fault.TheVariants.{Shelf as SHELF}
-use Rattle.format.specs.declared.Verdict.TheVariants.{Accepted}
 use Rattle.format.specs.Tests.{got, ◌else◌at◌, no_section}
 use Rattle.format.specs.Shortcut.{sum}
 use Rattle.format.specs.Writing.{output_of}
@@ -28,6 +27,7 @@ use Rattle.shelving.proofs.EntryLaws.{first_good, all_small, filed_all}
 use Rattle.shelves.proofs.ApartLaws.{shelf_long}
 use Rattle.shelving.proofs.RoundLaws.{old_of, old_back}
 use Rattle.shelving.proofs.ShelfLaws.{Good, file_is, gives}
+use Rattle.std.specs.Prelude.{Ok}
 
 -- where a beginning fits, its entries are the first of the whole
 entries_begin : (k : ℕ) (t r : List ℕ) → old_fits k t ≡ true → old_entries k t ≡ take (length (old_entries k t)) (old_entries k (t ++ r))
@@ -82,7 +82,7 @@ record IsOld (s : List ℕ) (room : ℕ) : Type 0 where
   good : Good (old_entries most_entries s)
   short : length (shelf_bytes (old_entries most_entries s)) ≤ room
 
-old_is : (s out : List ℕ) {n : ℕ} → from_old_answer s out ≡ Accepted n → IsOld s (length out)
+old_is : (s out : List ℕ) {n : ℕ} → from_old_answer s out ≡ Ok n → IsOld s (length out)
 unfolding from_old_answer from_old
 old_is s out e =
     let es : List (List ℕ) = old_entries most_entries s in
@@ -142,11 +142,11 @@ module _ (s out : List ℕ) (b : Bytes s) (x : IsOld s (length out)) where
         go false e = fits_not e
 
 -- a proper beginning of the old form is of the old form exactly if it ends with an entry
-pub old_beginning : (s out : List ℕ) → Bytes s → {n : ℕ} → from_old_answer s out ≡ Accepted n → (k : ℕ) → k < length s → OldCut s (take k s) out (from_old_answer (take k s) out) (from_old_output (take k s) out)
+pub old_beginning : (s out : List ℕ) → Bytes s → {n : ℕ} → from_old_answer s out ≡ Ok n → (k : ℕ) → k < length s → OldCut s (take k s) out (from_old_answer (take k s) out) (from_old_output (take k s) out)
 old_beginning s out b e k l = cut_old s out b (old_is s out e) k l
 
 -- and the first entries are such a beginning, none of them too
-pub old_entries_begin : (s out : List ℕ) → Bytes s → {n : ℕ} → from_old_answer s out ≡ Accepted n → (j : ℕ) → j < length (old_entries most_entries s)
+pub old_entries_begin : (s out : List ℕ) → Bytes s → {n : ℕ} → from_old_answer s out ≡ Ok n → (j : ℕ) → j < length (old_entries most_entries s)
     → (length (old_bytes (first_entries j s)) < length s) × (take (length (old_bytes (first_entries j s))) s ≡ old_bytes (first_entries j s))
 old_entries_begin s out b e j h =
     let es : List (List ℕ) = old_entries most_entries s in

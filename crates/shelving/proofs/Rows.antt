@@ -9,19 +9,21 @@ use Rattle.octets.specs.Parts.{put}
 use Rattle.format.specs.declared.Fault.{Fault}
 use Rattle.format.specs.declared.Fault.TheVariants.{Shelf as SHELF, Entry as ENTRY, Room as ROOM}
 use Rattle.format.specs.declared.Profile.TheVariants.{NinetyFive}
-use Rattle.format.specs.declared.Verdict.TheVariants.{Accepted, Refused}
-use Rattle.format.specs.Tests.{place, no_place}
+use Rattle.format.specs.Tests.{place}
 use Rattle.format.specs.Header.{identifier_ok, signed}
 use Rattle.format.specs.Blocks.{slot_of, size_fits, inside_tests, blocks_from}
 use Rattle.format.specs.Shortcut.{sections, shortcut, reading}
 use Rattle.format.specs.Probes.{zeros, Z}
 use Rattle.format.specs.Writing.{output_of}
-use Rattle.shelving.specs.declared.Fetched.{Fetched}
+use Rattle.format.specs.declared.Place.{Place}
+use Rattle.format.specs.declared.Refused.{Refused}
 use Rattle.shelving.specs.Shelf.{accepted_entry, shelf, shelf_answer, shelf_entry, shelf_one, entry_answer, one_answer}
 use Rattle.shelves.specs.Table.{shelf_rows, shelf_tests, shelf_entries, shelf_row, shelf_bytes}
 use Rattle.shelving.specs.Building.{filed, shelf_build, build_answer, build_output}
 use Rattle.shelves.specs.OldFile.{old_fits, old_entries, old_bytes}
 use Rattle.shelving.specs.OldForm.{from_old, from_old_answer, from_old_output, to_old, to_old_output}
+use Rattle.format.specs.Verdicts.{refused_at}
+use Rattle.std.specs.Prelude.{Result, Ok, Err}
 
 abbrev row : ℕ → ℕ → List ℕ
 row start len = little 4 start ++ little 4 len
@@ -49,7 +51,7 @@ pub counts : map shelf_answer
     ∷ (little 4 65 ++ zeros 520)
     ∷ (little 4 1 ++ zeros 7)
     ∷ [])
-    ≡ Accepted 0 ∷ Accepted 1 ∷ Accepted 2 ∷ Refused SHELF 0 ∷ Refused SHELF 0 ∷ Refused SHELF 0 ∷ Refused SHELF 0 ∷ Refused SHELF 0 ∷ Refused SHELF 0 ∷ []
+    ≡ Ok 0 ∷ Ok 1 ∷ Ok 2 ∷ refused_at SHELF 0 ∷ refused_at SHELF 0 ∷ refused_at SHELF 0 ∷ refused_at SHELF 0 ∷ refused_at SHELF 0 ∷ refused_at SHELF 0 ∷ []
 unfolding number number_at little identifier_ok signed slot_of size_fits inside_tests blocks_from sections shortcut reading accepted_entry shelf_rows shelf_tests shelf_entries shelf shelf_answer
 counts = refl
 
@@ -64,7 +66,7 @@ pub tables : map shelf_answer
     ∷ second_bad
     ∷ (first_bad ++ zeros 1)
     ∷ [])
-    ≡ Refused SHELF 0 ∷ Refused SHELF 0 ∷ Refused SHELF 0 ∷ Refused SHELF 0 ∷ Refused SHELF 0 ∷ Refused ENTRY 0 ∷ Refused ENTRY 1 ∷ Refused SHELF 0 ∷ []
+    ≡ refused_at SHELF 0 ∷ refused_at SHELF 0 ∷ refused_at SHELF 0 ∷ refused_at SHELF 0 ∷ refused_at SHELF 0 ∷ refused_at ENTRY 0 ∷ refused_at ENTRY 1 ∷ refused_at SHELF 0 ∷ []
 unfolding number number_at little identifier_ok signed slot_of size_fits inside_tests blocks_from sections shortcut reading accepted_entry shelf_rows shelf_tests shelf_entries shelf shelf_answer
 tables = refl
 
@@ -72,16 +74,16 @@ tables = refl
 abbrev leftover : List ℕ
 leftover = put Z 25 (0x80 ∷ [])
 
-pub strict : (accepted_entry leftover ≡ false) × ((reading NinetyFive leftover).verdict ≡ Accepted 80)
+pub strict : (accepted_entry leftover ≡ false) × ((reading NinetyFive leftover).verdict ≡ Ok 80)
 unfolding number number_at little put identifier_ok signed slot_of size_fits inside_tests blocks_from sections shortcut reading accepted_entry
 strict = (refl, refl)
 
 -- an answer to a fetch
-abbrev stands : ℕ → ℕ → Fetched
-stands start len = record { verdict = Accepted len; place = place start len }
+abbrev stands : ℕ → ℕ → Result Place Refused
+stands start len = Ok (place start len)
 
-abbrev none : Fault → ℕ → Fetched
-none f p = record { verdict = Refused f p; place = no_place }
+abbrev none : Fault → ℕ → Result Place Refused
+none f p = Err (record { fault = f; position = p })
 
 -- both numbers of a shelf, and one that is not on it; on a shelf with a bad entry a good one, and one that is not on it
 pub fetches : map (entry_answer two) (0 ∷ 1 ∷ 2 ∷ []) ++ map (entry_answer first_bad) (1 ∷ 2 ∷ []) ≡ stands 20 80 ∷ stands 100 80 ∷ none SHELF 0 ∷ none ENTRY 0 ∷ none SHELF 0 ∷ []
@@ -95,7 +97,7 @@ ones = refl
 
 -- built into 180 bytes: two entries; lengths that wrap to the right sum; a sum that is one short; an empty entry between two
 pub builds : map (λ ns. build_answer ns (Z ++ Z) (zeros 180)) ((80 ∷ 80 ∷ []) ∷ (18446744073709551615 ∷ 161 ∷ []) ∷ (80 ∷ 79 ∷ []) ∷ (80 ∷ 0 ∷ 80 ∷ []) ∷ [])
-    ≡ Accepted 180 ∷ Refused SHELF 0 ∷ Refused SHELF 0 ∷ Refused ENTRY 1 ∷ []
+    ≡ Ok 180 ∷ refused_at SHELF 0 ∷ refused_at SHELF 0 ∷ refused_at ENTRY 1 ∷ []
 unfolding number number_at little identifier_ok signed slot_of size_fits inside_tests blocks_from sections shortcut reading accepted_entry shelf_bytes filed shelf_build build_answer
 builds = refl
 
@@ -104,7 +106,7 @@ pub built : build_output (80 ∷ 80 ∷ []) (Z ++ Z) (zeros 181) ≡ two ++ zero
 unfolding number number_at little put identifier_ok signed slot_of size_fits inside_tests blocks_from sections shortcut reading accepted_entry shelf_bytes filed shelf_build output_of build_output
 built = refl
 
-pub no_room : build_answer (80 ∷ 80 ∷ []) (Z ++ Z) (zeros 179) ≡ Refused ROOM 0
+pub no_room : build_answer (80 ∷ 80 ∷ []) (Z ++ Z) (zeros 179) ≡ refused_at ROOM 0
 unfolding number number_at little identifier_ok signed slot_of size_fits inside_tests blocks_from sections shortcut reading accepted_entry shelf_bytes filed shelf_build build_answer
 no_room = refl
 
@@ -114,7 +116,7 @@ old_two = little 4 80 ++ Z ++ little 4 80 ++ Z
 
 -- of the old form: no entries; two; three bytes where a length is due; a length past the end; a length of 0
 pub olds : map (λ o. from_old_answer o (zeros 180)) ([] ∷ old_two ∷ (little 4 80 ++ Z ++ zeros 3) ∷ (little 4 81 ++ Z) ∷ (little 4 80 ++ Z ++ little 4 0) ∷ [])
-    ≡ Accepted 4 ∷ Accepted 180 ∷ Refused SHELF 0 ∷ Refused SHELF 0 ∷ Refused ENTRY 1 ∷ []
+    ≡ Ok 4 ∷ Ok 180 ∷ refused_at SHELF 0 ∷ refused_at SHELF 0 ∷ refused_at ENTRY 1 ∷ []
 unfolding number number_at little identifier_ok signed slot_of size_fits inside_tests blocks_from sections shortcut reading accepted_entry shelf_bytes filed old_fits old_entries from_old from_old_answer
 olds = refl
 
@@ -129,6 +131,6 @@ back = refl
 
 -- its beginnings: none of its bytes and all up to the end of an entry are of the old form again; three bytes of a length, and a cut entry, are not
 pub old_beginnings : map (λ k. from_old_answer (take k old_two) (zeros 180)) (0 ∷ 3 ∷ 83 ∷ 84 ∷ 87 ∷ 167 ∷ 168 ∷ [])
-    ≡ Accepted 4 ∷ Refused SHELF 0 ∷ Refused SHELF 0 ∷ Accepted 92 ∷ Refused SHELF 0 ∷ Refused SHELF 0 ∷ Accepted 180 ∷ []
+    ≡ Ok 4 ∷ refused_at SHELF 0 ∷ refused_at SHELF 0 ∷ Ok 92 ∷ refused_at SHELF 0 ∷ refused_at SHELF 0 ∷ Ok 180 ∷ []
 unfolding number number_at little identifier_ok signed slot_of size_fits inside_tests blocks_from sections shortcut reading accepted_entry shelf_bytes filed old_fits old_entries from_old from_old_answer
 old_beginnings = refl

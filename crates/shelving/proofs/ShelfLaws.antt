@@ -9,7 +9,6 @@ use lib.Dec.{leb, ltb, eqb}
 use borrow.Author.Tests.{leb-true, ltb-true}
 use Rattle.format.specs.declared.Place.{Place}
 use Rattle.format.specs.declared.Fault.TheVariants.{Shelf as SHELF, Room as ROOM}
-use Rattle.format.specs.declared.Verdict.TheVariants.{Accepted}
 use Rattle.format.specs.Tests.{Outcome, got, refused, Test, ◌else◌at◌, no_section, all}
 use Rattle.format.specs.Shortcut.{sum, verdict_of}
 use Rattle.format.specs.Writing.{output_of}
@@ -27,6 +26,7 @@ use Rattle.shelving.proofs.EntryLaws.{all_good, all_small}
 use Rattle.shelving.proofs.CallLaws.{shelf_good}
 use Rattle.shelving.proofs.RoundLaws.{ShelfOf, built}
 use Rattle.shelving.specs.Promises.{Leaves}
+use Rattle.std.specs.Prelude.{Ok}
 
 -- ---- what an accepted outcome says
 
@@ -135,7 +135,7 @@ pub record Gives {A : Type 0} (o : Outcome A) (n : ℕ) : Type 0 where
   pub value : A
   pub is : o ≡ got value n
 
-pub gives : {A : Type 0} (o : Outcome A) {n : ℕ} → verdict_of o ≡ Accepted n → Gives o n
+pub gives : {A : Type 0} (o : Outcome A) {n : ℕ} → verdict_of o ≡ Ok n → Gives o n
 gives (got a m) {n} e = let q : m ≡ n = cc in record { value = a; is = ap (got a) q }
 gives (refused f p) e = absurd (let z : ◌≡◌ {A = ℕ} 0 1 = cc in omega arith)
 

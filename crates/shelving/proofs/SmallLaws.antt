@@ -11,7 +11,6 @@ use Rattle.octets.specs.Numbers.{Bytes}
 use Rattle.octets.proofs.NumberLaws.{number_below}
 use Rattle.format.specs.declared.Fault.{Fault}
 use Rattle.format.specs.declared.Fault.TheVariants.{Shelf as SHELF, Entry as ENTRY}
-use Rattle.format.specs.declared.Verdict.TheVariants.{Accepted, Refused}
 use Rattle.format.specs.Numbers.{answer_value}
 use Rattle.format.specs.Tests.{◌else◌at◌, no_section, tests, all}
 use Rattle.format.specs.Shortcut.{most, sum, verdict_of}
@@ -32,6 +31,8 @@ use Rattle.shelves.proofs.TableLaws.{shelf_Right, entries_count, row_is, row_lon
 use Rattle.shelves.proofs.OldLaws.{old_apart}
 use Rattle.shelving.proofs.EntryLaws.{first_le, good_small, all_small, filed_bad, filed_room, filed_all}
 use Rattle.shelving.proofs.CallLaws.{check_wrong, check_bad, check_good, refused_by, any_entry, any_one}
+use Rattle.format.specs.Verdicts.{refused_at}
+use Rattle.std.specs.Prelude.{Ok}
 
 abbrev pub longest : ℕ
 longest = 4194820
@@ -61,7 +62,7 @@ module _ (es : List (List ℕ)) (few : length es ≤ most_entries) where
 
 -- ---- the calls
 
-none_small : answer_value (Refused SHELF 0) ≤ longest
+none_small : answer_value (refused_at SHELF 0) ≤ longest
 unfolding answer_value
 none_small = omega arith
 
@@ -114,7 +115,7 @@ to_small s out = go (all (shelf_tests s)) refl
 
 module _ (s : List ℕ) (bytes : Bytes s) (k : ℕ) where
   row_small : all (shelf_tests s) ≡ true → k < shelf_count s → accepted_entry (bytes_at s (shelf_row s k)) ≡ true
-      → FetchSmall (record { verdict = Accepted (shelf_row s k).len; place = shelf_row s k })
+      → FetchSmall (Ok (shelf_row s k))
   unfolding answer_value
   row_small h on good =
       let long : (shelf_row s k).len ≤ most = omega (arith, row_long s (shelf_Right s h) k on, good_small (bytes_at s (shelf_row s k)) good) in

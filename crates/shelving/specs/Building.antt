@@ -1,12 +1,12 @@
 -- FORMAT: Shelf building. A shelf from bodies that stand end to end, and their lengths.
 use Rattle.std.specs.Prelude.{ℕ, List, [], ◌∷◌, ◌++◌, length, take, drop, leb, eqb}
 use Rattle.format.specs.declared.Fault.TheVariants.{Shelf as SHELF, Room as ROOM}
-use Rattle.format.specs.declared.Verdict.{Verdict}
 use Rattle.format.specs.Tests.{Outcome, got, ◌else◌at◌, no_section, tests}
 use Rattle.format.specs.Shortcut.{sum, verdict_of}
 use Rattle.format.specs.Writing.{output_of}
 use Rattle.shelves.specs.Table.{most_entries, shelf_bytes}
 use Rattle.shelving.specs.Shelf.{entry_tests}
+use Rattle.format.specs.Verdicts.{Verdict}
 
 -- ---- a file w with these entries: ENTRY for a bad one, then ROOM
 

@@ -1,13 +1,13 @@
 -- FORMAT: Old form. A length of four bytes and a shortcut, again and again to the end of the file; to a shelf and back.
 use Rattle.std.specs.Prelude.{ℕ, List, [], ◌∷◌, length}
 use Rattle.format.specs.declared.Fault.TheVariants.{Shelf as SHELF}
-use Rattle.format.specs.declared.Verdict.{Verdict}
 use Rattle.format.specs.Tests.{Outcome, ◌else◌at◌, no_section, tests}
 use Rattle.format.specs.Shortcut.{verdict_of}
 use Rattle.format.specs.Writing.{output_of}
 use Rattle.shelves.specs.OldFile.{old_fits, old_entries, old_bytes}
 use Rattle.shelves.specs.Table.{most_entries, shelf_tests, shelf_entries, shelf_bytes}
 use Rattle.shelving.specs.Building.{filed}
+use Rattle.format.specs.Verdicts.{Verdict}
 
 -- ---- from the old form to a shelf
 

@@ -1,21 +1,21 @@
 -- FORMAT: Shelf tests, Shelf fetching. A shelf as it is read: the tests of its count and table, then those of its entries.
-use Rattle.std.specs.Prelude.{ℕ, ◌+◌, List, [], ◌∷◌, ◌++◌, Bool, true, false, ltb}
+use Rattle.std.specs.Prelude.{ℕ, ◌+◌, List, [], ◌∷◌, ◌++◌, Bool, true, false, ltb, Result, Ok, Err}
+use Rattle.std.specs.Result.{result_unwrap_or}
 use Rattle.format.specs.declared.Place.{Place}
+use Rattle.format.specs.declared.Refused.{Refused}
 use Rattle.format.specs.declared.Fault.TheVariants.{Shelf as SHELF, Entry as ENTRY}
 use Rattle.format.specs.declared.Profile.TheVariants.{Strict}
-use Rattle.format.specs.declared.Verdict.{Verdict}
-use Rattle.format.specs.declared.Verdict.TheVariants.{Accepted, Refused}
 use Rattle.format.specs.Tests.{Outcome, got, refused, Test, ◌else◌at◌, no_section, tests, no_place}
 use Rattle.format.specs.Shortcut.{reading, verdict_of}
 use Rattle.format.specs.Contents.{bytes_at}
 use Rattle.shelves.specs.Table.{shelf_count, shelf_tests, shelf_entries, shelf_row}
-use Rattle.shelving.specs.declared.Fetched.{Fetched}
+use Rattle.format.specs.Verdicts.{Verdict}
 
 -- ---- entries
 
 abbrev pub accepted_by : Verdict → Bool
-accepted_by (Accepted n) = true
-accepted_by (Refused f p) = false
+accepted_by (Ok n) = true
+accepted_by (Err r) = false
 
 -- an entry is a shortcut that reading accepts as strict, so it has 1 to 65,536 bytes
 unfoldable pub accepted_entry : List ℕ → Bool
@@ -47,20 +47,25 @@ shelf_one s k =
     tests no_section (shelf_tests s ++ ltb k (shelf_count s) else SHELF at 0 ∷ accepted_entry (bytes_at s (shelf_row s k)) else ENTRY at k ∷ [])
     (got (shelf_row s k) (shelf_row s k).len)
 
--- the verdict, and the place of the entry; a refusal has the empty place
-abbrev pub fetched_by : Outcome Place → Fetched
-fetched_by (got b n) = record { verdict = Accepted n; place = b }
-fetched_by (refused f p) = record { verdict = Refused f p.position; place = no_place }
+-- the place of the entry, or the refusal
+abbrev pub fetched_by : Outcome Place → Result Place Refused
+fetched_by (got b n) = Ok b
+fetched_by (refused f p) = Err (record { fault = f; position = p.position })
 
-unfoldable pub entry_answer : List ℕ → ℕ → Fetched
+-- the verdict: accepted with the length of the entry
+abbrev pub fetch_verdict : Result Place Refused → Verdict
+fetch_verdict (Ok b) = Ok b.len
+fetch_verdict (Err r) = Err r
+
+unfoldable pub entry_answer : List ℕ → ℕ → Result Place Refused
 entry_answer s k = fetched_by (shelf_entry s k)
 
-unfoldable pub one_answer : List ℕ → ℕ → Fetched
+unfoldable pub one_answer : List ℕ → ℕ → Result Place Refused
 one_answer s k = fetched_by (shelf_one s k)
 
--- the caller's own bytes there
+-- the caller's own bytes there; none beside a refusal
 unfoldable pub entry_shown : List ℕ → ℕ → List ℕ
-entry_shown s k = bytes_at s (entry_answer s k).place
+entry_shown s k = bytes_at s (result_unwrap_or (entry_answer s k) no_place)
 
 unfoldable pub one_shown : List ℕ → ℕ → List ℕ
-one_shown s k = bytes_at s (one_answer s k).place
+one_shown s k = bytes_at s (result_unwrap_or (one_answer s k) no_place)

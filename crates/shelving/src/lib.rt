@@ -3,45 +3,29 @@
 
 mod entries;
 
-ghost use Rattle.std.specs.Prelude.{◌≡◌, true, length};
+ghost use Rattle.std.specs.Prelude.{◌≡◌, ◌≤◌, ◌<◌, true, length, MatchOption};
 ghost use Rattle.format.specs.Numbers.{Numbered};
-ghost use Rattle.format.specs.Tests.{all, no_place};
-ghost use Rattle.shelves.specs.Table.{shelf_tests, shelf_entries, shelf_bytes};
-ghost use Rattle.shelving.specs.Shelf.{shelf, shelf_answer, shelf_entry, shelf_one, entry_answer, one_answer, entry_shown, one_shown};
+ghost use Rattle.format.specs.Tests.{all};
+ghost use Rattle.shelves.specs.Table.{shelf_count, shelf_tests, shelf_entries, shelf_row, shelf_bytes};
+ghost use Rattle.shelving.specs.Shelf.{shelf, shelf_answer, shelf_entry, shelf_one, fetch_verdict, entry_answer, one_answer, entry_shown, one_shown};
 ghost use Rattle.shelving.specs.Building.{filed, shelf_build, build_answer, build_output};
 ghost use Rattle.shelves.specs.OldFile.{old_bytes};
 ghost use Rattle.shelving.specs.OldForm.{from_old, from_old_answer, from_old_output, to_old, to_old_answer, to_old_output};
 ghost use Rattle.shelves.specs.Steps.Apart.{apart, table_lengths};
-ghost use Rattle.shelving.specs.Steps.Filing.{first_bad, Entries, Filed};
+ghost use Rattle.shelving.specs.Steps.Filing.{bad_entry, Entries, Filed};
 
-use format::{Fault, Place, Verdict};
+use format::{Fault, Place, Refused, Verdict};
 use shelves::{making, old, table};
 
-// The verdict on a shelf and a number, and where the entry stands; the empty place beside a refusal.
-#[derive(Clone, Copy)]
-pub struct Fetched {
-    pub verdict: Verdict,
-    pub place: Place,
-}
-
-fn refused(f: Fault, at: usize) -> Fetched
-    ensures { result ≡ record { verdict = Verdict.Refused f at; place = no_place } }
-{
-    Fetched {
-        verdict: Verdict::Refused(f, at),
-        place: format::NO_PLACE,
-    }
-}
-
-// The number of the first bad entry on a shelf whose table is right; their count where there is none.
-fn first_on_shelf(s: &[u8]) -> usize
+// The number of the first bad entry, if there is one, on a shelf whose table is right.
+fn first_on_shelf(s: &[u8]) -> Option<usize>
     requires { all (shelf_tests s.now) ≡ true }
-    ensures { result ≡ first_bad (shelf_entries s.now) }
+    ensures { result ≡ bad_entry (shelf_entries s.now) }
 {
     let n = octets::u32_at(s, 0) as usize;
     let mut lengths = [0u64; 64];
     table::table_lengths(s, &mut lengths);
-    entries::first_bad(s, 4 + 8 * n, 0, &lengths[..n])
+    entries::first_bad(&s[4 + 8 * n..], 0, &lengths[..n])
 }
 
 // Whether it is a shelf; the answer is the number of its entries.
@@ -50,58 +34,55 @@ pub fn shelf_check(s: &[u8]) -> Verdict
     ensures numbers { Numbered result (shelf s.now) }
 {
     if !table::table_ok(s) {
-        return Verdict::Refused(Fault::Shelf, 0);
+        return Err(Refused::at(Fault::Shelf, 0));
     }
-    let n = octets::u32_at(s, 0) as usize;
-    let bad = first_on_shelf(s);
-    if bad < n {
-        return Verdict::Refused(Fault::Entry, bad);
+    if let Some(bad) = first_on_shelf(s) {
+        return Err(Refused::at(Fault::Entry, bad));
     }
-    Verdict::Accepted(n)
+    Ok(octets::u32_at(s, 0) as usize)
 }
 
-// The entry of this number, on a shelf that is right in all its parts.
-pub fn shelf_entry(s: &[u8], k: usize) -> Fetched
+// Where the entry of this number stands, if the table is right and has it.
+fn row_on(s: &[u8], k: usize) -> Option<Place>
+    ensures { MatchOption result
+        (all (shelf_tests s.now) ≡ true → shelf_count s.now ≤ k)
+        (λ b. (all (shelf_tests s.now) ≡ true) × (k < shelf_count s.now) × (b ≡ shelf_row s.now k)) }
+{
+    if !table::table_ok(s) {
+        return None;
+    }
+    if octets::u32_at(s, 0) as usize <= k {
+        return None;
+    }
+    Some(table::shelf_row(s, k))
+}
+
+// Where the entry of this number stands, on a shelf that is right in all its parts.
+pub fn shelf_entry(s: &[u8], k: usize) -> Result<Place, Refused>
     ensures answer { result ≡ entry_answer s.now k }
-    ensures numbers { Numbered result.verdict (shelf_entry s.now k) }
+    ensures numbers { Numbered (fetch_verdict result) (shelf_entry s.now k) }
 {
-    if !table::table_ok(s) {
-        return refused(Fault::Shelf, 0);
-    }
-    let n = octets::u32_at(s, 0) as usize;
-    if n <= k {
-        return refused(Fault::Shelf, 0);
-    }
-    let bad = first_on_shelf(s);
-    if bad < n {
-        return refused(Fault::Entry, bad);
-    }
-    let place = table::shelf_row(s, k);
-    Fetched {
-        verdict: Verdict::Accepted(place.len),
-        place,
+    let Some(place) = row_on(s, k) else {
+        return Err(Refused::at(Fault::Shelf, 0));
+    };
+    match first_on_shelf(s) {
+        Some(bad) => Err(Refused::at(Fault::Entry, bad)),
+        None => Ok(place),
     }
 }
 
-// The same without a look into the other entries.
-pub fn shelf_one(s: &[u8], k: usize) -> Fetched
+// The same without a look into the other entries. The rules have both calls by name.
+pub fn shelf_one(s: &[u8], k: usize) -> Result<Place, Refused>
     ensures answer { result ≡ one_answer s.now k }
-    ensures numbers { Numbered result.verdict (shelf_one s.now k) }
+    ensures numbers { Numbered (fetch_verdict result) (shelf_one s.now k) }
 {
-    if !table::table_ok(s) {
-        return refused(Fault::Shelf, 0);
-    }
-    let n = octets::u32_at(s, 0) as usize;
-    if n <= k {
-        return refused(Fault::Shelf, 0);
-    }
-    let place = table::shelf_row(s, k);
-    if !entries::entry_ok(octets::part(s, place.at, place.len)) {
-        return refused(Fault::Entry, k);
-    }
-    Fetched {
-        verdict: Verdict::Accepted(place.len),
-        place,
+    let Some(place) = row_on(s, k) else {
+        return Err(Refused::at(Fault::Shelf, 0));
+    };
+    if entries::entry_ok(octets::part(s, place.at, place.len)) {
+        Ok(place)
+    } else {
+        Err(Refused::at(Fault::Entry, k))
     }
 }
 
@@ -109,16 +90,14 @@ pub fn shelf_one(s: &[u8], k: usize) -> Fetched
 pub fn shelf_fetch(s: &[u8], k: usize) -> &[u8]
     ensures { result.now ≡ entry_shown s.now k }
 {
-    let f = shelf_entry(s, k);
-    let b = f.place;
+    let b = shelf_entry(s, k).unwrap_or(format::NO_PLACE);
     octets::part(s, b.at, b.len)
 }
 
 pub fn shelf_fetch_one(s: &[u8], k: usize) -> &[u8]
     ensures { result.now ≡ one_shown s.now k }
 {
-    let f = shelf_one(s, k);
-    let b = f.place;
+    let b = shelf_one(s, k).unwrap_or(format::NO_PLACE);
     octets::part(s, b.at, b.len)
 }
 
@@ -128,15 +107,13 @@ fn shelve(d: &[u8], gap: usize, lengths: &[u64], bytes: usize, out: &mut [u8]) -
     ensures { Filed (filed (apart gap lengths.now d.now) (shelf_bytes (apart gap lengths.now d.now)) (length out.old))
         out.old result out.new }
 {
-    let n = lengths.len();
-    let bad = entries::first_bad(d, 0, gap, lengths);
-    if bad < n {
-        return Verdict::Refused(Fault::Entry, bad);
+    if let Some(bad) = entries::first_bad(d, gap, lengths) {
+        return Err(Refused::at(Fault::Entry, bad));
     }
-    if out.len() < 4 + 8 * n + bytes {
-        return Verdict::Refused(Fault::Room, 0);
+    if out.len() < 4 + 8 * lengths.len() + bytes {
+        return Err(Refused::at(Fault::Room, 0));
     }
-    Verdict::Accepted(making::put_shelf(d, gap, lengths, out))
+    Ok(making::put_shelf(d, gap, lengths, out))
 }
 
 // A shelf of bodies, which stand one after another in a slice, by their lengths.
@@ -145,11 +122,10 @@ pub fn shelf_build(lengths: &[u64], bodies: &[u8], out: &mut [u8]) -> Verdict
     ensures output { out.new ≡ build_output lengths.now bodies.now out.old }
     ensures numbers { Numbered result (shelf_build lengths.now bodies.now (length out.old)) }
 {
-    if 64 < lengths.len() {
-        return Verdict::Refused(Fault::Shelf, 0);
-    }
-    if !making::adds_up(lengths, bodies.len()) {
-        return Verdict::Refused(Fault::Shelf, 0);
+    let few = lengths.len() <= 64;
+    let fit = few && making::adds_up(lengths, bodies.len());
+    if !fit {
+        return Err(Refused::at(Fault::Shelf, 0));
     }
     shelve(bodies, 0, lengths, bodies.len(), out)
 }
@@ -160,10 +136,9 @@ pub fn shelf_from_old(s: &[u8], out: &mut [u8]) -> Verdict
     ensures output { out.new ≡ from_old_output s.now out.old }
     ensures numbers { Numbered result (from_old s.now (length out.old)) }
 {
-    let n = old::old_count(s);
-    if 64 < n {
-        return Verdict::Refused(Fault::Shelf, 0);
-    }
+    let Some(n) = old::old_count(s) else {
+        return Err(Refused::at(Fault::Shelf, 0));
+    };
     let mut lengths = [0u64; 64];
     old::old_lengths(s, &mut lengths);
     shelve(s, 4, &lengths[..n], s.len() - 4 * n, out)
@@ -176,14 +151,13 @@ fn unshelve(s: &[u8], lengths: &[u64], out: &mut [u8]) -> Verdict
 {
     let n = lengths.len();
     let start = 4 + 8 * n;
-    let bad = entries::first_bad(s, start, 0, lengths);
-    if bad < n {
-        return Verdict::Refused(Fault::Entry, bad);
+    if let Some(bad) = entries::first_bad(&s[start..], 0, lengths) {
+        return Err(Refused::at(Fault::Entry, bad));
     }
     if out.len() < s.len() - (4 + 4 * n) {
-        return Verdict::Refused(Fault::Room, 0);
+        return Err(Refused::at(Fault::Room, 0));
     }
-    Verdict::Accepted(making::put_old(s, start, lengths, out))
+    Ok(making::put_old(s, start, lengths, out))
 }
 
 // And back.
@@ -193,7 +167,7 @@ pub fn shelf_to_old(s: &[u8], out: &mut [u8]) -> Verdict
     ensures numbers { Numbered result (to_old s.now (length out.old)) }
 {
     if !table::table_ok(s) {
-        return Verdict::Refused(Fault::Shelf, 0);
+        return Err(Refused::at(Fault::Shelf, 0));
     }
     let n = octets::u32_at(s, 0) as usize;
     let mut lengths = [0u64; 64];

@@ -6,22 +6,21 @@ use Prim.Native.Nat.{ℕ, zero, suc, ◌+◌, ◌-◌, ◌≤◌, ◌<◌}
 use native.Mathlib.Omega.{arith}
 use lib.ListN.{length, drop}
 use lib.Dec.{eqb}
-use borrow.Author.Tests.{eq-eqb, ne_eqb}
-use Rattle.octets.specs.Numbers.{u32_at}
+use borrow.Author.Tests.{ne_eqb}
+use Rattle.std.specs.Prelude.{Option, Err}
+use Rattle.std.specs.Option.{unwrap_or}
 use Rattle.octets.specs.Steps.Puts.{part}
-use Rattle.octets.specs.declared.Cursor.{Cursor}
 use Rattle.octets.proofs.PartLaws.{part_in}
 use Rattle.format.specs.declared.Profile.{Profile}
 use Rattle.format.specs.declared.Fault.{Fault}
-use Rattle.format.specs.declared.Header.{Header}
+use Rattle.format.specs.declared.Refusal.{Refusal}
 use Rattle.format.specs.declared.Place.{Place}
 use Rattle.format.specs.declared.Record.{Record}
 use Rattle.format.specs.declared.Spot.{Spot}
-use Rattle.format.specs.Tests.{Outcome, got, refused, place, no_place}
+use Rattle.format.specs.Tests.{Outcome, got, refused, place, no_place, Reader}
 use Rattle.format.specs.Presence.{items_there, info_there, name_bit, relative_bit, workdir_bit, arguments_bit, icon_bit, string_there}
 use Rattle.format.specs.Blocks.{blocks}
-use Rattle.format.specs.Shortcut.{Section, Tail, Sections, shortcut, reading, sum}
-use Rattle.format.specs.Bodies.{place_in, items_slot, string_slot}
+use Rattle.format.specs.Shortcut.{Section, Sections, blocks_of, shortcut, reading, sum}
 use Rattle.format.specs.Listing.{Row, EndToEnd, row, block_rows, rows_of, rows_by, listing, named, nth, section_place, section_bytes}
 use Rattle.blocks.specs.Steps.Walk.{nth_place, nth_block}
 use Rattle.blocks.proofs.NthLaws.{nth_of}
@@ -29,15 +28,11 @@ use Rattle.format.proofs.BlockLaws.{blocks_Walked}
 use Rattle.format.proofs.AcceptedLaws.{shortcut-Whole}
 use Rattle.format.proofs.FoundLaws.{read_EndToEnd}
 use Rattle.format.proofs.Demands.{ahead}
-use Rattle.reader.specs.declared.Next.TheVariants.{On, Off}
-use Rattle.reader.specs.declared.Outline.{Outline}
 use Rattle.reader.specs.declared.SectionEnds.{SectionEnds}
-use Rattle.reader.specs.Steps.EachSection.{Walk, at_of}
-use Rattle.reader.specs.Steps.Finish.{walk_of, outline_is, lengths_in, Whole}
+use Rattle.reader.specs.Steps.Finish.{ends_in, outline, Whole}
 use Rattle.shown.specs.Steps.Asked.{between}
-use Rattle.reader.proofs.Runs.{section_of}
-use Rattle.reader.proofs.OutlineLaws.{blocks_in, outline, Outlined, header_section, header_held, sections-got, shortcut_ends, Walked, walked_tail, Whole-Walked, told}
-use Rattle.reader.proofs.WholeLaws.{laid, flags_held}
+use Rattle.reader.proofs.Found.{section_of, FoundAt}
+use Rattle.reader.proofs.OutlineLaws.{Reads, whole_held, sectioned, outline_refused}
 
 -- ---- rows by name
 
@@ -67,7 +62,7 @@ no_blocks : (k p : ℕ) (ns : List ℕ) → (8 ≡ k → ⊥) → (9 ≡ k → �
 no_blocks k p [] a b = rw (ne_eqb 9 k b)
 no_blocks k p (n ∷ ns) a b = rw (ne_eqb 8 k a) (no_blocks k (p + n) ns a b)
 
-nth_block_lem : (j p : ℕ) (ns : List ℕ) → nth j (named 8 (block_rows p ns)) ≡ nth_place p ns j
+nth_block_lem : (j p : ℕ) (ns : List ℕ) → nth j (named 8 (block_rows p ns)) ≡ unwrap_or (nth_place p ns j) no_place
 nth_block_lem j p [] = refl
 nth_block_lem zero p (n ∷ ns) = refl
 nth_block_lem (suc j) p (n ∷ ns) = nth_block_lem j (p + n) ns
@@ -107,78 +102,47 @@ accepted_listing : (profile : Profile) (s : List ℕ) {c : Sections} {n : ℕ} �
 unfolding listing
 accepted_listing profile s e = rw e
 
-Outlined-rows : (profile : Profile) (s : List ℕ) (h : Header) (v : Tail) → Outlined s h (outline profile s h) v → rows_of (header_section h, v) ≡ rows_from h.flags (outline profile s h).ends (blocks_in v).read
-Outlined-rows profile s h v F =
-    let f = h.flags in
-    let o = (outline profile s h).ends in
-    rw (
-      F.items,
-      row_any 1 (items_there f) 76 o.items (place_in (outline profile s h).held items_slot),
-      F.info,
-      row_any 2 (info_there f) o.items o.info F.read,
-      F.name,
-      row_any 3 (string_there name_bit f) o.info o.name (string name_bit),
-      F.relative,
-      row_any 4 (string_there relative_bit f) o.name o.relative (string relative_bit),
-      F.workdir,
-      row_any 5 (string_there workdir_bit f) o.relative o.workdir (string workdir_bit),
-      F.arguments,
-      row_any 6 (string_there arguments_bit f) o.workdir o.arguments (string arguments_bit),
-      F.icon,
-      row_any 7 (string_there icon_bit f) o.arguments o.icon (string icon_bit),
-      F.blocks.start,
-    )
+-- each section's row by where it was found
+found_rows : (profile : Profile) (s : List ℕ) (c : Sections) {q : ℕ} → Reads profile s c q → rows_of c ≡ rows_from c.0.read.flags (ends_in c) (blocks_of c).read
+found_rows profile s c R =
+    let f = c.0.read.flags in
+    let e = ends_in c in
+    let T = R.tail in
+    same (ap (row 0) R.first)
+    (by_place 1 T.items ∙ ap (λ (p : ℕ). row 1 (section_of (items_there f) p e.items (tt {0}))) R.head)
+    (by_place 2 T.info) (by_place 3 T.name) (by_place 4 T.relative) (by_place 5 T.workdir) (by_place 6 T.arguments) (by_place 7 T.icon)
+    (ap (λ (p : ℕ). block_rows p (blocks_of c).read) T.blocks.start)
   where
-    string : ℕ → Place
-    string k = place_in (outline profile s h).held (string_slot k)
-
     -- whatever it holds
-    row_any : {A : Type 0} (k : ℕ) (b : Bool) (p e : ℕ) (a : A) → row k (section_of b p e a) ≡ row k (section_of {A = Unit {0}} b p e tt)
-    row_any k true p e a = refl
-    row_any k false p e a = refl
+    by_place : {A : Type 0} (k : ℕ) {P : Reader A} {b : Bool} {d : A} {p : ℕ} {v : Section A} → FoundAt s P b d p v → row k v ≡ row k (section_of {A = Unit {0}} b p (p + v.len) tt)
+    by_place k {b = b} {p = p} {v = v} F = ap (row k) F.is ∙ go b
+      where
+        go : (b : Bool) → row k (section_of b p (p + v.len) v.read) ≡ row k (section_of {A = Unit {0}} b p (p + v.len) tt)
+        go true = refl
+        go false = refl
 
-Walked-rows : (profile : Profile) (s : List ℕ) (W : Walked profile s) → AllRows profile s W.head.flags (outline profile s W.head).ends
-unfolding at_of
-Walked-rows profile s W =
-    let h = W.head in
-    let r = walked_tail W in
-    let F = r.fact in
-    let n : 76 + r.count ≡ length s = r.ends in
-    let z : shortcut profile s ≡ got (header_section h, r.value) (length s) = shortcut_ends profile s W.small (sections-got profile s h W.is r.is) ∙ rw (n, eq-eqb (length s) (length s) refl) in
-    record {
-      lengths = (blocks_in r.value).read;
-      count = (blocks_in r.value).len;
-      is = F.blocks.is;
-      last = F.blocks.last ∙ ap at_of W.next;
-      rows = accepted_listing profile s z ∙ Outlined-rows profile s h r.value F;
-    }
+    same : {a₀ a₁ a₂ a₃ a₄ a₅ a₆ a₇ a₈ b₀ b₁ b₂ b₃ b₄ b₅ b₆ b₇ b₈ : List Row} → a₀ ≡ b₀ → a₁ ≡ b₁ → a₂ ≡ b₂ → a₃ ≡ b₃ → a₄ ≡ b₄ → a₅ ≡ b₅ → a₆ ≡ b₆ → a₇ ≡ b₇ → a₈ ≡ b₈
+        → a₀ ++ (a₁ ++ (a₂ ++ (a₃ ++ (a₄ ++ (a₅ ++ (a₆ ++ (a₇ ++ a₈))))))) ≡ b₀ ++ (b₁ ++ (b₂ ++ (b₃ ++ (b₄ ++ (b₅ ++ (b₆ ++ (b₇ ++ b₈)))))))
+    same p₀ p₁ p₂ p₃ p₄ p₅ p₆ p₇ p₈ = rw (p₀, p₁, p₂, p₃, p₄, p₅, p₆, p₇, p₈)
 
 pub all_rows : {profile : Profile} {s : List ℕ} {e : SectionEnds} {texts : List ℕ} → Whole profile s e texts → {f : ℕ} → f ≡ (reading profile s).held.header.flags → AllRows profile s f e
-all_rows {profile} {s} {e} A {f} i =
-    let W = Whole-Walked A in
-    let held : (reading profile s).held ≡ (outline profile s W.head).held = A.held ∙ ap (λ (w : Walk). w.held) W.walk in
-    let flags : f ≡ W.head.flags = i ∙ ap (λ (r : Record). r.header.flags) held ∙ ap (λ (h : Header). h.flags) (header_held profile s W.head) in
-    let ends : e ≡ (outline profile s W.head).ends = A.ends ∙ ap (λ (w : Walk). w.ends) W.walk in
-    subst₂ (λ (x : ℕ) (y : SectionEnds). AllRows profile s x y) (sym flags) (sym ends) (Walked-rows profile s W)
+all_rows {profile} {s} {e} w {f} i =
+    let S = sectioned w in
+    let c = S.sections in
+    let B = S.whole.reads.tail.blocks in
+    let flags : f ≡ c.0.read.flags = i ∙ ap (λ (r : Record). r.header.flags) (whole_held S.whole) in
+    subst₂ (λ (x : ℕ) (y : SectionEnds). AllRows profile s x y) (sym flags) (sym S.ends)
+    (record {
+      lengths = (blocks_of c).read;
+      count = (blocks_of c).len;
+      is = B.is;
+      last = B.last;
+      rows = accepted_listing profile s S.whole.is ∙ found_rows profile s c S.whole.reads;
+    })
 
--- what the outline of s leads to
-module _ (profile : Profile) (s : List ℕ) {o : Outline} (e : o ≡ outline_is s (walk_of profile s)) where
-  pub off_listing : {f : Fault} {q : Spot} → o.next ≡ Off f q → listing profile s ≡ []
-  off_listing {f} {q} k = refused-listing profile s ((told profile s e refl refl).off f q k)
-
-  module _ {c : Cursor} (k : o.next ≡ On c) where
-    abbrev whole : Whole profile s o.ends (lengths_in (walk_of profile s).held)
-    whole = (told profile s e refl refl).on c k
-
-    pub flags_inside : 20 + 4 ≤ length s
-    flags_inside = omega (arith, (laid whole).long)
-
-    -- the flags stand behind size and class
-    pub on_rows : {f : ℕ} → f ≡ u32_at s 20 → AllRows profile s f o.ends
-    on_rows i = all_rows whole (i ∙ sym (flags_held whole))
-
-    pub on_blocks : AllRows profile s (u32_at s 20) o.ends
-    on_blocks = on_rows refl
+-- a refused shortcut has no rows
+pub no_rows : (profile : Profile) (s : List ℕ) {r : Refusal} → Err r ≡ outline profile s → listing profile s ≡ []
+no_rows profile s e = refused-listing profile s (outline_refused profile s (sym e))
 
 -- ---- the place of each name
 
@@ -187,7 +151,6 @@ abbrev Other : ℕ → Type 0
 Other n = ((((((((Unit {0} × (n ≡ 0 → ⊥)) × (n ≡ 1 → ⊥)) × (n ≡ 2 → ⊥)) × (n ≡ 3 → ⊥)) × (n ≡ 4 → ⊥)) × (n ≡ 5 → ⊥)) × (n ≡ 6 → ⊥)) × (n ≡ 7 → ⊥)) × (n ≡ 9 → ⊥)
 
 nth_section : {A : Type 0} (j : ℕ) (b : Bool) (p e : ℕ) (a : A) → nth 0 (row j (section_of b p e a)) ≡ between b p e
-unfolding between
 nth_section j true p e a = refl
 nth_section j false p e a = refl
 
@@ -244,10 +207,10 @@ module _ (profile : Profile) (s : List ℕ) (block : ℕ) where
         rw R.rows
         (simp (named-append, named-row, low 7 (omega arith), append-nil) (sym (nth_section 7 (string_there icon_bit f) e.arguments e.icon (tt {0}))))
 
-    pub place_8 : {b : Place} → b ≡ nth_block s e.icon block → b ≡ section_place profile s 8 block
+    pub place_8 : {o : Option Place} → o ≡ nth_block s e.icon block → unwrap_or o no_place ≡ section_place profile s 8 block
     unfolding section_place
     place_8 i =
-        rw R.rows ((nth_of i).is [] R.lengths R.count R.is ∙ simp (named-append, named-row) (sym (nth_block_lem block e.icon R.lengths)))
+        rw R.rows (ap (λ (o : Option Place). unwrap_or o no_place) ((nth_of i).is [] R.lengths R.count R.is) ∙ simp (named-append, named-row) (sym (nth_block_lem block e.icon R.lengths)))
 
     pub place-9 : place (length s - 4) 4 ≡ section_place profile s 9 block
     unfolding section_place

@@ -1,23 +1,12 @@
 // A section asked for by name, shown as the caller's own bytes.
 #![tactic(auto)]
 
-ghost use Rattle.std.specs.Prelude.{◌≡◌, ◌-◌};
+ghost use Rattle.std.specs.Prelude.{◌≡◌};
 ghost use Rattle.format.specs.Listing.{section_place, section_bytes};
-ghost use Rattle.reader.specs.Steps.Finish.{outline_is, walk_of};
 ghost use Rattle.shown.specs.Steps.Asked.{between};
 
 use format::{Place, Profile};
-use reader::{Next, Outline};
-
-// a - b, or 0.
-fn less(a: usize, b: usize) -> usize
-    ensures { result ≡ a - b }
-{
-    if a < b {
-        return 0;
-    }
-    a - b
-}
+use reader::Outline;
 
 fn between(there: bool, p: usize, e: usize) -> Place
     ensures { result ≡ between there p e }
@@ -25,26 +14,21 @@ fn between(there: bool, p: usize, e: usize) -> Place
     if there {
         return Place {
             at: p,
-            len: less(e, p),
+            len: e.saturating_sub(p),
         };
     }
     format::NO_PLACE
 }
 
-// By the outline, which is all that the sections' places need.
-fn place_in(s: &[u8], o: Outline, name: u32, block: usize, profile: Profile) -> Place
-    requires { o ≡ outline_is s.now (walk_of profile s.now) }
-    ensures { result ≡ section_place profile s.now name block }
+// Of an accepted shortcut, by where its sections end.
+fn place_in(o: &Outline, name: u32, block: usize) -> Place
+    ensures { result ≡ section_place o.now.profile o.now.s.now name block }
 {
-    let next = o.next;
-    let Next::On(_) = next else {
-        return format::NO_PLACE;
-    };
-    if name == 8 {
-        return blocks::nth_block(s, o.ends.icon, block);
-    }
-    let f = octets::u32_at(s, 20);
     let e = o.ends;
+    if name == 8 {
+        return blocks::nth_block(o.s, e.icon, block).unwrap_or(format::NO_PLACE);
+    }
+    let f = o.flags();
     match name {
         0 => Place { at: 0, len: 76 },
         1 => between(format::items_there(f), 76, e.items),
@@ -55,7 +39,7 @@ fn place_in(s: &[u8], o: Outline, name: u32, block: usize, profile: Profile) -> 
         6 => between(format::arguments_there(f), e.workdir, e.arguments),
         7 => between(format::icon_there(f), e.arguments, e.icon),
         9 => Place {
-            at: less(s.len(), 4),
+            at: o.s.len().saturating_sub(4),
             len: 4,
         },
         _ => format::NO_PLACE,
@@ -68,8 +52,18 @@ pub fn section_place(s: &[u8], name: u32, block: usize, profile: Profile) -> Pla
 {
     let mut texts = [0u32; 9];
     let mut firsts = [0u32; 11];
-    let o = reader::outline_of(s, profile, &mut texts, &mut firsts);
-    place_in(s, o, name, block, profile)
+    match reader::outline_of(s, profile, &mut texts, &mut firsts) {
+        Ok(ends) => {
+            let o = Outline {
+                s,
+                profile,
+                ends,
+                texts: &texts,
+            };
+            place_in(&o, name, block)
+        }
+        Err(_) => format::NO_PLACE,
+    }
 }
 
 pub fn section(s: &[u8], name: u32, block: usize, profile: Profile) -> &[u8]

@@ -7,7 +7,7 @@ use Rattle.single.proofs.items
 use Rattle.single.specs.contracts.items as items_contract
 
 pub string_one_outcome : OneAnswer string_contract.ended string.Reads.Post
-string_one_outcome κs a r q s t p o = p.is ∙ sym o.is
+string_one_outcome κs a r q s t p o = p ∙ sym o
 
 pub items_one_outcome : OneAnswer items_contract.ended items.Reads.Post
-items_one_outcome κs a r q s t p o = p.is ∙ sym o.is
+items_one_outcome κs a r q s t p o = p ∙ sym o

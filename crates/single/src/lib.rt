@@ -1,12 +1,14 @@
 // Sections that are one body: a string, and the item list (FORMAT: Strings, Item list).
 #![tactic(auto)]
 
-ghost use Rattle.std.specs.Prelude.{◌≡◌};
+ghost use Rattle.std.specs.Prelude.{◌≡◌, drop};
 ghost use Rattle.octets.specs.Characters.{bytes_of};
-ghost use Rattle.single.specs.Steps.Taken.{StringAnswer, ItemsAnswer};
+ghost use Rattle.format.specs.Items.{items};
+ghost use Rattle.format.specs.Strings.{string};
+ghost use Rattle.format.specs.Steps.Answers.{read_from};
 
-use format::{Fault, Place, Taken, spot_at};
-use octets::{Cursor, Skipped, Took};
+use format::{Fault, Place, Refusal};
+use octets::Cursor;
 
 // The count is of characters, of two bytes each in Unicode.
 fn bytes_of(unicode: bool, count: u32) -> usize
@@ -19,36 +21,40 @@ fn bytes_of(unicode: bool, count: u32) -> usize
 }
 
 // The section is the string's number in the listing.
-pub fn string(s: &[u8], c: Cursor, section: u32, unicode: bool) -> Taken
-    ensures { StringAnswer section unicode s.now c.at result }
+#[tactic(auto, using(std::proofs::lemmas::Grind::common_steps, crate::proofs::Laws::first_left))]
+pub fn string(s: &[u8], c: Cursor, section: u32, unicode: bool) -> Result<(Place, Cursor), Refusal>
+    ensures { result ≡ read_from c.at (string section unicode c.at (drop c.at s.now)) }
 {
-    let Took::Number(count, body) = c.take_u16(s) else {
-        return Taken::Refused(Fault::Cut, spot_at(section, c.at, 0));
-    };
-    let n = bytes_of(unicode, count);
-    let Skipped::To(next) = body.skip(s, n) else {
-        return Taken::Refused(Fault::Cut, spot_at(section, c.at, 0));
-    };
-    let at = body.at;
-    Taken::Got(Place { at, len: n }, next)
+    let (count, body) = c
+        .take_u16(s)
+        .map_err(|_| Refusal::at(Fault::Cut, section, c.at, 0))?;
+    let len = bytes_of(unicode, count);
+    let next = body
+        .skip(s, len)
+        .map_err(|_| Refusal::at(Fault::Cut, section, c.at, 0))?;
+    Ok((Place { at: body.at, len }, next))
 }
 
 // The two zero bytes at the end are no part of the body.
-pub fn items(s: &[u8], c: Cursor) -> Taken
-    ensures { ItemsAnswer s.now c.at result }
+#[tactic(auto, using(std::proofs::lemmas::Grind::common_steps, crate::proofs::Laws::first_left))]
+pub fn items(s: &[u8], c: Cursor) -> Result<(Place, Cursor), Refusal>
+    ensures { result ≡ read_from c.at (items c.at (drop c.at s.now)) }
 {
-    let Took::Number(size, body) = c.take_u16(s) else {
-        return Taken::Refused(Fault::Cut, spot_at(1, c.at, 0));
-    };
-    let n = size as usize;
-    let Skipped::To(next) = body.skip(s, n) else {
-        return Taken::Refused(Fault::Cut, spot_at(1, c.at, 0));
-    };
-    let at = body.at;
-    let end = next.at;
-    let wrong = items::items_wrong(&s[at..end], 2);
-    if wrong != 0 {
-        return Taken::Refused(Fault::Items, spot_at(1, c.at, wrong));
+    let (size, body) = c
+        .take_u16(s)
+        .map_err(|_| Refusal::at(Fault::Cut, 1, c.at, 0))?;
+    let size = size as usize;
+    let next = body
+        .skip(s, size)
+        .map_err(|_| Refusal::at(Fault::Cut, 1, c.at, 0))?;
+    if let Some(wrong) = items::items_wrong(&s[body.at..next.at], 2) {
+        return Err(Refusal::at(Fault::Items, 1, c.at, wrong));
     }
-    Taken::Got(Place { at, len: n - 2 }, next)
+    Ok((
+        Place {
+            at: body.at,
+            len: size - 2,
+        },
+        next,
+    ))
 }

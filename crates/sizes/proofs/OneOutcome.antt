@@ -3,10 +3,6 @@ use mathlib.Core.Path.{sym, ◌∙◌}
 use Rattle.octets.proofs.Outcomes.{OneAnswer}
 use Rattle.sizes.proofs.sizes_of
 use Rattle.sizes.specs.contracts.sizes_of as sizes_of_contract
-use Rattle.sizes.proofs.label_start
-use Rattle.sizes.specs.contracts.label_start as label_start_contract
-use Rattle.sizes.proofs.network_head
-use Rattle.sizes.specs.contracts.network_head as network_head_contract
 use Rattle.sizes.proofs.info_head
 use Rattle.sizes.specs.contracts.info_head as info_head_contract
 use Rattle.sizes.proofs.volume_part
@@ -18,12 +14,6 @@ use Rattle.sizes.specs.contracts.end_of as end_of_lem_contract
 
 pub sizes_of_one_outcome : OneAnswer sizes_of_contract.ended sizes_of.Reads.Post
 sizes_of_one_outcome κs a r q s t p o = p ∙ sym o
-
-pub label_start_one_outcome : OneAnswer label_start_contract.ended label_start.Reads.Post
-label_start_one_outcome κs a r q s t p o = p ∙ sym o
-
-pub network_head_one_outcome : OneAnswer network_head_contract.ended network_head.Reads.Post
-network_head_one_outcome κs a r q s t p o = p ∙ sym o
 
 pub info_head_one_outcome : OneAnswer info_head_contract.ended info_head.Reads.Post
 info_head_one_outcome κs a r q s t p o = p ∙ sym o

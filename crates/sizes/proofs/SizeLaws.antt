@@ -2,29 +2,25 @@
 use mathlib.Core.Path.{◌≡◌, refl, sym, ap, ◌∙◌}
 use mathlib.Core.List.{List, [], ◌∷◌, map}
 use mathlib.Core.Bool.{Bool, true, false, cond}
-use Prim.Native.Nat.{ℕ, zero, suc, ◌+◌, ◌*◌, ◌≤◌, ◌<◌}
+use Prim.Native.Nat.{ℕ, ◌+◌, ◌*◌, ◌≤◌, ◌<◌}
 use native.Mathlib.Omega.{arith}
 use native.Mathlib.Nat.{zero-add}
-use native.Mathlib.Numerals.{add-one}
-use lib.Dec.{leb}
-use borrow.Author.Tests.{leb-true}
-use lib.ListN.{length, drop, get_or, length-drop}
-use lib.Seq.{drop-cons}
+use lib.ListN.{length, get_or}
+use Rattle.std.specs.List.{sum as total}
+use Rattle.std.proofs.lemmas.List.Sums.{sum_by-cons}
 use Rattle.octets.specs.Characters.{bytes_of}
 use Rattle.format.specs.declared.Place.{Place}
 use Rattle.format.specs.declared.Link.{Link}
 use Rattle.format.specs.declared.Record.{Record}
-use Rattle.format.specs.declared.Shape.{Shape}
 use Rattle.format.specs.Tests.{no_place}
 use Rattle.format.specs.Presence.{info_there, local_there, network_there}
 use Rattle.format.specs.Shortcut.{most, sum}
 use Rattle.format.specs.Bodies.{BodyKind, items_kind, text_kind, string_kind, blocks_kind, further_kind, BodyRow, body_row, table_of, along, written_head}
 use Rattle.format.specs.Steps.Lengths.{beside, volume_part, network_part, written_heads}
-use Rattle.format.specs.Steps.Shape.{shape_of}
-use Rattle.format.specs.Writing.{every}
-use Rattle.format.proofs.Bools.{by_order, and-true}
+use Rattle.format.specs.Steps.Shape.{Shape, slot_of, shape_of, no_slot}
+use Rattle.format.proofs.Bools.{by_order}
 use Rattle.format.proofs.RowLaws.{map_at, along_at}
-use Rattle.sizes.specs.Steps.Sizes.{capped, capped_body, besides_of, sizes_of, clipped_length}
+use Rattle.sizes.specs.Steps.Sizes.{capped, capped_body, besides_of, sizes_of}
 use Rattle.sizes.proofs.CountLaws.{count_exact, count_most}
 
 pub few : (n : ℕ) → capped n ≤ most + 1
@@ -43,11 +39,11 @@ beside_row q = go q.link.label_unicode
     go false = refl
 
 pub size_at : (q : Record) {s : Shape} → s ≡ shape_of q.header.flags q.link → (j : ℕ) → j < 17
-    → cond (get_or s.there j false) (capped (get_or q.places j no_place).len + get_or (besides_of q.link.label_unicode) j 0) 0 ≡ get_or (sizes_of q) j 0
+    → cond (get_or s j no_slot).there (capped (get_or q.places j no_place).len + get_or (besides_of q.link.label_unicode) j 0) 0 ≡ get_or (sizes_of q) j 0
 unfolding shape_of sizes_of
 size_at q {s} e j h =
     same (capped (get_or q.places j no_place).len)
-    (ap (λ (z : Shape). get_or z.there j false) e ∙ map_at (λ b. b.there) (table_of q) j none false h)
+    (ap (λ (z : Shape). (get_or z j no_slot).there) e ∙ ap (λ x. x.there) (map_at slot_of (table_of q) j none no_slot h))
     (ap (λ (l : List ℕ). get_or l j 0) (sym (beside_row q)) ∙ map_at (λ b. beside b.kind) (table_of q) j none 0 h)
     ∙ sym (rw zero-add at (along_at no_place capped_body 0 (table_of q) q.places j none 0 h))
   where
@@ -102,26 +98,11 @@ few_heads q =
     go true h = h
     go false h = omega arith
 
-pub total_few : (q : Record) → clipped_length q < 2097152
-unfolding clipped_length sizes_of
-total_few q = omega (arith, few_heads q, few_sum 0 (table_of q) q.places)
+-- as the library counts it
+pub same_sum : (xs : List ℕ) → total xs ≡ sum xs
+same_sum [] = refl
+same_sum (x ∷ xs) = rw (sum_by-cons (λ n. n) x xs, same_sum xs)
 
--- what the sum has once the slots before k are counted
-pub sum_step : (xs : List ℕ) (k : ℕ) → k < length xs → sum (drop k xs) ≡ get_or xs k 0 + sum (drop (k + 1) xs)
-sum_step xs k h = rw (add-one, drop-cons xs k 0)
-
-pub sum_none : (xs : List ℕ) (k : ℕ) → length xs ≤ k → sum (drop k xs) ≡ 0
-sum_none xs k h = none_left (drop k xs) (omega (arith, length-drop k xs))
-  where
-    none_left : (ys : List ℕ) → length ys ≡ 0 → sum ys ≡ 0
-    none_left [] e = refl
-    none_left (y ∷ ys) e = absurd (omega arith)
-
-few_at : (xs : List ℕ) → every (map (λ x. leb x 4) xs) ≡ true → (j : ℕ) → get_or xs j 0 ≤ 4
-few_at [] e j = omega arith
-few_at (x ∷ xs) e zero = leb-true x 4 (and-true (leb x 4) (every (map (λ x. leb x 4) xs)) e).0
-few_at (x ∷ xs) e (suc j) = few_at xs (and-true (leb x 4) (every (map (λ x. leb x 4) xs)) e).1 j
-
-pub few_besides : (u : Bool) (j : ℕ) → get_or (besides_of u) j 0 ≤ 4
-few_besides true j = few_at (besides_of true) refl j
-few_besides false j = few_at (besides_of false) refl j
+pub few_sizes : (q : Record) → total (sizes_of q) ≤ 1114197
+unfolding sizes_of
+few_sizes q = rw same_sum (few_sum 0 (table_of q) q.places)

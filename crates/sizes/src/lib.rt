@@ -2,9 +2,7 @@
 // A length greater than the most that a shortcut has counts as one more than that, so that no sum can wrap.
 #![tactic(auto)]
 
-ghost use Rattle.std.specs.Prelude.{◌≡◌, cond, ◌+◌, ◌≤◌};
-ghost use Rattle.format.specs.Volume.{label_least};
-ghost use Rattle.format.specs.Network.{network_head};
+ghost use Rattle.std.specs.Prelude.{◌≡◌, cond, ◌+◌, ◌^◌, ◌≤◌, ◌<◌, sum};
 ghost use Rattle.format.specs.Bodies.{written_head};
 ghost use Rattle.format.specs.Steps.Lengths.{volume_part, network_part, written_heads};
 ghost use Rattle.format.specs.Steps.Shape.{shape_of};
@@ -14,13 +12,12 @@ use format::{Link, Place, Record, Shape};
 
 // ---- the bodies
 
+// `capped` in stores is the same call with another limit and definition.
+#[tactic(auto, unfolding(crate::specs::Steps::Sizes::capped))]
 fn clipped(n: usize) -> u32
     ensures { result ≡ capped n }
 {
-    if 65536 < n {
-        return 65537;
-    }
-    n as u32
+    n.min(65537) as u32
 }
 
 // The bytes beside each body.
@@ -31,48 +28,29 @@ fn besides(unicode: bool) -> [u32; 17]
     [4, label, 1, 1, 1, 2, 2, 1, 2, 2, 2, 2, 2, 2, 2, 4, 0]
 }
 
+#[tactic(auto, using(crate::proofs::SizeLaws::few))]
 fn size(there: bool, b: Place, beside: u32) -> u32
     requires { beside ≤ 4 }
     ensures { result ≡ cond there (capped b.len + beside) 0 }
 {
-    if there {
-        return clipped(b.len) + beside;
-    }
-    0
+    if there { clipped(b.len) + beside } else { 0 }
 }
 
-// The size of each slot as written; 0 where nothing is there.
+// The size of each slot as written; 0 where nothing is there, since whoever asks adds them.
 pub fn sizes_of(q: Record, s: Shape) -> [u32; 17]
     requires { s ≡ shape_of q.header.flags q.link }
     ensures { result ≡ sizes_of q }
 {
-    let there = s.there;
     let row = q.places;
     let beside = besides(q.link.label_unicode);
     let mut sizes = [0u32; 17];
-    let mut k: usize = 0;
-    while k < 17 {
-        sizes[k] = size(there[k], row[k], beside[k]);
-        k += 1;
+    for (k, x) in sizes.iter_mut().enumerate() {
+        *x = size(s[k].there, row[k], beside[k]);
     }
     sizes
 }
 
 // ---- the heads
-
-// Where the label starts.
-pub fn label_start(unicode: bool) -> u32
-    ensures { result ≡ label_least unicode }
-{
-    if unicode { 0x14 } else { 0x10 }
-}
-
-// Where the net name starts.
-pub fn network_head(unicode: bool) -> u32
-    ensures { result ≡ network_head unicode }
-{
-    if unicode { 0x1C } else { 0x14 }
-}
 
 // LinkInfo's own, without its further bytes.
 pub fn info_head(long: bool) -> u32
@@ -85,7 +63,10 @@ pub fn info_head(long: bool) -> u32
 pub fn volume_part(l: Link) -> u32
     ensures { result ≡ volume_part l }
 {
-    format::number_if(format::local_there(l.flags), label_start(l.label_unicode))
+    format::number_if(
+        format::local_there(l.flags),
+        format::label_least(l.label_unicode),
+    )
 }
 
 // The network link's, if that is there.
@@ -94,7 +75,7 @@ pub fn network_part(l: Link) -> u32
 {
     format::number_if(
         format::network_there(l.flags),
-        network_head(l.network_unicode),
+        format::network_head(l.network_unicode),
     )
 }
 
@@ -108,16 +89,19 @@ fn heads(q: Record) -> u32
     format::number_if(format::info_there(q.header.flags), parts)
 }
 
+// What all sizes add up to.
+fn total(sizes: &[u32; 17]) -> u32
+    requires { sum sizes.now < 2 ^ 32 }
+    ensures { result ≡ sum sizes.now }
+{
+    sizes.iter().sum()
+}
+
 // The header, the heads and all sizes.
+#[tactic(auto, using(crate::proofs::SizeLaws::same_sum, crate::proofs::SizeLaws::few_heads, crate::proofs::SizeLaws::few_sizes), unfolding(crate::specs::Steps::Sizes::clipped_length))]
 pub fn end_of(q: Record, sizes: [u32; 17]) -> u32
     requires { sizes ≡ sizes_of q }
     ensures { result ≡ clipped_length q }
 {
-    let mut end = 76 + heads(q);
-    let mut k: usize = 0;
-    while k < 17 {
-        end += sizes[k];
-        k += 1;
-    }
-    end
+    76 + heads(q) + total(&sizes)
 }

@@ -10,4 +10,4 @@ pub is_named_one_outcome : OneAnswer is_named_contract.ended is_named.Reads.Post
 is_named_one_outcome κs a r q s t p o = p ∙ sym o
 
 pub store_wrong_one_outcome : OneAnswer store_wrong_contract.ended store_wrong.Reads.Post
-store_wrong_one_outcome κs a r q s t p o = p ∙ sym o
+store_wrong_one_outcome κs a r q s t p o = p.0 ∙ sym o.0

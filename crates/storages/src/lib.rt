@@ -1,46 +1,60 @@
 // The property store of a block (FORMAT: Property store): storages, and the values in each.
 #![tactic(auto)]
 
-ghost use Rattle.std.specs.Prelude.{◌≡◌, ◌+◌, ◌≤◌, ◌<◌, ◌^◌, length, take, drop};
-ghost use Rattle.format.specs.Store.{name_length, is_named, value_tests, values_tests, storage_tests, store_tests};
+ghost use Rattle.std.specs.Prelude.{◌≡◌, ℕ, ◌+◌, ◌≤◌, ◌<◌, ◌^◌, List, length, take, drop, IfSome};
+ghost use Rattle.format.specs.Tests.{Test};
+ghost use Rattle.format.specs.Store.{name_length, is_named, value_tests, storage_tests, part_tests, store_tests};
 ghost use Rattle.format.specs.Steps.Wrong.{wrong};
-ghost use Rattle.storages.specs.Steps.Parts.{part_step};
 
-use format::unless;
+// A kind of part that begins with its size.
+trait Part {
+    // How many bytes it has at least.
+    ghost LEAST: { ℕ };
 
-// A storage or a value of so many bytes; or the zero size that ends them; or neither.
-#[derive(Clone, Copy)]
-enum PartStep {
-    Part(usize),
-    End,
-    Wrong,
+    const LEAST: usize;
+
+    ghost tests: { Self → ℕ → List ℕ → List Test };
+
+    // The first field found wrong in the part v, which stands at the offset at.
+    fn part_wrong(&self, v: &[u8], at: usize) -> Option<usize>
+        requires { (LEAST ≤ length v.now) × (at + length v.now < 2 ^ 64) }
+        ensures { result ≡ wrong (tests self.now at v.now) };
 }
 
-// What stands at the start of the rest, by its size.
-fn part_step(rest: &[u8], least: usize) -> PartStep
-    ensures { result ≡ part_step least rest.now }
+// Part after part up to a zero size, which is the last: the first field found wrong. The parts stand at the offset at.
+fn parts_wrong<P: Part>(kind: &P, l: &[u8], at: usize) -> Option<usize>
+    requires { at + length l.now < 2 ^ 64 }
+    ensures { result ≡ wrong (part_tests P.LEAST (P.tests kind.now) at 0 l.now) }
 {
-    let left = rest.len();
-    if left < 4 {
-        return PartStep::Wrong;
-    }
-    let n = octets::u32_at(rest, 0) as usize;
-    if n == 0 {
-        if left == 4 {
-            return PartStep::End;
+    let mut p = at;
+    let mut rest = l;
+    // No index is counted: the step is the size that stands there.
+    while 4 <= rest.len() {
+        let size = octets::u32_at(rest, 0) as usize;
+        if size == 0 {
+            let ends = rest.len() == 4;
+            return (!ends).then_some(p);
         }
-        return PartStep::Wrong;
+        if size < P::LEAST {
+            return Some(p);
+        }
+        let Some((part, next)) = rest.split_at_checked(size) else {
+            return Some(p);
+        };
+        if let Some(found) = kind.part_wrong(part, p) {
+            return Some(found);
+        }
+        p += size;
+        rest = next;
     }
-    if n < least {
-        return PartStep::Wrong;
-    }
-    if left < n {
-        return PartStep::Wrong;
-    }
-    PartStep::Part(n)
+    Some(p)
 }
 
-// In each function below the first field found wrong, or 0; what is looked at stands at the offset at.
+// The values of a storage have names under the named format alone.
+#[derive(Clone, Copy)]
+struct Value {
+    named: bool,
+}
 
 // By string under the named format alone.
 fn name_length(v: &[u8], named: bool) -> usize
@@ -53,34 +67,19 @@ fn name_length(v: &[u8], named: bool) -> usize
     0
 }
 
-// The name's length, then the zero byte.
-fn value_wrong(v: &[u8], named: bool, at: usize) -> usize
-    requires { (9 ≤ length v.now) × (at + length v.now < 2 ^ 64) }
-    ensures { result ≡ wrong (value_tests named at v.now) }
-{
-    let name = name_length(v, named);
-    unless(name <= v.len() - 9, at + 4, unless(v[8] == 0, at + 8, 0))
-}
+impl Part for Value {
+    ghost LEAST = { 9 };
 
-fn values_wrong(l: &[u8], named: bool, at: usize) -> usize
-    requires { (0 < at) × (at + length l.now < 2 ^ 64) }
-    ensures { result ≡ wrong (values_tests named at l.now) }
-{
-    let mut p: usize = at;
-    let mut rest = l;
-    loop {
-        match part_step(rest, 9) {
-            PartStep::Part(n) => {
-                let w = value_wrong(&rest[..n], named, p);
-                if w != 0 {
-                    return w;
-                }
-                p += n;
-                rest = &rest[n..];
-            }
-            PartStep::End => return 0,
-            PartStep::Wrong => return p,
+    const LEAST: usize = 9;
+
+    ghost tests = { λ self. value_tests self.named };
+
+    // The name's length, then the zero byte.
+    fn part_wrong(&self, v: &[u8], at: usize) -> Option<usize> {
+        if v.len() - 9 < name_length(v, self.named) {
+            return Some(at + 4);
         }
+        (v[8] != 0).then_some(at + 8)
     }
 }
 
@@ -93,35 +92,33 @@ pub fn is_named(s: &[u8], i: usize) -> bool
         & (octets::u64_at(s, i + 8) == 0xAEF9_2C2B_0008_9793)
 }
 
-// The version, then the values.
-fn storage_wrong(v: &[u8], at: usize) -> usize
-    requires { (28 ≤ length v.now) × (at + length v.now < 2 ^ 64) }
-    ensures { result ≡ wrong (storage_tests at v.now) }
-{
-    if octets::u32_at(v, 4) != 0x5350_5331 {
-        return at + 4;
+#[derive(Clone, Copy)]
+struct Storage;
+
+impl Part for Storage {
+    ghost LEAST = { 28 };
+
+    const LEAST: usize = 28;
+
+    ghost tests = { λ self. storage_tests };
+
+    // The version, then the values.
+    fn part_wrong(&self, v: &[u8], at: usize) -> Option<usize> {
+        if octets::u32_at(v, 4) != 0x5350_5331 {
+            return Some(at + 4);
+        }
+        let values = Value {
+            named: is_named(v, 8),
+        };
+        parts_wrong(&values, &v[24..], at + 24)
     }
-    values_wrong(&v[24..], is_named(v, 8), at + 24)
 }
 
-pub fn store_wrong(l: &[u8], at: usize) -> usize
-    requires { (0 < at) × (at + length l.now < 2 ^ 64) }
-    ensures { result ≡ wrong (store_tests at l.now) }
+// The first field found wrong in a store that stands at the offset at.
+pub fn store_wrong(l: &[u8], at: usize) -> Option<usize>
+    requires { at + length l.now < 2 ^ 64 }
+    ensures is { result ≡ wrong (store_tests at l.now) }
+    ensures inside { IfSome result (λ w. w ≤ at + length l.now) }
 {
-    let mut p: usize = at;
-    let mut rest = l;
-    loop {
-        match part_step(rest, 28) {
-            PartStep::Part(n) => {
-                let w = storage_wrong(&rest[..n], p);
-                if w != 0 {
-                    return w;
-                }
-                p += n;
-                rest = &rest[n..];
-            }
-            PartStep::End => return 0,
-            PartStep::Wrong => return p,
-        }
-    }
+    parts_wrong(&Storage, l, at)
 }

@@ -1,23 +1,25 @@
 -- Whether a list of rows can be written: its rows one after another.
 use mathlib.Core.Path.{◌≡◌, refl, sym, ap, ◌∙◌}
 use mathlib.Core.List.{List, [], ◌∷◌}
-use mathlib.Core.Bool.{Bool, true, false, not, ◌&&◌, cond}
+use mathlib.Core.Bool.{Bool, true, false, ◌&&◌, cond}
 use Prim.Native.Nat.{ℕ, zero, suc, ◌+◌, ◌-◌, ◌*◌, ◌/◌, ◌≤◌, ◌<◌}
 use native.Mathlib.Omega.{arith}
-use lib.ListN.{length, take, drop, length-append, length-drop}
-use lib.Seq.{length-take-le}
+use Rattle.std.proofs.Common.{add_assoc}
+use lib.ListN.{length, drop, get_or, length-append, length-drop}
+use lib.Seq.{length-take-le, get_or-drop}
 use lib.Dec.{leb, ltb, eqb}
-use borrow.Author.Tests.{leb-true, le-leb, lt-leb, eqb-true, eqb-false, ne_eqb, not-true, not-false}
+use Rattle.std.specs.Prelude.{Option, None, Some}
+use Rattle.std.specs.Option.{unwrap_or}
+use borrow.Author.Tests.{leb-true, le-leb, lt-leb, eqb-true, eqb-false, ne_eqb}
 use Rattle.octets.proofs.NumberLaws.{length-little}
 use Rattle.format.specs.declared.Place.{Place}
 use Rattle.format.specs.declared.StoreRow.{StoreRow}
 use Rattle.format.specs.Bodies.{all_inside}
 use Rattle.format.specs.Contents.{bytes_at}
 use Rattle.format.specs.StoreWriting.{Entry, storage, by_number, by_name, unknown, entry_of, entries, places_used, rows_placed, row_at, rows_at, rows_from, entry_fits, kind_after, entries_fit, most_store, values_bytes, store_bytes}
-use Rattle.format.specs.Store.{is_named}
 use Rattle.format.proofs.Bools.{and-true, and_yes, by_order}
 use Rattle.format.proofs.Chains.{no_true}
-use Rattle.stores.specs.Steps.Sizes.{capped_store, row_size, size_or_0}
+use Rattle.stores.specs.Steps.Sizes.{capped_store, row_size, store_size, size_or_0}
 
 -- ---- the rows one after another
 
@@ -25,9 +27,47 @@ pub rows_first : (ns : List ℕ) (i k : ℕ) → 0 < k → rows_at ns i k ≡ ro
 rows_first ns i zero h = absurd (omega arith)
 rows_first ns i (suc k) h = let e : suc k - 1 ≡ k = omega arith in rw e
 
--- the whole rows of a slice
-pub rows_start : (ns : List ℕ) → 0 + 6 * (length ns / 6) ≤ length ns
-rows_start ns = omega arith
+-- the rows from the one of the number k on
+abbrev pub rows_on : List ℕ → ℕ → List StoreRow
+rows_on ns k = rows_at ns (6 * k) (length ns / 6 - k)
+
+pub rows_on-all : (ns : List ℕ) → rows_on ns 0 ≡ rows_from ns
+unfolding rows_from
+rows_on-all ns = let e : length ns / 6 - 0 ≡ length ns / 6 = omega arith in rw e refl
+
+pub rows_on-none : (ns : List ℕ) (k : ℕ) → length ns / 6 ≤ k → rows_on ns k ≡ []
+rows_on-none ns k h = let e : length ns / 6 - k ≡ 0 = omega arith in rw e
+
+pub rows_on-more : (ns : List ℕ) (k : ℕ) → k < length ns / 6 → rows_on ns k ≡ row_at ns (6 * k) ∷ rows_on ns (k + 1)
+rows_on-more ns k h =
+    let i : 6 * k + 6 ≡ 6 * (k + 1) = omega arith in
+    let n : length ns / 6 - k - 1 ≡ length ns / 6 - (k + 1) = omega arith in
+    rows_first ns (6 * k) (length ns / 6 - k) (omega arith) ∙ rw (i, n)
+
+-- and as rows of the numbers that are left
+row_at-drop : (ns : List ℕ) (i j : ℕ) → row_at (drop i ns) j ≡ row_at ns (i + j)
+row_at-drop ns i j = rw (at 1, at 2, at 3, at 4, at 5, get_or-drop i ns j 0)
+  where
+    at : (n : ℕ) → get_or (drop i ns) (j + n) 0 ≡ get_or ns (i + j + n) 0
+    at n = get_or-drop i ns (j + n) 0 ∙ ap (λ (k : ℕ). get_or ns k 0) (sym (add_assoc i j n))
+
+rows_at-drop : (ns : List ℕ) (i j k : ℕ) → rows_at (drop i ns) j k ≡ rows_at ns (i + j) k
+rows_at-drop ns i j zero = refl
+rows_at-drop ns i j (suc k) = rw (row_at-drop ns i j, rows_at-drop ns i (j + 6) k, ← add_assoc i j 6)
+
+pub rows_on-after : (ns : List ℕ) (k : ℕ) → k < length ns / 6 → rows_on ns (k + 1) ≡ rows_from (drop (6 * k + 6) ns)
+unfolding rows_from
+rows_on-after ns k h =
+    let i : 6 * k + 6 + 0 ≡ 6 * (k + 1) = omega arith in
+    let n : (length ns - (6 * k + 6)) / 6 ≡ length ns / 6 - (k + 1) = omega arith in
+    sym (rows_at-drop ns (6 * k + 6) 0 (length (drop (6 * k + 6) ns) / 6) ∙ rw (length-drop (6 * k + 6) ns, i, n) refl)
+
+pub rows_from-none : (ns : List ℕ) → length ns < 6 → rows_from ns ≡ []
+unfolding rows_from
+rows_from-none ns h = let e : length ns / 6 ≡ 0 = omega arith in rw e
+
+pub rows_from-more : (ns : List ℕ) → 6 ≤ length ns → rows_from ns ≡ row_at ns 0 ∷ rows_from (drop 6 ns)
+rows_from-more ns h = sym (rows_on-all ns) ∙ rows_on-more ns 0 (omega arith) ∙ rw (rows_on-after ns 0 (omega arith)) refl
 
 -- ---- how long a store is
 
@@ -76,10 +116,7 @@ module _ (n : ℕ) (r : StoreRow) where
   pub placed_name : r.kind ≡ 2 → (leb (r.name.at + r.name.len) n && at_raw) ≡ all_inside n (places_used r)
   placed_name e = rw e (ap (λ (b : Bool). leb (r.name.at + r.name.len) n && b) (sym (and_yes at_raw)))
 
-  pub placed_other : (r.kind ≡ 0 → ⊥) → (r.kind ≡ 1 → ⊥) → (r.kind ≡ 2 → ⊥) → true ≡ all_inside n (places_used r)
-  placed_other a b c = rw (ne_eqb r.kind 0 a, ne_eqb r.kind 1 b, ne_eqb r.kind 2 c)
-
-body_long : (d : List ℕ) (b : Place) → leb (b.at + b.len) (length d) ≡ true → length (bytes_at d b) ≡ b.len
+pub body_long : (d : List ℕ) (b : Place) → leb (b.at + b.len) (length d) ≡ true → length (bytes_at d b) ≡ b.len
 body_long d b h = length-take-le b.len (drop b.at d) (omega (arith, leb-true (b.at + b.len) (length d) h, length-drop b.at d))
 
 module _ (d : List ℕ) (r : StoreRow) (P : all_inside (length d) (places_used r) ≡ true) where
@@ -109,20 +146,6 @@ module _ (d : List ℕ) (r : StoreRow) (P : all_inside (length d) (places_used r
       pub sixteen : r.kind ≡ 0 → r.raw.len ≡ 16
       sixteen e = eqb-true r.raw.len 16 (fits_storage e ∙ F)
 
-      pub identifier_room : r.kind ≡ 0 → r.raw.at + 16 ≤ length d
-      identifier_room e = omega (arith, sixteen e, leb-true (r.raw.at + r.raw.len) (length d) (raw_0 e))
-
-      pub kind_storage : r.kind ≡ 0 → {b : Bool} → b ≡ is_named (take 16 (drop r.raw.at d)) → cond b 2 1 ≡ kind_after k (entry_of d r)
-      kind_storage e i = rw (e, i, sixteen e)
-
-      pub kind_value : (r.kind ≡ 0 → ⊥) → k ≡ kind_after k (entry_of d r)
-      kind_value a = rw (ne_eqb r.kind 0 a) (go (eqb r.kind 1) (eqb r.kind 2))
-        where
-          go : (x y : Bool) → k ≡ kind_after k (cond x (by_number r.number (bytes_at d r.raw)) (cond y (by_name (bytes_at d r.name) (bytes_at d r.raw)) unknown))
-          go true y = refl
-          go false true = refl
-          go false false = refl
-
 -- ---- lengths that are too great count as one
 
 pub over : (n : ℕ) → most_store < n → capped_store n ≡ most_store + 1
@@ -130,9 +153,6 @@ over n h = rw (lt-leb n most_store h)
 
 pub under : (n : ℕ) → n ≤ most_store → capped_store n ≡ n
 under n h = rw (le-leb n most_store h)
-
-pub capped_small : (n : ℕ) → capped_store n ≤ most_store + 1
-capped_small n = by_order n most_store (λ h. rw (under n h) (omega arith)) (λ h. rw (over n h) (omega arith))
 
 -- a is x, or both are too great
 pub data Counts (a x : ℕ) : Type 0 where
@@ -194,81 +214,56 @@ module _ (d : List ℕ) (k : ℕ) (r : StoreRow) (P : all_inside (length d) (pla
 
 -- ---- the loops
 
-module _ (ns : List ℕ) (n i k : ℕ) {b : Bool} (some : 0 < k) (e : b ≡ all_inside n (places_used (row_at ns i))) where
-  placed_first : (b && rows_placed n (rows_at ns (i + 6) (k - 1))) ≡ rows_placed n (rows_at ns i k)
-  placed_first = rw (rows_first ns i k some, e)
+module _ (ns : List ℕ) (n k : ℕ) {b : Bool} (some : k < length ns / 6) (e : b ≡ all_inside n (places_used (row_at ns (6 * k)))) where
+  placed_first : (b && rows_placed n (rows_on ns (k + 1))) ≡ rows_placed n (rows_on ns k)
+  placed_first = rw (rows_on-more ns k some, e)
 
-  pub placed_stop : not b ≡ true → false ≡ rows_placed n (rows_at ns i k)
-  placed_stop h = rw (not-true b h) at placed_first
-
-  pub placed_on : not b ≡ false → rows_placed n (rows_at ns (i + 6) (k - 1)) ≡ rows_placed n (rows_at ns i k)
-  placed_on h = rw (not-false b h) at placed_first
+  pub placed_on : b ≡ true → rows_placed n (rows_on ns (k + 1)) ≡ rows_placed n (rows_on ns k)
+  placed_on h = rw h at placed_first
 
 -- the length once this much is counted, with these rows left
-unfoldable pub size_with : List ℕ → ℕ → ℕ → List StoreRow → ℕ
+unfoldable pub size_with : List ℕ → ℕ → ℕ → List StoreRow → Option ℕ
 unfolding entries_fit entries
-size_with d kind size rs = cond (entries_fit kind (entries d rs)) (capped_store (size + total_size (entries d rs))) 0
+size_with d kind size rs = cond (entries_fit kind (entries d rs)) (Some (capped_store (size + total_size (entries d rs)))) None
 
-pub size_start : (d : List ℕ) (rs : List StoreRow) → size_with d 0 4 rs ≡ size_or_0 (entries d rs)
-unfolding size_with size_or_0
+pub size_start : (d : List ℕ) (rs : List StoreRow) → size_with d 0 4 rs ≡ store_size (entries d rs)
+unfolding size_with store_size
 size_start d rs = go (entries_fit 0 (entries d rs)) refl
   where
-    go : (b : Bool) → entries_fit 0 (entries d rs) ≡ b → cond b (capped_store (4 + total_size (entries d rs))) 0 ≡ cond b (capped_store (length (store_bytes (entries d rs)))) 0
-    go true e = ap capped_store (sym (store_long (entries d rs) e))
+    go : (b : Bool) → entries_fit 0 (entries d rs) ≡ b → cond b (Some (capped_store (4 + total_size (entries d rs)))) None ≡ cond b (Some (capped_store (length (store_bytes (entries d rs))))) None
+    go true e = ap (λ (n : ℕ). Some (capped_store n)) (sym (store_long (entries d rs) e))
     go false e = refl
 
-pub size_end : (d : List ℕ) (kind : ℕ) {size k : ℕ} (ns : List ℕ) (i : ℕ) → k ≡ 0 → size ≤ most_store + 1 → size ≡ size_with d kind size (rows_at ns i k)
+pub size_end : (d : List ℕ) (kind : ℕ) {size : ℕ} → size ≤ most_store + 1 → Some size ≡ size_with d kind size []
 unfolding size_with entries entries_fit
-size_end d kind {size} ns i z h =
+size_end d kind {size} h =
     let e : size + 0 ≡ size = omega arith in
-    rw (z, e) (by_order size most_store (λ k. sym (under size k)) (λ k. let q : size ≡ most_store + 1 = omega arith in q ∙ sym (over size k)))
+    rw e (ap Some (by_order size most_store (λ k. sym (under size k)) (λ k. let q : size ≡ most_store + 1 = omega arith in q ∙ sym (over size k))))
 
-module _ (d ns : List ℕ) (i k kind : ℕ) (some : 0 < k) (P : rows_placed (length d) (rows_at ns i k) ≡ true) where
-  abbrev row : StoreRow
-  row = row_at ns i
-
-  abbrev others : List StoreRow
-  others = rows_at ns (i + 6) (k - 1)
-
+module _ (d : List ℕ) (kind : ℕ) {row : StoreRow} {rows others : List StoreRow} (more : rows ≡ row ∷ others) (P : rows_placed (length d) rows ≡ true) where
   both : (all_inside (length d) (places_used row) ≡ true) × (rows_placed (length d) others ≡ true)
-  both = and-true _ _ (rw (rows_first ns i k some) at P)
-
-  pub row_there : all_inside (length d) (places_used row) ≡ true
-  row_there = both.0
+  both = and-true _ _ (rw more at P)
 
   pub others_there : rows_placed (length d) others ≡ true
   others_there = both.1
 
-  pub size_stop : (size : ℕ) {b : Bool} → b ≡ entry_fits kind (entry_of d row) → not b ≡ true → 0 ≡ size_with d kind size (rows_at ns i k)
+  pub size_stop : (size : ℕ) → entry_fits kind (entry_of d row) ≡ false → None ≡ size_with d kind size rows
   unfolding size_with entries entries_fit
-  size_stop size {b} e h = rw (rows_first ns i k some, ← e, not-true b h)
+  size_stop size h = rw (more, h)
 
   pub size_on : (size : ℕ) {m next size' : ℕ} → entry_fits kind (entry_of d row) ≡ true → next ≡ kind_after kind (entry_of d row) → m ≡ row_size row → size' ≡ capped_store (size + m)
-      → size_with d next size' others ≡ size_with d kind size (rows_at ns i k)
+      → size_with d next size' others ≡ size_with d kind size rows
   unfolding size_with entries entries_fit
   size_on size F a b c =
-      rw (rows_first ns i k some, F, a, c, b)
-      (ap (λ (x : ℕ). cond (entries_fit (kind_after kind (entry_of d row)) (entries d others)) x 0)
+      rw (more, F, a, c, b)
+      (ap (λ (x : ℕ). cond (entries_fit (kind_after kind (entry_of d row)) (entries d others)) (Some x) None)
       (capped_sum (counted d kind row both.0 F) size (total_size (entries d others))))
 
--- ---- what a row counts
-
-pub size_storage : (r : StoreRow) → r.kind ≡ 0 → 28 ≡ row_size r
-unfolding row_size
-size_storage r e = rw e
-
-pub size_number : (r : StoreRow) → (r.kind ≡ 0 → ⊥) → r.kind ≡ 1 → {n : ℕ} → n ≡ capped_store r.raw.len → 9 + n ≡ row_size r
-unfolding row_size
-size_number r a e i = rw (e, i)
-
-pub size_name : (r : StoreRow) → (r.kind ≡ 0 → ⊥) → (r.kind ≡ 1 → ⊥) → {m n : ℕ} → m ≡ capped_store r.name.len → n ≡ capped_store r.raw.len → 9 + m + n ≡ row_size r
-unfolding row_size
-size_name r a b i j = rw (ne_eqb r.kind 0 a, ne_eqb r.kind 1 b, i, j)
-
--- all rows, counted from the first
-pub all_rows : (ns : List ℕ) → rows_at ns 0 (length ns / 6) ≡ rows_from ns
-unfolding rows_from
-all_rows ns = refl
-
-pub placed_end : (ns : List ℕ) (n i : ℕ) {k : ℕ} → k ≡ 0 → true ≡ rows_placed n (rows_at ns i k)
-placed_end ns n i e = rw e
+-- as a number, where there is none 0
+pub size_number : (es : List Entry) → size_or_0 es ≡ unwrap_or (store_size es) 0
+unfolding size_or_0 store_size
+size_number es = go (entries_fit 0 es)
+  where
+    go : (b : Bool) → cond b (capped_store (length (store_bytes es))) 0 ≡ unwrap_or (cond b (Some (capped_store (length (store_bytes es)))) None) 0
+    go true = refl
+    go false = refl

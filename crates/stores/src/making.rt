@@ -1,106 +1,113 @@
-// The bytes of a store whose rows fit and lie in the body buffer d. A function that puts answers the place after what it put.
-ghost use Rattle.std.specs.Prelude.{◌≡◌, ◌+◌, ◌*◌, ◌≤◌, length};
+// The bytes of a store whose rows fit and lie in the body buffer d.
+ghost use Rattle.std.specs.Prelude.{◌≡◌, ◌+◌, ◌*◌, ◌≤◌, ◌∷◌, length};
 ghost use Rattle.octets.specs.Steps.Puts.{Wrote};
-ghost use Rattle.format.specs.Contents.{bytes_at};
-ghost use Rattle.format.specs.StoreWriting.{row_at, rows_at, entry_of, entries, rows_from, store_bytes};
-ghost use Rattle.canonical.specs.Steps.Puts.{InBuffer, Room};
-ghost use Rattle.stores.specs.Steps.Making.{values_size, value_with, head_bytes, row_bytes, open_bytes, RowsRoom, RowRoom, StoreRoom};
+ghost use Rattle.copies.specs.Steps.Writes.{HasRoom, Writes};
+ghost use Rattle.format.specs.StoreWriting.{entry_of, entries, rows_from, store_bytes};
+ghost use Rattle.stores.specs.Steps.Making.{values_size, value_head, head_bytes, row_bytes, open_bytes, RowsRoom, StoreRoom};
 
 use crate::tests::{row_from, row_size};
-use canonical::numbers::{add_u32, add_u64};
-use canonical::texts::put_body;
-use format::Place;
+use canonical::texts::body;
+use copies::output::Output;
+use format::StoreRow;
 
 // The values up to the next storage, with the zero size that ends them.
-fn values_size(rows: &[u64], from: usize, count: usize) -> usize
-    requires { (from + 6 * count ≤ length rows.now) × (values_size (rows_at rows.now from count) ≤ 65448) }
-    ensures { result ≡ values_size (rows_at rows.now from count) }
+// Merged into the walk over all rows, it would have each row divide, not only storages.
+#[inline(never)]
+fn values_size(rows: &[u64]) -> usize
+    requires { values_size (rows_from rows.now) ≤ 65448 }
+    ensures { result ≡ values_size (rows_from rows.now) }
 {
     let mut n: usize = 4;
-    let mut i = from;
-    let mut left = count;
-    while 0 < left {
-        let r = row_from(rows, i);
+    for k in 0..rows.len() / 6 {
+        let r = row_from(rows, 6 * k);
         if r.kind == 0 {
             return n;
         }
         n += row_size(r);
-        i += 6;
-        left -= 1;
     }
     n
 }
 
-// The number is the value's own, or its name's length; without a name that place is empty.
-fn put_value(out: &mut [u8], at: usize, d: &[u8], number: u32, name: Place, raw: Place) -> usize
-    requires { InBuffer d.now name × (InBuffer d.now raw × Room out.old at (9 + name.len + raw.len)) }
-    ensures written { Wrote out.old at
-        (value_with number (bytes_at d.now name) (bytes_at d.now raw))
-        (9 + name.len + raw.len) out.new result }
+// What stands before its name and raw bytes, of which there are n. The number is the value's own, or its name's length.
+fn put_value(w: &mut Output, number: u32, n: usize)
+    requires { HasRoom w.old 9 × (n ≤ 65448) }
+    ensures { Writes w.old w.new (value_head number n) 9 }
 {
-    let p = add_u32(out, at, (9 + name.len + raw.len) as u32);
-    let p = add_u32(out, p, number);
-    out[p] = 0;
-    let p = put_body(out, p + 1, d, name);
-    put_body(out, p, d, raw)
+    w.put_u32((9 + n) as u32);
+    w.put_u32(number);
+    w.put_u8(0);
 }
 
 // What stands before its values, of which there are n bytes.
-fn put_storage(out: &mut [u8], at: usize, d: &[u8], identifier: Place, n: usize) -> usize
-    requires { InBuffer d.now identifier × ((identifier.len ≡ 16) × Room out.old at (24 + n)) }
-    ensures { Wrote out.old at (head_bytes (bytes_at d.now identifier) n) 24 out.new result }
+fn put_storage(w: &mut Output, identifier: &[u8], n: usize)
+    requires { HasRoom w.old 24 × ((length identifier.now ≡ 16) × (n ≤ 65448)) }
+    ensures { Writes w.old w.new (head_bytes identifier.now n) 24 }
 {
-    let p = add_u32(out, at, (24 + n) as u32);
-    let p = add_u32(out, p, 0x5350_5331);
-    put_body(out, p, d, identifier)
+    w.put_u32((24 + n) as u32);
+    w.put_u32(0x5350_5331);
+    w.put_bytes(identifier);
 }
 
-// The row at i, which is not the first; so a storage ends the values before it. That many rows are left after it.
-fn put_entry(rows: &[u64], i: usize, left: usize, d: &[u8], out: &mut [u8], at: usize) -> usize
-    requires { RowRoom rows.now i left d.now out.old at }
-    ensures written { Wrote out.old at
-        (row_bytes (entry_of d.now (row_at rows.now i)) (entries d.now (rows_at rows.now (i + 6) left)))
-        (length (row_bytes (entry_of d.now (row_at rows.now i)) (entries d.now (rows_at rows.now (i + 6) left))))
-        out.new result }
+// A row that is not the first; so a storage ends the values before it.
+fn put_entry(w: &mut Output, r: StoreRow, after: &[u64], d: &[u8])
+    requires { RowsRoom (r ∷ rows_from after.now) d.now w.old }
+    ensures { Writes w.old w.new
+        (row_bytes (entry_of d.now r) (entries d.now (rows_from after.now)))
+        (length (row_bytes (entry_of d.now r) (entries d.now (rows_from after.now)))) }
 {
-    let r = row_from(rows, i);
-    if r.kind == 0 {
-        let n = values_size(rows, i + 6, left);
-        let p = add_u32(out, at, 0);
-        return put_storage(out, p, d, r.raw, n);
+    match r.kind {
+        0 => {
+            let n = values_size(after);
+            w.put_u32(0);
+            put_storage(w, body(d, r.raw), n);
+        }
+        1 => {
+            let raw = body(d, r.raw);
+            put_value(w, r.number as u32, raw.len());
+            w.put_bytes(raw);
+        }
+        _ => {
+            let name = body(d, r.name);
+            let raw = body(d, r.raw);
+            put_value(w, name.len() as u32, name.len() + raw.len());
+            w.put_bytes(name);
+            w.put_bytes(raw);
+        }
     }
-    if r.kind == 1 {
-        return put_value(out, at, d, r.number as u32, format::NO_PLACE, r.raw);
-    }
-    put_value(out, at, d, r.name.len as u32, r.name, r.raw)
 }
 
 // The rows after a storage or a value, and the zero sizes that end the last values and the store.
-fn put_entries(
-    rows: &[u64],
-    from: usize,
-    count: usize,
-    d: &[u8],
-    out: &mut [u8],
-    start: usize,
-) -> usize
-    requires { (from + 6 * count ≤ length rows.now) × RowsRoom (rows_at rows.now from count) d.now out.old start }
-    ensures written { Wrote out.old start
-        (open_bytes (entries d.now (rows_at rows.now from count)))
-        (length (open_bytes (entries d.now (rows_at rows.now from count))))
-        out.new result }
+fn put_entries(w: &mut Output, rows: &[u64], d: &[u8])
+    requires { RowsRoom (rows_from rows.now) d.now w.old }
+    ensures { Writes w.old w.new
+        (open_bytes (entries d.now (rows_from rows.now)))
+        (length (open_bytes (entries d.now (rows_from rows.now)))) }
 {
-    let mut i = from;
-    let mut left = count;
-    let mut at = start;
-    while 0 < left {
-        left -= 1;
-        at = put_entry(rows, i, left, d, out, at);
-        i += 6;
+    for k in 0..rows.len() / 6 {
+        put_entry(w, row_from(rows, 6 * k), &rows[6 * k + 6..], d);
     }
-    add_u64(out, at, 0)
+    w.put_u64(0);
 }
 
+// Without rows a zero size; else the first storage up to its values, and then all that follows.
+fn put_rows(w: &mut Output, rows: &[u64], d: &[u8])
+    requires { (w.old.at ≡ 0) × StoreRoom rows.now d.now w.old.out.now }
+    ensures { Writes w.old w.new
+        (store_bytes (entries d.now (rows_from rows.now)))
+        (length (store_bytes (entries d.now (rows_from rows.now)))) }
+{
+    if rows.len() < 6 {
+        w.put_u32(0);
+        return;
+    }
+    let first = row_from(rows, 0);
+    let after = &rows[6..];
+    let n = values_size(after);
+    put_storage(w, body(d, first.raw), n);
+    put_entries(w, after, d);
+}
+
+// From the buffer's start on. Answers the store's length.
 pub fn put_store(rows: &[u64], d: &[u8], out: &mut [u8]) -> usize
     requires { StoreRoom rows.now d.now out.old }
     ensures written { Wrote out.old 0
@@ -108,12 +115,7 @@ pub fn put_store(rows: &[u64], d: &[u8], out: &mut [u8]) -> usize
         (length (store_bytes (entries d.now (rows_from rows.now))))
         out.new result }
 {
-    let all = rows.len() / 6;
-    if all == 0 {
-        return add_u32(out, 0, 0);
-    }
-    let first = row_from(rows, 0);
-    let n = values_size(rows, 6, all - 1);
-    let at = put_storage(out, 0, d, first.raw, n);
-    put_entries(rows, 6, all - 1, d, out, at)
+    let mut w = Output::new(out);
+    put_rows(&mut w, rows, d);
+    w.at()
 }

@@ -1,8 +1,8 @@
 // Whether a list of rows can be written as a store, and how long that is. The body buffer is d.
-ghost use Rattle.std.specs.Prelude.{◌≡◌, true, ◌+◌, ◌≤◌, length};
+ghost use Rattle.std.specs.Prelude.{◌≡◌, true, false, ◌+◌, ◌≤◌, length, MatchOption};
 ghost use Rattle.format.specs.Bodies.{all_inside};
 ghost use Rattle.format.specs.StoreWriting.{places_used, row_at, rows_from, rows_placed, entry_of, entries, entry_fits, kind_after};
-ghost use Rattle.stores.specs.Steps.Sizes.{capped_store, row_size, size_or_0};
+ghost use Rattle.stores.specs.Steps.Sizes.{capped_store, row_size, values_kind, store_size};
 
 use format::{Place, StoreRow};
 
@@ -30,10 +30,8 @@ pub fn row_from(rows: &[u64], i: usize) -> StoreRow
 fn row_placed(r: StoreRow, n: usize) -> bool
     ensures { result ≡ all_inside n (places_used r) }
 {
-    let kind = r.kind;
-    match kind {
-        0 => writable::inside(r.raw, n),
-        1 => writable::inside(r.raw, n),
+    match r.kind {
+        0 | 1 => writable::inside(r.raw, n),
         2 => writable::inside(r.name, n) & writable::inside(r.raw, n),
         _ => true,
     }
@@ -42,45 +40,41 @@ fn row_placed(r: StoreRow, n: usize) -> bool
 pub fn rows_placed(rows: &[u64], n: usize) -> bool
     ensures { result ≡ rows_placed n (rows_from rows.now) }
 {
-    let mut i: usize = 0;
-    let mut left = rows.len() / 6;
-    while 0 < left {
-        if !row_placed(row_from(rows, i), n) {
+    for k in 0..rows.len() / 6 {
+        if !row_placed(row_from(rows, 6 * k), n) {
             return false;
         }
-        i += 6;
-        left -= 1;
     }
     true
 }
 
-// ---- kinds: that of the values that may stand here is 0 before the first storage
+// ---- the values that may stand at a row
 
-fn row_fits(kind: u64, r: StoreRow, d: &[u8]) -> bool
-    requires { all_inside (length d.now) (places_used r) ≡ true }
-    ensures { result ≡ entry_fits kind (entry_of d.now r) }
-{
-    let own = r.kind;
-    match own {
-        0 => r.raw.len == 16,
-        1 => (kind == 1) & (r.number < 0x1_0000_0000),
-        2 => kind == 2,
-        _ => false,
-    }
+// No value before the first storage; then those that its format asks for.
+#[derive(Clone, Copy)]
+enum Values {
+    NoneYet,
+    ByNumber,
+    ByName,
 }
 
-fn kind_after(kind: u64, r: StoreRow, d: &[u8]) -> u64
-    requires { (all_inside (length d.now) (places_used r) ≡ true) × (entry_fits kind (entry_of d.now r) ≡ true) }
-    ensures { result ≡ kind_after kind (entry_of d.now r) }
+// The values that may stand after this row, if the row may stand where these may.
+fn values_after(values: Values, r: StoreRow, d: &[u8]) -> Option<Values>
+    requires { all_inside (length d.now) (places_used r) ≡ true }
+    ensures { MatchOption result
+        (entry_fits (values_kind values) (entry_of d.now r) ≡ false)
+        (λ v. (entry_fits (values_kind values) (entry_of d.now r) ≡ true) × (values_kind v ≡ kind_after (values_kind values) (entry_of d.now r))) }
 {
-    if r.kind == 0 {
-        let at = r.raw.at;
-        if storages::is_named(d, at) {
-            return 2;
-        }
-        return 1;
+    match (r.kind, values) {
+        (0, _) if r.raw.len == 16 => Some(if storages::is_named(d, r.raw.at) {
+            Values::ByName
+        } else {
+            Values::ByNumber
+        }),
+        (1, Values::ByNumber) if r.number < 0x1_0000_0000 => Some(values),
+        (2, Values::ByName) => Some(values),
+        _ => None,
     }
-    kind
 }
 
 // ---- length
@@ -89,43 +83,32 @@ fn kind_after(kind: u64, r: StoreRow, d: &[u8]) -> u64
 fn capped(n: usize) -> usize
     ensures { (result ≡ capped_store n) × (result ≤ 65449) }
 {
-    if 65448 < n {
-        return 65449;
-    }
-    n
+    n.min(65449)
 }
 
 // A storage with its zero size, or a value; where a length is too great, so is this.
+#[tactic(auto, unfolding(crate::specs::Steps::Sizes::row_size))]
 pub fn row_size(r: StoreRow) -> usize
     ensures { (result ≡ row_size r) × (result ≤ 130907) }
 {
-    if r.kind == 0 {
-        return 28;
+    match r.kind {
+        0 => 28,
+        1 => 9 + capped(r.raw.len),
+        _ => 9 + capped(r.name.len) + capped(r.raw.len),
     }
-    if r.kind == 1 {
-        return 9 + capped(r.raw.len);
-    }
-    9 + capped(r.name.len) + capped(r.raw.len)
 }
 
-// The store's length; 0 where the rows are no store's.
-pub fn store_size(rows: &[u64], d: &[u8]) -> usize
+// The store's length, if the rows are a store's.
+pub fn store_size(rows: &[u64], d: &[u8]) -> Option<usize>
     requires { rows_placed (length d.now) (rows_from rows.now) ≡ true }
-    ensures { result ≡ size_or_0 (entries d.now (rows_from rows.now)) }
+    ensures { result ≡ store_size (entries d.now (rows_from rows.now)) }
 {
-    let mut kind: u64 = 0;
+    let mut values = Values::NoneYet;
     let mut size: usize = 4;
-    let mut i: usize = 0;
-    let mut left = rows.len() / 6;
-    while 0 < left {
-        let r = row_from(rows, i);
-        if !row_fits(kind, r, d) {
-            return 0;
-        }
-        kind = kind_after(kind, r, d);
+    for k in 0..rows.len() / 6 {
+        let r = row_from(rows, 6 * k);
+        values = values_after(values, r, d)?;
         size = capped(size + row_size(r));
-        i += 6;
-        left -= 1;
     }
-    size
+    Some(size)
 }

@@ -30,7 +30,7 @@ use Rattle.format.proofs.StoreWrites.{reads_written}
 use Rattle.format.proofs.StoreDemands.{HoldsStore, held_store, held_small}
 use Rattle.storing.specs.Steps.Stored.{RowIn}
 use Rattle.storing.proofs.InsideLaws.{RowsIn, rows_more, store_in}
-use Rattle.storing.proofs.ListLaws.{numbers_long}
+use Rattle.storing.proofs.RowLaws.{numbers_long}
 
 -- ---- a list of rows as numbers, and back
 

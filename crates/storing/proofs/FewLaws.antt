@@ -41,11 +41,11 @@ values_few named i l = omega (arith, parts_few (λ i x. value_row named i x ∷ 
 storage_few : (i : ℕ) (v : List ℕ) → 0 < length v → length (storage_rows i v) ≤ length v
 storage_few i v some = omega (arith, values_few (is_named (identifier_of v)) (i + 24) (drop 24 v), length-drop 24 v)
 
-store_few : (i : ℕ) (l : List ℕ) → length (store_rows i l) ≤ length l
+pub store_few : (i : ℕ) (l : List ℕ) → length (store_rows i l) ≤ length l
 unfolding store_rows
 store_few i l = omega (arith, parts_few storage_rows storage_few i 0 l)
 
-block_few : (s : List ℕ) (b : Place) → length (block_rows s b) ≤ length s
+pub block_few : (s : List ℕ) (b : Place) → length (block_rows s b) ≤ length s
 block_few s b =
     let t = length-take b.len (drop b.at s) in
     omega (arith, store_few (b.at + 8) (drop 8 (bytes_at s b)), length-drop 8 (bytes_at s b), length-drop b.at s)

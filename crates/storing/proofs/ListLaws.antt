@@ -1,10 +1,10 @@
 -- The calls on a shortcut's store: one law for each way out.
 use mathlib.Core.Path.{◌≡◌, refl, sym, ap, ◌∙◌}
-use mathlib.Core.List.{List, [], ◌∷◌}
+use mathlib.Core.List.{List, []}
 use mathlib.Core.Bool.{true, cond}
-use Prim.Native.Nat.{ℕ, ◌+◌, ◌-◌, ◌*◌, ◌/◌, ◌^◌, ◌≤◌, ◌<◌}
+use Prim.Native.Nat.{ℕ, ◌+◌, ◌-◌, ◌/◌, ◌^◌, ◌≤◌, ◌<◌}
 use native.Mathlib.Omega.{arith}
-use lib.ListN.{length, drop, get_or, length-append, length-drop}
+use lib.ListN.{length, drop, get_or, length-drop}
 use lib.Seq.{length-take-le}
 use lib.Dec.{leb}
 use borrow.Author.Tests.{le-leb, lt-leb}
@@ -13,28 +13,25 @@ use Rattle.octets.specs.Steps.Puts.{part}
 use Rattle.octets.proofs.PartLaws.{part_in}
 use Rattle.octets.proofs.WroteLaws.{put-nil}
 use Rattle.format.specs.declared.Profile.{Profile}
-use Rattle.format.specs.declared.Fault.{Fault}
 use Rattle.format.specs.declared.Fault.TheVariants.{Room as ROOM}
 use Rattle.format.specs.declared.Place.{Place}
 use Rattle.format.specs.declared.Record.{Record}
+use Rattle.format.specs.declared.Refusal.{Refusal}
 use Rattle.format.specs.declared.Reading.{Reading}
-use Rattle.format.specs.declared.Spot.{Spot}
 use Rattle.format.specs.declared.StoreRow.{StoreRow}
-use Rattle.format.specs.declared.Verdict.{Verdict}
-use Rattle.format.specs.declared.Verdict.TheVariants.{Accepted, Refused}
-use Rattle.format.specs.Tests.{got, refused, all, no_place}
+use Rattle.format.specs.Tests.{got, refused, all}
 use Rattle.format.specs.Numbers.{Numbered}
 use Rattle.format.specs.Store.{store_tests}
 use Rattle.format.specs.Blocks.{blocks, first_place}
-use Rattle.format.specs.Shortcut.{blocks_of, reading}
+use Rattle.format.specs.Shortcut.{shortcut, blocks_of, reading}
 use Rattle.format.specs.Bodies.{place_in, blocks_slot}
 use Rattle.format.specs.Contents.{bytes_at}
 use Rattle.format.specs.Writing.{output_of}
 use Rattle.format.specs.Demands.{Accepts}
-use Rattle.format.specs.StoreList.{per_part, store_rows, block_rows, rows_of, row_numbers, all_numbers, store_list, store_list_answer, store_list_output, rows_by, nth_row, store_row, store_name, store_raw}
+use Rattle.format.specs.StoreList.{per_part, store_rows, block_rows, rows_of, all_numbers, store_list, store_list_answer, store_list_output, rows_by, nth_row, store_row, store_name, store_raw}
 use Rattle.format.specs.Steps.Firsts.{firsts, first_field}
 use Rattle.format.proofs.AnswerLaws.{nowhere, numbered}
-use Rattle.format.proofs.AcceptedLaws.{accepted_Read, accepted_held, refused_read, shortcut-Whole}
+use Rattle.format.proofs.AcceptedLaws.{accepted_Read, accepted_held, shortcut-Whole}
 use Rattle.format.proofs.Chains.{all-Pass, Pass-all}
 use Rattle.format.proofs.FoundLaws.{read_Walk}
 use Rattle.format.proofs.PositionLaws.{part_drop}
@@ -42,13 +39,12 @@ use Rattle.format.proofs.StoreLaws.{store_anywhere}
 use Rattle.format.proofs.StoreDemands.{first_store}
 use Rattle.blocks.specs.Steps.Walk.{block_from}
 use Rattle.blocks.proofs.FirstLaws.{First-block}
-use Rattle.reader.specs.declared.Next.TheVariants.{Off}
-use Rattle.reader.specs.declared.Outline.{Outline}
-use Rattle.reader.specs.Steps.Finish.{FirstsOf, Told}
-use Rattle.reader.proofs.OutlineLaws.{told_refused}
-use Rattle.storing.specs.declared.Stored.{Stored}
-use Rattle.storing.specs.Steps.Stored.{Holds, StoredIs, RowIs}
+use Rattle.reader.specs.Steps.Finish.{FirstsOf}
+use Rattle.storing.specs.Steps.Stored.{Holds, StoreAt, RowIs}
+use Rattle.storing.proofs.RowLaws.{numbers_long}
 use Rattle.storing.proofs.InsideLaws.{store_in, nth_in}
+use Rattle.format.specs.Verdicts.{Verdict, refused_at}
+use Rattle.std.specs.Prelude.{Ok}
 
 -- ---- where the store stands
 
@@ -57,20 +53,12 @@ pub no_rows : (s : List ℕ) (b : Place) → b.len ≡ 0 → block_rows s b ≡ 
 unfolding store_rows per_part
 no_rows s b e = rw e
 
-pub stored_refused : {profile : Profile} {s : List ℕ} {o : Outline} {texts row : List ℕ} {f : Fault} {p : Spot} → Told profile s o texts row → o.next ≡ Off f p
-    → StoredIs profile s (record { verdict = Refused f p.position; block = no_place })
-stored_refused {s = s} {f = f} {p = p} T k = record {
-  verdict = told_refused T k;
-  rows = no_rows s no_place refl ∙ rw (T.off f p k);
-  holds = λ z. absurd (z refl);
-}
-
 -- of an accepted shortcut with the row of its signatures
 module _ (profile : Profile) (s : List ℕ) (held : Record) {row : List ℕ} (a : Accepts profile s held) (noted : FirstsOf s held row) where
   -- the ninth signature of the table
   pub record StoreField : Type 0 where
     pub reached : get_or row 8 0 ≤ length s
-    pub stored : {b : Place} {n : ℕ} → b ≡ block_from s (get_or row 8 0) → n ≡ length s → StoredIs profile s (record { verdict = Accepted n; block = b })
+    pub stored : {b : Place} → b ≡ block_from s (get_or row 8 0) → StoreAt profile s b
 
   pub store_field : StoreField
   unfolding Accepts firsts rows_of
@@ -86,11 +74,11 @@ module _ (profile : Profile) (s : List ℕ) (held : Record) {row : List ℕ} (a 
       let F = First-block s 0xA0000009 start lengths _ walk in
       record {
         reached = rw field F.field;
-        stored = λ i e.
+        stored = λ i.
             let p : _ ≡ first_place s 0xA0000009 start lengths = i ∙ ap (block_from s) field ∙ F.block in
             rw p
             (record {
-              verdict = ap Accepted e ∙ sym (ap (λ (y : Reading). y.verdict) a);
+              verdict = ap (λ (y : Reading). y.verdict) a;
               rows = sym (ap (rows_by s) x.is);
               holds = λ z.
                   let h = first_store s start lengths _ walk z in
@@ -104,20 +92,15 @@ module _ (profile : Profile) (s : List ℕ) (held : Record) {row : List ℕ} (a 
 
 -- ---- the list
 
-pub numbers_long : (rs : List StoreRow) → length (all_numbers rs) ≡ 6 * length rs
-numbers_long [] = refl
-numbers_long (r ∷ rs) = length-append (row_numbers r) (all_numbers rs) ∙ omega (arith, numbers_long rs)
-
 -- the store's bytes in the shortcut
 pub store_part : (s : List ℕ) (b : Place) → Holds s b → part s (b.at + 8) (b.len - 8) ≡ drop 8 (bytes_at s b)
 store_part s b h = sym (part_in s (b.at + 8) (b.len - 8) (omega (arith, h.inside, h.long))) ∙ sym (part_drop 8 b.len b.at s (omega (arith, h.long)))
 
 -- its tests hold, and its places are numbers
-pub store_ready : (s : List ℕ) (b : Place) → Holds s b → length s < 2 ^ 64 → {l : List ℕ} → l ≡ part s (b.at + 8) (b.len - 8) → (all (store_tests 0 l) ≡ true) × (b.at + 8 + length l < 2 ^ 64)
+pub store_ready : (s : List ℕ) (b : Place) → Holds s b → length s < 2 ^ 64 → {l : List ℕ} → l ≡ drop 8 (bytes_at s b) → (all (store_tests 0 l) ≡ true) × (b.at + 8 + length l < 2 ^ 64)
 store_ready s b h small e =
-    let q : _ ≡ drop 8 (bytes_at s b) = e ∙ store_part s b h in
     let d : length (bytes_at s b) ≡ b.len = length-take-le b.len (drop b.at s) (omega (arith, h.inside, length-drop b.at s)) in
-    rw q (h.right, omega (arith, length-drop 8 (bytes_at s b), h.inside, h.long))
+    rw e (h.right, omega (arith, length-drop 8 (bytes_at s b), h.inside, h.long))
 
 -- what the call says of its answer v and its buffer x
 abbrev ListCall : Profile → List ℕ → List ℕ → Verdict → List ℕ → Type 0
@@ -127,31 +110,31 @@ list_call : (profile : Profile) (s out : List ℕ) {v : Verdict} {x : List ℕ} 
 unfolding store_list_answer
 list_call profile s out a o = (a, (o, numbered (store_list profile s (length out)) a))
 
-module _ (profile : Profile) (s out : List ℕ) {t : Stored} (T : StoredIs profile s t) where
+module _ (profile : Profile) (s out : List ℕ) where
   -- leaving with the refusal
-  pub list_left : {f : Fault} {p : ℕ} → t.verdict ≡ Refused f p → ListCall profile s out t.verdict out
+  pub list_left : {r : Refusal} → shortcut profile s ≡ refused r.fault r.spot → ListCall profile s out (refused_at r.fault r.spot.position) out
   unfolding store_list_answer store_list_output store_list output_of
-  list_left q = let i = refused_read profile s (sym T.verdict ∙ q) in list_call profile s out (q ∙ rw (i.is, i.told)) (rw i.is)
+  list_left i = list_call profile s out (rw i) (rw i)
 
-  module _ {n : ℕ} (q : t.verdict ≡ Accepted n) where
+  module _ {b : Place} (T : StoreAt profile s b) where
     abbrev rows : List StoreRow
-    rows = block_rows s t.block
+    rows = block_rows s b
 
     list_is : store_list profile s (length out) ≡ cond (leb (length (all_numbers rows)) (length out)) (got (all_numbers rows) (length rows)) (refused ROOM nowhere)
     unfolding store_list
     list_is =
-        let x = accepted_Read profile s (reading profile s).held n (accepted_held profile s {g = reading profile s} refl (sym T.verdict ∙ q)) in
+        let x = accepted_Read profile s (reading profile s).held (length s) (accepted_held profile s {g = reading profile s} refl T.verdict) in
         let r : rows ≡ rows_of s x.sections = T.rows ∙ ap (rows_by s) x.is in
         rw (x.is, r)
 
-    pub list_none : t.block.len ≡ 0 → ListCall profile s out (Accepted 0) out
+    pub list_none : b.len ≡ 0 → ListCall profile s out (Ok 0) out
     unfolding store_list_answer store_list_output output_of
     list_none e =
-        let z : store_list profile s (length out) ≡ got [] 0 = list_is ∙ rw (no_rows s t.block e, le-leb 0 (length out) (omega arith)) in
+        let z : store_list profile s (length out) ≡ got [] 0 = list_is ∙ rw (no_rows s b e, le-leb 0 (length out) (omega arith)) in
         list_call profile s out (rw z) (rw z (put-nil out 0))
 
     module _ {m : ℕ} (count : m ≡ length rows) where
-      pub list_room : length out / 6 < m → ListCall profile s out (Refused ROOM 0) out
+      pub list_room : length out / 6 < m → ListCall profile s out (refused_at ROOM 0) out
       unfolding store_list_answer store_list_output output_of
       list_room h =
           let z : store_list profile s (length out) ≡ refused ROOM nowhere = list_is ∙ rw (lt-leb (length (all_numbers rows)) (length out) (omega (arith, numbers_long rows))) in
@@ -160,7 +143,7 @@ module _ (profile : Profile) (s out : List ℕ) {t : Stored} (T : StoredIs profi
       pub list_fits : m ≤ length out / 6 → length (all_numbers rows) ≤ length out
       list_fits h = omega (arith, numbers_long rows)
 
-      pub list_put : m ≤ length out / 6 → {x : List ℕ} → x ≡ put out 0 (all_numbers rows) → ListCall profile s out (Accepted m) x
+      pub list_put : m ≤ length out / 6 → {x : List ℕ} → x ≡ put out 0 (all_numbers rows) → ListCall profile s out (Ok m) x
       unfolding store_list_answer store_list_output output_of
       list_put h e =
           let z : store_list profile s (length out) ≡ got (all_numbers rows) (length rows) = list_is ∙ rw (le-leb (length (all_numbers rows)) (length out) (list_fits h)) in
@@ -168,20 +151,24 @@ module _ (profile : Profile) (s out : List ℕ) {t : Stored} (T : StoredIs profi
 
 -- ---- a row
 
-module _ (profile : Profile) (s : List ℕ) (k : ℕ) {t : Stored} (T : StoredIs profile s t) where
-  row_told : nth_row k (block_rows s t.block) ≡ store_row profile s k
+-- a refused shortcut has none
+pub row_refused : (profile : Profile) (s : List ℕ) (k : ℕ) {q : Refusal} {r : StoreRow} → shortcut profile s ≡ refused q.fault q.spot → r ≡ nth_row k [] → RowIs profile s k r
+unfolding store_row
+row_refused profile s k e i = record { is = i ∙ rw e; inside = rw i (nth_in (length s) k [] tt) }
+
+module _ (profile : Profile) (s : List ℕ) (k : ℕ) {b : Place} (T : StoreAt profile s b) where
+  row_told : nth_row k (block_rows s b) ≡ store_row profile s k
   unfolding store_row
   row_told = ap (nth_row k) T.rows
 
-  pub row_none : {r : StoreRow} → r ≡ nth_row k [] → t.block.len ≡ 0 → RowIs profile s k r
+  pub row_none : {r : StoreRow} → r ≡ nth_row k [] → b.len ≡ 0 → RowIs profile s k r
   row_none {r} i e = record {
-    is = i ∙ sym (ap (nth_row k) (no_rows s t.block e)) ∙ row_told;
+    is = i ∙ sym (ap (nth_row k) (no_rows s b e)) ∙ row_told;
     inside = rw i (nth_in (length s) k [] tt);
   }
 
-  pub row_is : {r : StoreRow} → (t.block.len ≡ 0 → ⊥) → r ≡ nth_row k (block_rows s t.block) → RowIs profile s k r
+  pub row_is : {r : StoreRow} → (b.len ≡ 0 → ⊥) → r ≡ nth_row k (block_rows s b) → RowIs profile s k r
   row_is {r} z i =
-      let b = t.block in
       let h = T.holds z in
       let l : List ℕ = drop 8 (bytes_at s b) in
       let d : length (bytes_at s b) ≡ b.len = length-take-le b.len (drop b.at s) (omega (arith, h.inside, length-drop b.at s)) in

@@ -1,6 +1,8 @@
 -- Any two outcomes that the contract of a public call allows are equal.
 use mathlib.Core.Path.{refl, sym, ◌∙◌}
 use Rattle.octets.proofs.Outcomes.{OneAnswer, OneShown, OneOutcome}
+use Rattle.storing.proofs.rows.Rows.new as rows_new
+use Rattle.storing.specs.contracts.rows.Rows.new as rows_new_contract
 use Rattle.storing.proofs.rows.count_rows
 use Rattle.storing.specs.contracts.rows.count_rows as count_rows_contract
 use Rattle.storing.proofs.rows.any_value
@@ -19,6 +21,9 @@ use Rattle.storing.proofs.has_values
 use Rattle.storing.specs.contracts.has_values as has_values_contract
 use Rattle.storing.proofs.store_write
 use Rattle.storing.specs.contracts.store_write as store_write_contract
+
+pub rows_new_one_outcome : OneAnswer rows_new_contract.ended rows_new.Reads.Post
+rows_new_one_outcome κs a r q s t p o = p ∙ sym o
 
 pub count_rows_one_outcome : OneAnswer count_rows_contract.ended count_rows.Reads.Post
 count_rows_one_outcome κs a r q s t p o = p.0 ∙ sym o.0

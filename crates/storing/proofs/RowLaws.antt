@@ -1,8 +1,8 @@
 -- The next row: what stands at a cursor, and what is left after it.
 use mathlib.Core.Path.{◌≡◌, refl, sym, ap, subst, ◌∙◌}
 use mathlib.Core.List.{List, [], ◌∷◌, ◌++◌, append_assoc, append-nil}
-use mathlib.Core.Bool.{Bool, true, false, ◌||◌}
-use Prim.Native.Nat.{ℕ, zero, suc, ◌+◌, ◌-◌, ◌^◌, ◌≤◌, ◌<◌}
+use mathlib.Core.Bool.{Bool, true, false, not, ◌||◌}
+use Prim.Native.Nat.{ℕ, zero, suc, ◌+◌, ◌-◌, ◌*◌, ◌^◌, ◌≤◌, ◌<◌}
 use native.Mathlib.Omega.{arith}
 use lib.ListN.{length, take, drop, set, length-append, length-drop}
 use lib.Seq.{drop-drop, take-take, length-take-le, sets-eq}
@@ -14,7 +14,7 @@ use Rattle.octets.specs.Parts.{put}
 use Rattle.octets.proofs.PartLaws.{put-put, length-put}
 use Rattle.octets.proofs.WroteLaws.{put-nil}
 use Rattle.format.specs.declared.StoreRow.{StoreRow}
-use Rattle.format.specs.Tests.{all, place}
+use Rattle.format.specs.Tests.{all, place, no_place}
 use Rattle.format.specs.Store.{name_length, value_tests, values_tests, is_named, identifier_of, storage_tests, store_tests}
 use Rattle.format.specs.StoreList.{per_part, value_row, storage_row, storage_rows, store_rows, nth_row, row_numbers, all_numbers}
 use Rattle.format.specs.Blind.{has_values}
@@ -24,9 +24,10 @@ use Rattle.format.proofs.PositionLaws.{number_first, number_part, part_drop}
 use Rattle.format.proofs.StoreLaws.{parts_split, values_anywhere, store_anywhere, store_four}
 use Rattle.format.proofs.StoreReads.{per_end, per_part_lem}
 use Rattle.storing.specs.declared.rows.StoreCursor.{StoreCursor}
-use Rattle.storing.specs.declared.rows.NextRow.{NextRow}
-use Rattle.storing.specs.declared.rows.NextRow.TheVariants.{Row, End}
-use Rattle.storing.specs.Steps.Rows.{values_left, stores_left, give_value, first_cursor, rows_left, Right, values_over, Next, NoneLeft, NextIs}
+use Rattle.std.specs.Prelude.{Option, None, Some}
+use Rattle.std.specs.List.{list_any, slice_get}
+use Rattle.std.specs.Option.{option_map, unwrap_or}
+use Rattle.storing.specs.Steps.Rows.{values_left, stores_left, give_value, first_cursor, rows_left, Right, values_over, NextIs}
 
 zero_is : u32_at (little 4 0) 0 ≡ 0
 unfolding number_at number little
@@ -225,23 +226,20 @@ module _ (l : List ℕ) (base : ℕ) (c : StoreCursor) (R : Right l c) where
         let k : length (take n (drop c.at l)) ≡ n = length-take-le n (drop c.at l) (omega (arith, z.fits, R.inside, length-drop c.at l)) in
         rw (own_is, k) (z.name, omega (arith, z.fits, R.inside))
 
-    pub next_value : {r : StoreRow} → r ≡ value_row c.named (base + c.at) own → NextIs l base c (Row r (record { at = c.at + n; end = c.end; named = c.named }))
+    pub next_value : {r : StoreRow} → r ≡ value_row c.named (base + c.at) own → NextIs l base c (Some (r, record { at = c.at + n; end = c.end; named = c.named }))
     next_value i = let z = value_at in record { rows = rw (i, own_is) z.rows; right = z.right; ahead = omega (arith, z.low) }
 
   module _ {n : ℕ} (e : n ≡ u32_at l c.end) (h : values_over l c ≡ true) where
-    pub next_end : n ≡ 0 → NextIs l base c End
+    pub next_end : n ≡ 0 → NextIs l base c None
     next_end z = record { none = over_rows l base c R h ∙ storage_none l base c R (sym e ∙ z) }
 
     pub storage_at : (n ≡ 0 → ⊥) → StorageHere l base c R n
     storage_at z = rw e (storage_here l base c R (λ q. z (e ∙ q)))
 
-    pub next_storage : (n ≡ 0 → ⊥) → {b : Bool} → b ≡ is_named (take 16 (drop (c.end + 8) l)) → NextIs l base c (Row (storage_row (place (base + (c.end + 8)) 16)) (record { at = c.end + 24; end = c.end + n; named = b }))
+    pub next_storage : (n ≡ 0 → ⊥) → {b : Bool} → b ≡ is_named (take 16 (drop (c.end + 8) l)) → NextIs l base c (Some (storage_row (place (base + (c.end + 8)) 16), record { at = c.end + 24; end = c.end + n; named = b }))
     next_storage z i = let y = storage_at z in rw i (record { rows = over_rows l base c R h ∙ y.rows; right = y.right; ahead = omega (arith, R.order) })
 
 -- ---- the walk
-
-pub first_Right : (l : List ℕ) → all (store_tests 0 l) ≡ true → Right l first_cursor
-first_Right l h = record { order = omega arith; inside = omega arith; values = λ z. absurd (z refl); store = h }
 
 pub first_rows : (l : List ℕ) (base : ℕ) → rows_left l base first_cursor ≡ store_rows base l
 unfolding rows_left
@@ -249,33 +247,23 @@ first_rows l base =
     let z : base + 0 ≡ base = omega arith in
     ap (λ (r : List StoreRow). r ++ store_rows (base + 0) l) (per_none (give_value false) (base + 0)) ∙ ap (λ (i : ℕ). store_rows i l) z
 
--- what a step says
-module _ {l : List ℕ} {base : ℕ} {c : StoreCursor} {t : NextRow} (h : NextIs l base c t) where
-  pub by_row : {r : StoreRow} {d : StoreCursor} → t ≡ Row r d → Next l base c r d
-  by_row e = rw e at h
+-- ---- what a chain answers
 
-  pub by_end : t ≡ End → NoneLeft l base c
-  by_end e = rw e at h
+pub values_any : (rs : List StoreRow) → has_values rs ≡ list_any (λ (r : StoreRow). not (eqb r.kind 0)) rs
+values_any [] = refl
+values_any (r ∷ rs) = ap (λ (b : Bool). not (eqb r.kind 0) || b) (values_any rs)
 
--- a cursor that comes nearer to the end
-pub nearer : {l : List ℕ} {base : ℕ} {c : StoreCursor} {r : StoreRow} {d : StoreCursor} → Next l base c r d → (c.at < d.at) × (d.at ≤ length l)
-nearer N = (N.ahead, omega (arith, N.right.order, N.right.inside))
+row_get : (rs : List StoreRow) (k : ℕ) → unwrap_or (slice_get rs k) (storage_row no_place) ≡ nth_row k rs
+row_get [] k = refl
+row_get (r ∷ rs) zero = refl
+row_get (r ∷ rs) (suc k) = row_get rs k
 
--- ---- the row of a number
-
--- a row that is a value decides; one that is a storage leaves it to the others
-pub is_value : {r : StoreRow} {rs all : List StoreRow} → all ≡ r ∷ rs → (r.kind ≡ 0 → ⊥) → true ≡ has_values all
-is_value {r} e n = rw (e, ne_eqb r.kind 0 n)
-
-pub no_value_yet : {r : StoreRow} {rs all : List StoreRow} → all ≡ r ∷ rs → r.kind ≡ 0 → has_values rs ≡ has_values all
-no_value_yet {r} e z = rw (e, z)
-
-pub nth_here : {k : ℕ} {r : StoreRow} {rs all : List StoreRow} → all ≡ r ∷ rs → k ≡ 0 → r ≡ nth_row k all
-nth_here e z = rw (e, z)
-
-pub nth_later : (k : ℕ) {r : StoreRow} {rs all : List StoreRow} → all ≡ r ∷ rs → (k ≡ 0 → ⊥) → nth_row (k - 1) rs ≡ nth_row k all
-nth_later zero e z = absurd (z refl)
-nth_later (suc k) e z = let q : suc k - 1 ≡ k = omega arith in rw (e, q)
+pub row_told : (o : Option StoreRow) (rs : List StoreRow) (k : ℕ) → option_map (λ (r : StoreRow). r) o ≡ slice_get rs k → unwrap_or o (storage_row no_place) ≡ nth_row k rs
+row_told o rs k e = same o ∙ ap (λ (x : Option StoreRow). unwrap_or x (storage_row no_place)) e ∙ row_get rs k
+  where
+    same : (x : Option StoreRow) → unwrap_or x (storage_row no_place) ≡ unwrap_or (option_map (λ (r : StoreRow). r) x) (storage_row no_place)
+    same None = refl
+    same (Some r) = refl
 
 -- ---- the numbers of the rows
 
@@ -290,36 +278,39 @@ six_put rows i a b c d e f h =
     let t : i + 5 ≡ suc (suc (suc (suc (suc i)))) = omega arith in
     rw (p, q, r, s, t) (sets-eq (a ∷ b ∷ c ∷ d ∷ e ∷ f ∷ []) rows i h ∙ append_assoc (take i rows) (a ∷ b ∷ c ∷ d ∷ e ∷ f ∷ []) (drop (i + 6) rows))
 
--- rows after the numbers of those up to c were put
-pub record Putting (l : List ℕ) (base : ℕ) (rows : List ℕ) (c : StoreCursor) (i : ℕ) (x : List ℕ) : Type 0 where
+pub numbers_long : (rs : List StoreRow) → length (all_numbers rs) ≡ 6 * length rs
+numbers_long [] = refl
+numbers_long (r ∷ rs) = length-append (row_numbers r) (all_numbers rs) ∙ omega (arith, numbers_long rs)
+
+-- rows after the numbers of the first k of all were put, with these left
+pub record Putting (all : List StoreRow) (rows : List ℕ) (left : List StoreRow) (k : ℕ) (x : List ℕ) : Type 0 where
   pub done : List ℕ
   pub content : x ≡ put rows 0 done
-  pub long : length done ≡ i
-  pub rest : done ++ all_numbers (rows_left l base c) ≡ all_numbers (store_rows base l)
+  pub long : length done ≡ 6 * k
+  pub rest : done ++ all_numbers left ≡ all_numbers all
 
-module _ {l : List ℕ} {base : ℕ} {rows : List ℕ} (room : length (all_numbers (store_rows base l)) ≤ length rows) where
-  pub Putting-none : Putting l base rows first_cursor 0 rows
-  Putting-none = record { done = []; content = put-nil rows 0; long = refl; rest = ap all_numbers (first_rows l base) }
+module _ {all : List StoreRow} {rows : List ℕ} (room : length (all_numbers all) ≤ length rows) where
+  pub Putting-none : Putting all rows all 0 rows
+  Putting-none = record { done = []; content = put-nil rows 0; long = refl; rest = refl }
 
-  module _ {c : StoreCursor} {i : ℕ} {x : List ℕ} (P : Putting l base rows c i x) where
-    all_long : {r : StoreRow} {d : StoreCursor} → Next l base c r d → i + 6 ≤ length rows
-    all_long N =
-        let k = ap length P.rest in
-        omega (arith, P.long, length-append P.done (all_numbers (rows_left l base c)), ap (λ (rs : List StoreRow). length (all_numbers rs)) N.rows)
-
+  module _ {left : List StoreRow} {k : ℕ} {x : List ℕ} (P : Putting all rows left k x) where
     pub same_long : length x ≡ length rows
-    same_long = rw P.content (length-put rows 0 P.done (omega (arith, P.long, length-append P.done (all_numbers (rows_left l base c)), ap length P.rest)))
+    same_long = rw P.content (length-put rows 0 P.done (omega (arith, length-append P.done (all_numbers left), ap length P.rest)))
 
-    pub putting_room : {r : StoreRow} {d : StoreCursor} → Next l base c r d → i + 6 ≤ length x
-    putting_room N = omega (arith, same_long, all_long N)
+    module _ {r : StoreRow} {others : List StoreRow} (more : left ≡ r ∷ others) where
+      all_long : 6 * k + 6 ≤ length rows
+      all_long = omega (arith, P.long, length-append P.done (all_numbers left), ap length P.rest, ap (λ (rs : List StoreRow). length (all_numbers rs)) more)
 
-    pub Putting-more : {r : StoreRow} {d : StoreCursor} {y : List ℕ} → Next l base c r d → y ≡ put x i (row_numbers r) → Putting l base rows d (i + 6) y
-    Putting-more {r} {d} N q = record {
-      done = P.done ++ row_numbers r;
-      content = q ∙ rw P.content (put-put rows 0 P.done (row_numbers r) (omega (arith, P.long)) (omega (arith, all_long N)));
-      long = length-append P.done (row_numbers r) ∙ omega (arith, P.long);
-      rest = append_assoc P.done (row_numbers r) (all_numbers (rows_left l base d)) ∙ rw N.rows at P.rest;
-    }
+      pub putting_room : 6 * k + 6 ≤ length x
+      putting_room = omega (arith, same_long, all_long)
 
-    pub putting_all : NoneLeft l base c → x ≡ put rows 0 (all_numbers (store_rows base l))
-    putting_all N = P.content ∙ ap (put rows 0) (sym (append-nil P.done) ∙ rw N.none at P.rest)
+      pub Putting-more : {y : List ℕ} → y ≡ put x (6 * k) (row_numbers r) → Putting all rows others (k + 1) y
+      Putting-more q = record {
+        done = P.done ++ row_numbers r;
+        content = q ∙ rw P.content (put-put rows 0 P.done (row_numbers r) (omega (arith, P.long)) (omega (arith, all_long)));
+        long = length-append P.done (row_numbers r) ∙ omega (arith, P.long);
+        rest = append_assoc P.done (row_numbers r) (all_numbers others) ∙ rw more at P.rest;
+      }
+
+    pub putting_all : left ≡ [] → x ≡ put rows 0 (all_numbers all)
+    putting_all none = P.content ∙ ap (put rows 0) (sym (append-nil P.done) ∙ rw none at P.rest)

@@ -3,41 +3,34 @@
 
 mod rows;
 
-ghost use Rattle.std.specs.Prelude.{◌≡◌, length};
+ghost use Rattle.std.specs.Prelude.{◌≡◌, drop, length};
 ghost use Rattle.format.specs.Numbers.{Numbered};
+ghost use Rattle.format.specs.Contents.{bytes_at};
 ghost use Rattle.format.specs.Blind.{has_values};
 ghost use Rattle.format.specs.StoreList.{block_rows, store_list, store_list_answer, store_list_output, store_name, store_raw};
 ghost use Rattle.format.specs.StoreWriting.{store_writing, store_write_answer, store_write_output, StoreEnds};
 ghost use Rattle.storing.specs.Steps.Stored.{Holds, StoredIs, RowIs};
 
-use format::{Fault, Place, Profile, StoreRow, Verdict};
-use reader::Next;
+use format::{Fault, Place, Profile, Refusal, Refused, StoreRow, Verdict};
 use stores::{making, tests};
 
-// The verdict on a shortcut, and where the block stands that holds its store; the empty place where there is none.
-#[derive(Clone, Copy)]
-struct Stored {
-    verdict: Verdict,
-    block: Place,
-}
-
-fn stored_in(s: &[u8], profile: Profile) -> Stored
+// Where the block stands that holds the store of an accepted shortcut; the empty place where there is none.
+fn stored_in(s: &[u8], profile: Profile) -> Result<Place, Refusal>
     ensures { StoredIs profile s.now result }
 {
     let mut texts = [0u32; 9];
     let mut firsts = [0u32; 11];
-    let o = reader::outline_of(s, profile, &mut texts, &mut firsts);
-    let next = o.next;
-    match next {
-        Next::On(c) => Stored {
-            verdict: Verdict::Accepted(c.at),
-            block: blocks::block_from(s, firsts[8]),
-        },
-        Next::Off(f, p) => Stored {
-            verdict: Verdict::Refused(f, p.position),
-            block: format::NO_PLACE,
-        },
-    }
+    reader::outline_of(s, profile, &mut texts, &mut firsts)?;
+    Ok(blocks::block_from(s, firsts[8]))
+}
+
+// The store in the block that stands there.
+fn store_of(s: &[u8], b: Place) -> &[u8]
+    requires { Holds s.now b }
+    ensures { result.now ≡ drop 8 (bytes_at s.now b) }
+{
+    let at = b.at + 8;
+    octets::part(s, at, b.len - 8)
 }
 
 // A row of six numbers for each storage and each value, in order, with places in the shortcut.
@@ -46,36 +39,32 @@ pub fn store_list(s: &[u8], rows: &mut [u64], profile: Profile) -> Verdict
     ensures output { rows.new ≡ store_list_output profile s.now rows.old }
     ensures numbers { Numbered result (store_list profile s.now (length rows.old)) }
 {
-    let t = stored_in(s, profile);
-    let v = t.verdict;
-    let b = t.block;
-    let Verdict::Accepted(_) = v else {
-        return v;
-    };
+    let b = stored_in(s, profile)?;
     if b.len == 0 {
-        return Verdict::Accepted(0);
+        return Ok(0);
     }
     let at = b.at + 8;
-    let l = octets::part(s, at, b.len - 8);
+    let l = store_of(s, b);
     let n = rows::count_rows(l, at);
     if rows.len() / 6 < n {
-        return Verdict::Refused(Fault::Room, 0);
+        return Err(Refused::at(Fault::Room, 0));
     }
     rows::put_rows(l, at, rows);
-    Verdict::Accepted(n)
+    Ok(n)
 }
 
 // The row of this number; zeros where there is none.
 fn row_of(s: &[u8], k: usize, profile: Profile) -> StoreRow
     ensures { RowIs profile s.now k result }
 {
-    let t = stored_in(s, profile);
-    let b = t.block;
+    let Ok(b) = stored_in(s, profile) else {
+        return rows::NO_ROW;
+    };
     if b.len == 0 {
         return rows::NO_ROW;
     }
     let at = b.at + 8;
-    rows::row_at(octets::part(s, at, b.len - 8), at, k)
+    rows::row_at(store_of(s, b), at, k)
 }
 
 // The name of the value in this row; empty where the row has none, or there is no such row.
@@ -105,7 +94,7 @@ pub fn has_values(s: &[u8], b: Place) -> bool
         return false;
     }
     let at = b.at + 8;
-    rows::any_value(octets::part(s, at, b.len - 8), at)
+    rows::any_value(store_of(s, b), at)
 }
 
 // The store alone, without a block around it, from rows with places in the body buffer d.
@@ -116,20 +105,19 @@ pub fn store_write(rows: &[u64], d: &[u8], out: &mut [u8]) -> Verdict
     ensures only { StoreEnds rows.now d.now out.old result out.new }
 {
     if !tests::rows_placed(rows, d.len()) {
-        return Verdict::Refused(Fault::Place, 0);
+        return Err(Refused::at(Fault::Place, 0));
     }
     if rows.len() % 6 != 0 {
-        return Verdict::Refused(Fault::Unwritable, 0);
+        return Err(Refused::at(Fault::Unwritable, 0));
     }
-    let n = tests::store_size(rows, d);
-    if n == 0 {
-        return Verdict::Refused(Fault::Unwritable, 0);
-    }
+    let Some(n) = tests::store_size(rows, d) else {
+        return Err(Refused::at(Fault::Unwritable, 0));
+    };
     if 65448 < n {
-        return Verdict::Refused(Fault::Unwritable, 0);
+        return Err(Refused::at(Fault::Unwritable, 0));
     }
     if out.len() < n {
-        return Verdict::Refused(Fault::Room, 0);
+        return Err(Refused::at(Fault::Room, 0));
     }
-    Verdict::Accepted(making::put_store(rows, d, out))
+    Ok(making::put_store(rows, d, out))
 }

@@ -5,9 +5,11 @@ ghost use Rattle.format.specs.Store.{name_length, store_tests};
 ghost use Rattle.format.specs.StoreList.{value_row, store_rows, nth_row, row_numbers, all_numbers};
 ghost use Rattle.format.specs.Blind.{has_values};
 ghost use Rattle.octets.specs.Parts.{put};
-ghost use Rattle.storing.specs.Steps.Rows.{Right, values_over, NextIs, first_cursor};
+ghost use Rattle.std.specs.Iterator.{YieldsFirst, item_count};
+ghost use Rattle.storing.specs.Steps.Rows.{Right, values_over, NextIs};
 
 use format::{Place, StoreRow};
+use std::marker::Model;
 
 pub const NO_ROW: StoreRow = StoreRow {
     kind: 0,
@@ -24,11 +26,56 @@ struct StoreCursor {
     named: bool,
 }
 
-// The row that stands at a cursor, and the cursor after it; or no row is left.
-#[derive(Clone, Copy)]
-enum NextRow {
-    Row(StoreRow, StoreCursor),
-    End,
+// The rows of a store that are left; a contract sees their list.
+#[derive(Drop)]
+pub struct Rows<'a> {
+    store: &'a [u8],
+    base: usize,
+    cursor: StoreCursor,
+}
+
+impl<'a> Model for Rows<'a> {
+    ghost use Rattle.std.specs.Prelude.{List};
+    ghost use Rattle.format.specs.declared.StoreRow.{StoreRow};
+
+    ghost Value = { List StoreRow };
+
+    ghost use Rattle.storing.specs.Steps.Walk.{left, IsRight};
+
+    ghost view = { left };
+
+    ghost invariant = { IsRight };
+}
+
+impl<'a> Rows<'a> {
+    pub fn new(store: &'a [u8], base: usize) -> Rows<'a>
+        requires { (all (store_tests 0 store.now) ≡ true) × (base + length store.now < 2 ^ 64) }
+        ensures { result ≡ store_rows base store.now }
+    {
+        Rows {
+            store,
+            base,
+            cursor: StoreCursor {
+                at: 0,
+                end: 0,
+                named: false,
+            },
+        }
+    }
+}
+
+impl<'a> Iterator for Rows<'a> {
+    type Item = StoreRow;
+
+    ghost next_gives = { YieldsFirst (λ rest. rest) };
+
+    ghost remaining = { item_count (λ rest. rest) };
+
+    fn next(&mut self) -> Option<StoreRow> {
+        let (row, after) = next_row(self.store, self.base, self.cursor)?;
+        self.cursor = after;
+        Some(row)
+    }
 }
 
 // With no storage at hand, or at the zero size that ends its values.
@@ -72,7 +119,7 @@ fn value_row(v: &[u8], at: usize, named: bool) -> StoreRow
     }
 }
 
-fn next_value(l: &[u8], base: usize, c: StoreCursor) -> NextRow
+fn next_value(l: &[u8], base: usize, c: StoreCursor) -> Option<(StoreRow, StoreCursor)>
     requires { Right l.now c × ((values_over l.now c ≡ false) × (base + length l.now < 2 ^ 64)) }
     ensures { NextIs l.now base c result }
 {
@@ -80,24 +127,17 @@ fn next_value(l: &[u8], base: usize, c: StoreCursor) -> NextRow
     let named = c.named;
     let next = at + octets::u32_at(l, at) as usize;
     let row = value_row(&l[at..next], base + at, named);
-    NextRow::Row(
-        row,
-        StoreCursor {
-            at: next,
-            end: c.end,
-            named,
-        },
-    )
+    Some((row, StoreCursor { at: next, ..c }))
 }
 
-fn next_storage(l: &[u8], base: usize, c: StoreCursor) -> NextRow
+fn next_storage(l: &[u8], base: usize, c: StoreCursor) -> Option<(StoreRow, StoreCursor)>
     requires { Right l.now c × ((values_over l.now c ≡ true) × (base + length l.now < 2 ^ 64)) }
     ensures { NextIs l.now base c result }
 {
     let at = c.end;
     let n = octets::u32_at(l, at) as usize;
     if n == 0 {
-        return NextRow::End;
+        return None;
     }
     let row = StoreRow {
         kind: 0,
@@ -108,17 +148,15 @@ fn next_storage(l: &[u8], base: usize, c: StoreCursor) -> NextRow
             len: 16,
         },
     };
-    NextRow::Row(
-        row,
-        StoreCursor {
-            at: at + 24,
-            end: at + n,
-            named: storages::is_named(l, at + 8),
-        },
-    )
+    let after = StoreCursor {
+        at: at + 24,
+        end: at + n,
+        named: storages::is_named(l, at + 8),
+    };
+    Some((row, after))
 }
 
-fn next_row(l: &[u8], base: usize, c: StoreCursor) -> NextRow
+fn next_row(l: &[u8], base: usize, c: StoreCursor) -> Option<(StoreRow, StoreCursor)>
     requires { Right l.now c × (base + length l.now < 2 ^ 64) }
     ensures { NextIs l.now base c result }
 {
@@ -128,31 +166,11 @@ fn next_row(l: &[u8], base: usize, c: StoreCursor) -> NextRow
     next_value(l, base, c)
 }
 
-fn first_cursor() -> StoreCursor
-    ensures { result ≡ first_cursor }
-{
-    StoreCursor {
-        at: 0,
-        end: 0,
-        named: false,
-    }
-}
-
 pub fn count_rows(l: &[u8], base: usize) -> usize
     requires { (all (store_tests 0 l.now) ≡ true) × (base + length l.now < 2 ^ 64) }
     ensures { (result ≡ length (store_rows base l.now)) × (result ≤ length l.now) }
 {
-    let mut c = first_cursor();
-    let mut n: usize = 0;
-    loop {
-        match next_row(l, base, c) {
-            NextRow::Row(_, d) => {
-                c = d;
-                n += 1;
-            }
-            NextRow::End => return n,
-        }
-    }
+    Rows::new(l, base).count()
 }
 
 // Whether a row is a value: the first one ends the walk.
@@ -160,18 +178,7 @@ pub fn any_value(l: &[u8], base: usize) -> bool
     requires { (all (store_tests 0 l.now) ≡ true) × (base + length l.now < 2 ^ 64) }
     ensures { result ≡ has_values (store_rows base l.now) }
 {
-    let mut c = first_cursor();
-    loop {
-        match next_row(l, base, c) {
-            NextRow::Row(r, d) => {
-                if r.kind != 0 {
-                    return true;
-                }
-                c = d;
-            }
-            NextRow::End => return false,
-        }
-    }
+    Rows::new(l, base).any(|r| r.kind != 0)
 }
 
 // The row of this number, or zeros.
@@ -179,23 +186,10 @@ pub fn row_at(l: &[u8], base: usize, k: usize) -> StoreRow
     requires { (all (store_tests 0 l.now) ≡ true) × (base + length l.now < 2 ^ 64) }
     ensures { result ≡ nth_row k (store_rows base l.now) }
 {
-    let mut c = first_cursor();
-    let mut left = k;
-    loop {
-        match next_row(l, base, c) {
-            NextRow::Row(r, d) => {
-                if left == 0 {
-                    return r;
-                }
-                c = d;
-                left -= 1;
-            }
-            NextRow::End => return NO_ROW,
-        }
-    }
+    Rows::new(l, base).nth(k).unwrap_or(NO_ROW)
 }
 
-// Its six numbers.
+// Its six numbers, into a row of numbers: an output is of bytes.
 fn put_row(rows: &mut [u64], at: usize, r: StoreRow)
     requires { at + 6 ≤ length rows.old }
     ensures { rows.new ≡ put rows.old at (row_numbers r) }
@@ -212,16 +206,7 @@ pub fn put_rows(l: &[u8], base: usize, rows: &mut [u64])
     requires { (all (store_tests 0 l.now) ≡ true) × ((base + length l.now < 2 ^ 64) × (length (all_numbers (store_rows base l.now)) ≤ length rows.old)) }
     ensures { rows.new ≡ put rows.old 0 (all_numbers (store_rows base l.now)) }
 {
-    let mut c = first_cursor();
-    let mut at: usize = 0;
-    loop {
-        match next_row(l, base, c) {
-            NextRow::Row(r, d) => {
-                put_row(rows, at, r);
-                c = d;
-                at += 6;
-            }
-            NextRow::End => return,
-        }
+    for (k, row) in Rows::new(l, base).enumerate() {
+        put_row(rows, 6 * k, row);
     }
 }

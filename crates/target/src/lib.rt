@@ -1,23 +1,25 @@
 // The target text of a shortcut, into a lent buffer.
 #![tactic(auto)]
 
-ghost use Rattle.std.specs.Prelude.{◌≡◌, true, ◌+◌, ◌≤◌, length};
-ghost use Rattle.octets.specs.Parts.{put};
-ghost use Rattle.format.specs.Numbers.{Numbered};
+ghost use Rattle.std.specs.Prelude.{◌≡◌, true, ◌+◌, ◌≤◌, length, cond, []};
+ghost use Rattle.copies.specs.Steps.Writes.{HasRoom, Writes};
 ghost use Rattle.format.specs.Bodies.{place_in, suffix_slot};
-ghost use Rattle.format.specs.Target.{targeted, has_target, target, target_answer, target_output};
+ghost use Rattle.format.specs.Contents.{bytes_at};
+ghost use Rattle.format.specs.Numbers.{Numbered};
 ghost use Rattle.format.specs.Shortcut.{reading};
-ghost use Rattle.reader.specs.Steps.Finish.{Whole};
-ghost use Rattle.target.specs.Steps.Texts.{first_text, separators, texts_of, Stands, texts_length, texts_bytes};
+ghost use Rattle.format.specs.Tests.{one_or_0};
+ghost use Rattle.format.specs.Target.{targeted, has_target, separated, backslash, target, target_answer, target_output};
+ghost use Rattle.target.specs.Steps.Texts.{first_text, texts_of, Stands, texts_length, texts_bytes};
 
-use format::{Fault, Place, Profile, Record, Verdict};
-use reader::SectionEnds;
+use copies::output::Output;
+use format::{Fault, Place, Profile, Record, Refused, Verdict};
+use reader::Outline;
 
-// The two texts, and how many separators stand between them.
+// The two texts, and whether a separator stands between them.
 #[derive(Clone, Copy)]
 pub struct Texts {
     pub first: Place,
-    pub separators: usize,
+    pub separated: bool,
     pub suffix: Place,
 }
 
@@ -47,21 +49,18 @@ fn first_text(r: Record) -> Place
     row[format::NET]
 }
 
-// One separator, or none. Only the end of the first text is looked at.
-fn separators(s: &[u8], a: Place, b: Place) -> usize
+// Only the end of the first text is looked at.
+fn separated(s: &[u8], a: Place, b: Place) -> bool
     requires { (a.at + a.len ≤ length s.now) × (b.at + b.len ≤ length s.now) }
-    ensures { result ≡ separators s.now a b }
+    ensures { result ≡ separated (bytes_at s.now a) (bytes_at s.now b) }
 {
     if b.len == 0 {
-        return 0;
+        return false;
     }
     if a.len == 0 {
-        return 0;
+        return false;
     }
-    if s[a.at + a.len - 1] == 0x5C {
-        return 0;
-    }
-    1
+    s[a.at + a.len - 1] != 0x5C
 }
 
 pub fn texts_of(s: &[u8], r: Record) -> Texts
@@ -74,41 +73,62 @@ pub fn texts_of(s: &[u8], r: Record) -> Texts
     let suffix = row[format::SUFFIX];
     Texts {
         first,
-        separators: separators(s, first, suffix),
+        separated: separated(s, first, suffix),
         suffix,
     }
 }
 
-// The same of an accepted shortcut, by where its sections end and the lengths of LinkInfo's texts.
-pub fn texts_in(s: &[u8], e: SectionEnds, texts: &[u32; 9], profile: Profile) -> Texts
-    requires { Whole profile s.now e texts.now × (has_target (reading profile s.now).held ≡ true) }
-    ensures { result ≡ texts_of s.now (reading profile s.now).held }
+// The same of an accepted shortcut.
+pub fn texts_in(o: &Outline) -> Texts
+    requires { has_target (reading o.now.profile o.now.s.now).held ≡ true }
+    ensures { result ≡ texts_of o.now.s.now (reading o.now.profile o.now.s.now).held }
 {
-    let first = reader::first_text(s, e, texts, profile);
-    let suffix = reader::suffix_text(s, e, texts, profile);
+    let first = o.first_text();
+    let suffix = o.suffix_text();
     Texts {
         first,
-        separators: separators(s, first, suffix),
+        separated: separated(o.s, first, suffix),
         suffix,
     }
 }
 
-// From the place `at` on.
-pub fn put_texts(s: &[u8], t: Texts, at: usize, out: &mut [u8])
-    requires { Stands s.now t × (at + texts_length t ≤ length out.old) }
-    ensures { out.new ≡ put out.old at (texts_bytes s.now t) }
+// How many bytes they have together.
+pub fn texts_length(t: Texts) -> usize
+    requires { texts_length t ≤ 4294967295 }
+    ensures { result ≡ texts_length t }
 {
-    let middle = at + t.first.len;
-    let last = middle + t.separators;
-    let from = t.first.at;
-    let end = from + t.first.len;
-    copies::put_bytes(out, at, &s[from..end]);
-    // Most targets are one text.
-    if t.separators + t.suffix.len == 0 {
-        return;
+    t.first.len + usize::from(t.separated) + t.suffix.len
+}
+
+// The body that stands at b.
+pub fn put_body(s: &[u8], b: Place, out: &mut Output)
+    requires { (b.at + b.len ≤ length s.now) × HasRoom out.old b.len }
+    ensures { Writes out.old out.new (bytes_at s.now b) b.len }
+{
+    let from = b.at;
+    let end = from + b.len;
+    out.put_bytes(&s[from..end]);
+}
+
+fn put_separator(there: bool, out: &mut Output)
+    requires { HasRoom out.old (one_or_0 there) }
+    ensures { Writes out.old out.new (cond there backslash []) (one_or_0 there) }
+{
+    if there {
+        out.put_bytes(b"\\");
     }
-    copies::put_bytes(out, middle, octets::part(b"\\", 0, t.separators));
-    copies::put_bytes(out, last, octets::part(s, t.suffix.at, t.suffix.len));
+}
+
+pub fn put_texts(s: &[u8], t: Texts, out: &mut Output)
+    requires { Stands s.now t × HasRoom out.old (texts_length t) }
+    ensures { Writes out.old out.new (texts_bytes s.now t) (texts_length t) }
+{
+    put_body(s, t.first, out);
+    put_separator(t.separated, out);
+    // Most targets are one text.
+    if t.suffix.len != 0 {
+        put_body(s, t.suffix, out);
+    }
 }
 
 pub fn target(s: &[u8], out: &mut [u8], profile: Profile) -> Verdict
@@ -119,21 +139,24 @@ pub fn target(s: &[u8], out: &mut [u8], profile: Profile) -> Verdict
     let mut texts = [0u32; 9];
     let mut firsts = [0u32; 11];
     let o = reader::outline_of(s, profile, &mut texts, &mut firsts);
-    let next = o.next;
-    let v = reader::verdict_of(next);
-    let Verdict::Accepted(_) = v else {
-        return v;
+    let Ok(ends) = o else {
+        return reader::verdict_of(s, o);
     };
-    let e = o.ends;
-    let flags = reader::flags_of(s, e, &texts, profile);
-    if !targeted(flags, reader::link_flags(s, e, &texts, profile)) {
-        return Verdict::Refused(Fault::NoTarget, 0);
+    let whole = Outline {
+        s,
+        profile,
+        ends,
+        texts: &texts,
+    };
+    if !targeted(whole.flags(), whole.link_flags()) {
+        return Err(Refused::at(Fault::NoTarget, 0));
     }
-    let t = texts_in(s, e, &texts, profile);
-    let n = t.first.len + t.separators + t.suffix.len;
+    let t = texts_in(&whole);
+    let n = texts_length(t);
     if out.len() < n {
-        return Verdict::Refused(Fault::Room, 0);
+        return Err(Refused::at(Fault::Room, 0));
     }
-    put_texts(s, t, 0, out);
-    Verdict::Accepted(n)
+    let mut w = Output::new(out);
+    put_texts(s, t, &mut w);
+    Ok(n)
 }

@@ -1,15 +1,14 @@
 // Lists and keys shortcuts that stand one after another on standard input, each after its length in four bytes; an accepted one is also rewritten.
 #![tactic(auto)]
 
-use format::{Profile, Verdict};
+use format::Profile;
 
 // The listing and the key; then, of an accepted one, the listing of its canonical form and the form's bytes.
 fn show(s: &[u8], profile: Profile) {
     lines::listing(s, profile);
     lines::key_line(s, profile);
     let mut out = [0u8; 65536];
-    let v = rewriting::rewrite(s, &mut out, profile);
-    let Verdict::Accepted(m) = v else {
+    let Ok(m) = rewriting::rewrite(s, &mut out, profile) else {
         return;
     };
     let w = octets::part(&out, 0, m);
@@ -34,12 +33,10 @@ fn next(room: &mut [u8], profile: Profile) -> bool {
 
 // Nothing says that the input ends, so the turns are counted.
 fn each(room: &mut [u8], profile: Profile) {
-    let mut turns: usize = 0;
-    while turns < 10000 {
+    for _ in 0..10000 {
         if !next(room, profile) {
             return;
         }
-        turns += 1;
     }
 }
 

@@ -1,7 +1,7 @@
 -- Places in the body buffer.
 use mathlib.Core.Path.{◌≡◌, sym, ◌∙◌}
-use mathlib.Core.Bool.{Bool, false}
-use Prim.Native.Nat.{ℕ, ◌+◌, ◌-◌, ◌≤◌, ◌<◌}
+use mathlib.Core.Bool.{Bool}
+use Prim.Native.Nat.{ℕ, ◌+◌, ◌-◌, ◌≤◌}
 use native.Mathlib.Omega.{arith}
 use lib.Dec.{leb}
 use borrow.Author.Tests.{le-leb, lt-leb}
@@ -13,9 +13,6 @@ inside_of n b = leb (b.at + b.len) n
 
 -- the sum is tested by a difference
 module _ (b : Place) (n : ℕ) where
-  pub past_end : n < b.len → false ≡ inside_of n b
-  past_end h = sym (lt-leb (b.at + b.len) n (omega arith))
-
   pub by_difference : b.len ≤ n → leb b.at (n - b.len) ≡ inside_of n b
   by_difference h =
       by_order (b.at + b.len) n

@@ -1,45 +1,24 @@
--- The rules of the header, of LinkInfo's numbers and of the bodies, put together from their tests.
+-- The rules of LinkInfo's numbers and of the bodies hold of a record where they hold of its contents, and all of them put together.
 use mathlib.Core.Path.{◌≡◌, refl, sym, ap, ◌∙◌}
 use mathlib.Core.List.{List, [], ◌∷◌}
-use mathlib.Core.Bool.{Bool, true, false, not, ◌&&◌, ◌||◌, cond}
+use mathlib.Core.Bool.{Bool, true, false, ◌&&◌, cond}
 use Prim.Native.Nat.{ℕ}
 use lib.Dec.{leb}
 use Rattle.format.specs.declared.Profile.{Profile}
-use Rattle.format.specs.declared.Header.{Header}
 use Rattle.format.specs.declared.Link.{Link}
 use Rattle.format.specs.declared.Record.{Record}
-use Rattle.format.specs.declared.Shape.{Shape}
 use Rattle.format.specs.Tests.{no_place}
 use Rattle.format.specs.Presence.{info_there, local_there, network_there}
 use Rattle.format.specs.Shortcut.{no_link}
-use Rattle.format.specs.Header.{flags_ok, attributes_ok}
-use Rattle.format.specs.Hotkey.{hotkey_ok}
 use Rattle.format.specs.Bodies.{table_of, along}
 use Rattle.format.specs.Contents.{present_link, present, contents}
 use Rattle.format.specs.Writing.{every, writable_if, writable_header, writable_link, writable_row, writable_bodies}
-use Rattle.format.specs.Steps.Shape.{shape_of}
+use Rattle.format.specs.Steps.Shape.{Shape, shape_of}
 use Rattle.format.proofs.Bools.{joined-every, and_assoc, and_yes}
 use Rattle.format.proofs.RowLaws.{along-contents}
 use Rattle.writable.specs.Steps.Slots.{row_ok, slots_ok, bodies_ok}
 
--- a part that is there or not, over its rule
-pub if_there : {A : Type 0} (f : A → Bool) {t : Bool} {x y : A} {r : Bool} → t ≡ true → r ≡ f x → x ≡ y → r ≡ writable_if t f y
-if_there f e q k = rw (e, ← k) q
-
-pub header_is : (profile : Profile) (h : Header) {a b c : Bool} → a ≡ flags_ok h.flags → b ≡ attributes_ok profile h.attributes → c ≡ hotkey_ok h.hotkey → (a && b && c) ≡ writable_header profile h
-header_is profile h {a} {b} {c} ea eb ec = joined-every a (b ∷ c ∷ []) ∙ rw (ea, eb, ec)
-
 -- ---- LinkInfo's numbers
-
-unless_there : (t : Bool) (m n : ℕ) → (not t || leb n m) ≡ writable_if t (λ k. leb k m) n
-unless_there true m n = refl
-unless_there false m n = refl
-
-pub link_is : (flags : ℕ) (l : Link) {i v n : Bool} → i ≡ info_there flags → v ≡ local_there l.flags → n ≡ network_there l.flags
-    → ((not i || leb l.flags 3) && (not (i && v) || leb l.drive 6) && (not (i && n) || leb l.network_flags 3)) ≡ writable_link flags l
-link_is flags l {i} {v} {n} ei ev en =
-    joined-every (not i || leb l.flags 3) ((not (i && v) || leb l.drive 6) ∷ (not (i && n) || leb l.network_flags 3) ∷ [])
-    ∙ rw (unless_there i 3 l.flags, unless_there (i && v) 6 l.drive, unless_there (i && n) 3 l.network_flags, ei, ev, en)
 
 -- by the record as by its zeros
 numbers_same : (flags : ℕ) (l : Link) (i : Bool) → info_there flags ≡ i → writable_link flags (cond i (present_link l) no_link) ≡ writable_link flags l

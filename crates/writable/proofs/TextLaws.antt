@@ -1,36 +1,24 @@
--- Bodies in the buffer, and the rules of their characters.
+-- The rules of a body of characters.
 use mathlib.Core.Path.{◌≡◌, refl, sym, ap, ◌∙◌}
-use mathlib.Core.List.{List, [], ◌∷◌}
-use mathlib.Core.Bool.{Bool, true, false, not, ◌&&◌, ◌||◌, cond}
-use Prim.Native.Nat.{ℕ, ◌+◌, ◌-◌, ◌*◌, ◌/◌, ◌%◌, ◌≤◌, ◌<◌}
+use mathlib.Core.List.{List}
+use mathlib.Core.Bool.{Bool, true, false, not, ◌&&◌, ◌||◌}
+use Prim.Native.Nat.{ℕ, ◌*◌, ◌%◌, ◌≤◌, ◌<◌}
 use native.Mathlib.Omega.{arith}
-use lib.ListN.{length, take, drop}
+use lib.ListN.{length}
 use lib.Dec.{eqb, ltb}
 use borrow.Author.Tests.{eq-eqb, ne_eqb, ltb-true, ltb-false}
 use Rattle.octets.specs.Characters.{bytes_of, units, characters, before_zero, has_zero}
 use Rattle.octets.proofs.CharacterLaws.{before_le, characters_fit}
-use Rattle.format.specs.declared.Place.{Place}
-use Rattle.format.specs.Contents.{bytes_at}
 use Rattle.format.specs.Writing.{writable_text, writable_string}
 use Rattle.format.proofs.Bools.{and_no, and_yes}
+use Rattle.canonical.specs.Steps.Puts.{characters_in}
+use Rattle.canonical.proofs.LayoutLaws.{units_count, characters_count}
 use Rattle.writable.proofs.TestLaws.{same_test}
-
--- ---- the bytes at a place
-
-pub body_whole : (d : List ℕ) (b : Place) → take (b.at + b.len - b.at) (drop b.at d) ≡ bytes_at d b
-body_whole d b = let q : b.at + b.len - b.at ≡ b.len = omega arith in rw q
 
 -- ---- whole characters
 
-units_half : (x : List ℕ) → length (units x) ≡ length x / 2
-unfolding units
-units_half [] = omega arith
-units_half (a ∷ []) = omega arith
-units_half (a ∷ b ∷ x) = omega (arith, units_half x)
-
-pub count_is : (u : Bool) (x : List ℕ) → cond u (length x / 2) (length x) ≡ length (characters u x)
-count_is true x = sym (units_half x)
-count_is false x = refl
+pub count_is : (u : Bool) (x : List ℕ) → characters_in u (length x) ≡ length (characters u x)
+count_is u x = sym (characters_count u x)
 
 -- the test by the number of bytes
 abbrev whole_of : Bool → ℕ → Bool
@@ -38,11 +26,11 @@ whole_of u n = not u || eqb (n % 2) 0
 
 whole_is : (u : Bool) (x : List ℕ) → whole_of u (length x) ≡ eqb (bytes_of u (length (characters u x))) (length x)
 whole_is true x =
-    let h = units_half x in
+    let h = units_count x in
     same_test (length x % 2) 0 (2 * length (units x)) (length x) (λ e. omega arith) (λ e. omega arith)
 whole_is false x = sym (eq-eqb (length x) (length x) refl)
 
-pub string_is : (u : Bool) (x : List ℕ) {w : Bool} {n : ℕ} → w ≡ whole_of u (length x) → n ≡ cond u (length x / 2) (length x) → (w && ltb n 65536) ≡ writable_string u x
+pub string_is : (u : Bool) (x : List ℕ) {w : Bool} {n : ℕ} → w ≡ whole_of u (length x) → n ≡ characters_in u (length x) → (w && ltb n 65536) ≡ writable_string u x
 string_is u x ew en = rw (ew ∙ whole_is u x, en ∙ count_is u x)
 
 -- ---- no zero character

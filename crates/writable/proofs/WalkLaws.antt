@@ -1,127 +1,93 @@
 -- Bodies that are walked to their end: items and blocks, each with what a written file has after them.
 use mathlib.Core.Path.{◌≡◌, refl, sym, ap, ◌∙◌}
 use mathlib.Core.List.{List, [], ◌∷◌, ◌++◌}
-use mathlib.Core.Bool.{Bool, true, false}
-use Prim.Native.Nat.{ℕ, ◌+◌, ◌≤◌, ◌<◌}
+use mathlib.Core.Bool.{Bool, true, false, ◌&&◌, cond}
+use Prim.Native.Nat.{ℕ, zero, suc, ◌+◌, ◌-◌, ◌*◌, ◌≤◌, ◌<◌}
 use native.Mathlib.Omega.{arith}
 use lib.ListN.{length, take, drop, length-append, length-drop}
-use lib.Seq.{take-length, take-append_seam, take-append-le, drop-append-le, drop_at}
-use lib.Dec.{eqb}
-use borrow.Author.Tests.{eqb-true, eq-eqb, ne_eqb, leb-true, le-leb, lt-ltb, le-ltb}
+use lib.Seq.{take_all, take-append-le, drop-append-le, drop-drop, drop_at}
+use lib.Dec.{eqb, leb}
+use borrow.Author.Tests.{ne_eqb, leb-true, le-leb, lt-leb, lt-ltb, le-ltb}
 use Rattle.octets.specs.Numbers.{number, number_at, little, u16_at, u32_at}
-use Rattle.octets.proofs.NumberLaws.{number_same, number_drop, length-little}
+use Rattle.octets.proofs.NumberLaws.{number_same, length-little}
 use Rattle.format.specs.declared.Fault.TheVariants.{Items as ITEMS}
-use Rattle.format.specs.Tests.{all, Outcome, got, refused}
-use Rattle.format.specs.Items.{item_tests, item_list}
+use Rattle.format.specs.Tests.{Outcome, got, refused}
 use Rattle.format.specs.Blocks.{slot_of, slot_at, block_rules, block_size, block_tests, a_block, block, block_step, once, blocks_after}
-use Rattle.format.specs.Steps.Wrong.{wrong}
+use Rattle.format.specs.Steps.ItemWalk.{walk}
 use Rattle.format.specs.Shortcut.{sum}
 use Rattle.format.specs.Writing.{writable_items, takes, writable_blocks}
-use Rattle.format.proofs.Bools.{and_no, same_truth, by_order, clash}
-use Rattle.format.proofs.Chains.{Pass, pass, all-Pass, Pass-all, no_value}
-use Rattle.format.proofs.WrongLaws.{none_wrong, Pass-none}
-use Rattle.format.proofs.ItemsLaws.{tests_walk, item_Faults}
+use Rattle.format.proofs.Bools.{and_no, clash}
+use Rattle.format.proofs.Chains.{Pass, pass, no_value}
+use Rattle.format.proofs.ItemsLaws.{tests_walk}
 use Rattle.format.proofs.BlockLaws.{the_end, step_elim, blocks_Walked}
-use Rattle.items.proofs.Laws.{Come, Come-start, items_end, items_lack, items_stop, items_more}
 use Rattle.blocks.specs.Steps.Walk.{NoMore, after, Passed}
 use Rattle.writable.proofs.TestLaws.{same_test}
 
--- ---- numbers and parts of a body are those of the body with something after it
-
-module _ (x y : List ℕ) where
-  number_front : (w p : ℕ) → p + w ≤ length x → number_at w x p ≡ number_at w (x ++ y) p
-  number_front w p h = number_same w (length x) x (x ++ y) p (take-length x ∙ sym (take-append_seam x y)) h
-
-  number_end : (w p : ℕ) → p ≡ length x → number_at w (x ++ y) p ≡ number_at w y 0
-  number_end w p e =
-      let q : p + 0 ≡ p = omega arith in
-      sym (rw q at (number_drop w p (x ++ y) 0)) ∙ ap (λ (l : List ℕ). number_at w l 0) (drop_at x y p (sym e))
-
 -- ---- items
 
-zero_item : u16_at (0 ∷ 0 ∷ []) 0 ≡ 0
-unfolding number_at number
-zero_item = refl
+-- what is left of a body decides, by the walk over it and the two zero bytes that are written after it
+unfoldable pub items_left : List ℕ → Bool
+items_left r = walk 0 (r ++ 0 ∷ 0 ∷ [])
 
--- a list is one where no place is wrong
-list_none : (l : List ℕ) → eqb (wrong (item_tests ITEMS 2 0 l)) 0 ≡ item_list l
-list_none l =
-    let ts = item_tests ITEMS 2 0 l in
-    let moved : all ts ≡ item_list l = tests_walk ITEMS 2 0 l ∙ sym (tests_walk ITEMS 0 0 l) in
-    same_truth (eqb (wrong ts) 0) (item_list l)
-    (λ e. sym moved ∙ Pass-all ts (none_wrong ITEMS ts (item_Faults ITEMS 2 0 l (omega arith)) (eqb-true (wrong ts) 0 e)))
-    (λ e. eq-eqb (wrong ts) 0 (Pass-none ts (all-Pass ts (moved ∙ e))))
+pub items_all : (x : List ℕ) → length x ≤ 65533 → items_left x ≡ writable_items x
+unfolding items_left
+items_all x h = rw (lt-ltb (length x + 2) 65536 (omega arith)) (sym (tests_walk ITEMS 0 0 (x ++ 0 ∷ 0 ∷ [])))
 
--- the walk over the body and the two zero bytes after it has come to p
-pub record OnItems (x : List ℕ) (p : ℕ) : Type 0 where
-  pub short : length x ≤ 65533
-  pub item : ℕ
-  pub come : Come (x ++ 0 ∷ 0 ∷ []) 2 item p (wrong (item_tests ITEMS 2 0 (x ++ 0 ∷ 0 ∷ [])))
+pub items_long : (x : List ℕ) → 65533 < length x → false ≡ writable_items x
+items_long x h = rw (le-ltb (length x + 2) 65536 (omega arith))
 
-module _ (x : List ℕ) where
-  pub items_long : 65533 < length x → false ≡ writable_items x
-  items_long h = rw (le-ltb (length x + 2) 65536 (omega arith))
+-- an item ends in what is left, or passes its end
+walk_on : (k : ℕ) (r : List ℕ) → k ≤ length r → walk k (r ++ 0 ∷ 0 ∷ []) ≡ items_left (drop k r)
+unfolding items_left walk
+walk_on zero r h = refl
+walk_on (suc k) [] h = absurd (omega arith)
+walk_on (suc k) (a ∷ r) h = walk_on k r (omega arith)
 
-  pub items_begin : length x ≤ 65533 → OnItems x 0
-  items_begin h = record { short = h; item = 0; come = Come-start (x ++ 0 ∷ 0 ∷ []) 2 0 }
+walk_past : (k : ℕ) (r : List ℕ) → length r < k → walk k (r ++ 0 ∷ 0 ∷ []) ≡ false
+unfolding walk
+walk_past zero r h = absurd (omega arith)
+walk_past (suc zero) [] h = refl
+walk_past (suc (suc zero)) [] h = refl
+walk_past (suc (suc (suc k))) [] h = refl
+walk_past (suc k) (a ∷ r) h = walk_past k r (omega arith)
 
-  module _ (p : ℕ) (o : OnItems x p) where
-    abbrev s : List ℕ
-    s = x ++ 0 ∷ 0 ∷ []
+-- one byte is no item
+pub items_none : (r : List ℕ) → length r < 2 → items_left r ≡ eqb (length r) 0
+unfolding items_left walk
+items_none [] h = refl
+items_none (a ∷ []) h = go (eqb (a + 256 * 0) 0) (a + 256 * 0 - 2)
+  where
+    go : (t : Bool) (k : ℕ) → cond t false (leb 2 (a + 256 * 0) && walk k (0 ∷ [])) ≡ false
+    go true k = refl
+    go false zero = and_no (leb 2 (a + 256 * 0))
+    go false (suc zero) = and_no (leb 2 (a + 256 * 0))
+    go false (suc (suc k)) = and_no (leb 2 (a + 256 * 0))
+items_none (a ∷ b ∷ r) h = absurd (omega arith)
 
-    abbrev found : ℕ
-    found = wrong (item_tests ITEMS 2 0 s)
+-- by the size n at the start
+items_sized : (r : List ℕ) (n : ℕ) → 2 ≤ length r → n ≡ u16_at r 0 → items_left r ≡ (leb 2 n && walk (n - 2) (drop 2 r ++ 0 ∷ 0 ∷ []))
+unfolding items_left walk number_at number
+items_sized [] n h e = absurd (omega arith)
+items_sized (a ∷ []) n h e = absurd (omega arith)
+items_sized (a ∷ b ∷ r) n h e =
+    let q : a + 256 * b ≡ n = omega arith in
+    rw (q, length-append r (0 ∷ 0 ∷ [])) (go n)
+  where
+    go : (n : ℕ) → cond (eqb n 0) (eqb (length r + 2) 0) (leb 2 n && walk (n - 2) (r ++ 0 ∷ 0 ∷ [])) ≡ (leb 2 n && walk (n - 2) (r ++ 0 ∷ 0 ∷ []))
+    go zero = ne_eqb (length r + 2) 0 (λ e. omega arith)
+    go (suc n) = rw (ne_eqb (suc n) 0 (λ e. omega arith))
 
-    whole : length s ≡ length x + 2
-    whole = length-append x (0 ∷ 0 ∷ [])
+module _ (r : List ℕ) (n : ℕ) (some : 2 ≤ length r) (size : n ≡ u16_at r 0) where
+  pub items_small : n < 2 → items_left r ≡ false
+  items_small h = items_sized r n some size ∙ rw (lt-leb 2 n h)
 
-    answer : eqb found 0 ≡ writable_items x
-    answer = rw (lt-ltb (length x + 2) 65536 (omega (arith, o.short))) (list_none s)
+  pub items_past : 2 ≤ n → length r < n → items_left r ≡ false
+  items_past o h = items_sized r n some size ∙ rw (le-leb 2 n o, walk_past (n - 2) (drop 2 r) (simp length-drop (omega arith)))
 
-    -- a place is wrong
-    refuses : (j : ℕ) → 2 + j ≡ found → false ≡ writable_items x
-    refuses j e = sym (ne_eqb found 0 (λ z. omega arith)) ∙ answer
-
-    -- no size is left where one is due
-    lacks : {q j : ℕ} → Come s 2 q j found → length s < j + 2 → false ≡ writable_items x
-    lacks {q} {j} c h = by_order j (length s) (λ k. refuses j (items_lack s c h k)) (λ k. refuses q (items_end s c h k))
-
-    module _ {n : ℕ} (fits : p + 2 ≤ length x) (e : n ≡ u16_at x p) where
-      size : n ≡ u16_at s p
-      size = e ∙ number_front x (0 ∷ 0 ∷ []) 2 p fits
-
-      pub on_small_item : n < 2 → false ≡ writable_items x
-      on_small_item h =
-          let w = whole in
-          let no : eqb p (length x) ≡ false = ne_eqb p (length x) (λ q. omega arith) in
-          refuses p (rw (no, and_no) at (items_stop s o.come (omega arith) size h (length x) (omega arith)))
-
-      pub on_more_items : 2 ≤ n → OnItems x (p + n)
-      on_more_items h = let w = whole in record { short = o.short; item = p; come = items_more s o.come (omega arith) size h }
-
-    -- where the body ends, its two zero bytes stand; one byte left over is no item
-    pub on_last_item : length x < p + 2 → eqb p (length x) ≡ writable_items x
-    on_last_item h =
-        let w = whole in
-        by_order p (length x)
-        (λ g. by_order 2 (u16_at s p) (λ k. more g k) (λ k. stop g k (eqb p (length x)) refl))
-        (λ g. ne_eqb p (length x) (λ q. omega arith) ∙ lacks o.come (omega arith))
-      where
-        more : p ≤ length x → 2 ≤ u16_at s p → eqb p (length x) ≡ writable_items x
-        more g k =
-            let w = whole in
-            let no : p ≡ length x → ⊥ = λ q. omega (arith, number_end x (0 ∷ 0 ∷ []) 2 p q, zero_item) in
-            ne_eqb p (length x) no ∙ lacks (items_more s o.come (omega arith) refl k) (omega arith)
-
-        stop : p ≤ length x → u16_at s p < 2 → (b : Bool) → eqb p (length x) ≡ b → b ≡ writable_items x
-        stop g k true e =
-            let w = whole in
-            let z : u16_at s p ≡ 0 = number_end x (0 ∷ 0 ∷ []) 2 p (eqb-true p (length x) e) ∙ zero_item in
-            let f : 0 ≡ found = rw (z, e) at (items_stop s o.come (omega arith) refl k (length x) (omega arith)) in
-            sym (eq-eqb found 0 (sym f)) ∙ answer
-        stop g k false e =
-            let w = whole in
-            refuses p (rw (e, and_no) at (items_stop s o.come (omega arith) refl k (length x) (omega arith)))
+  pub items_next : 2 ≤ n → n ≤ length r → items_left (take (length r - n) (drop n r)) ≡ items_left r
+  items_next o h =
+      let e : 2 + (n - 2) ≡ n = omega arith in
+      ap items_left (take_all (length r - n) (drop n r) (simp length-drop (omega arith))) ∙ sym (items_sized r n some size ∙ rw (le-leb 2 n o, walk_on (n - 2) (drop 2 r) (simp length-drop (omega arith))) (ap items_left (drop-drop (n - 2) 2 r ∙ ap (λ (k : ℕ). drop k r) e)))
 
 -- ---- blocks
 

@@ -19,27 +19,20 @@ use format::{Header, Link, Place, Profile, Record, Shape};
 pub fn inside(b: Place, n: usize) -> bool
     ensures { result ≡ leb (b.at + b.len) n }
 {
-    if n < b.len {
-        return false;
-    }
-    b.at <= n - b.len
+    b.len <= n && b.at <= n - b.len
 }
 
 // Every body that is there lies in a buffer of n bytes.
+#[tactic(auto, using(crate::proofs::SlotLaws::placed_one))]
 pub fn placed(q: Record, s: Shape, n: usize) -> bool
     requires { s ≡ shape_of q.header.flags q.link }
     ensures { result ≡ placed n q }
 {
-    let there = s.there;
     let row = q.places;
-    let mut k: usize = 0;
-    while k < 17 {
-        if there[k] {
-            if !inside(row[k], n) {
-                return false;
-            }
+    for k in 0..17 {
+        if s[k].there && !inside(row[k], n) {
+            return false;
         }
-        k += 1;
     }
     true
 }
@@ -51,16 +44,7 @@ fn body(d: &[u8], b: Place) -> &[u8]
     requires { InBuffer d.now b }
     ensures { result.now ≡ bytes_at d.now b }
 {
-    let at = b.at;
-    let end = at + b.len;
-    &d[at..end]
-}
-
-// How many whole characters n bytes are.
-fn count(unicode: bool, n: usize) -> usize
-    ensures { result ≡ cond unicode (n / 2) n }
-{
-    if unicode { n / 2 } else { n }
+    &d[b.at..][..b.len]
 }
 
 // Whole characters: in Unicode an even number of bytes.
@@ -78,31 +62,32 @@ pub fn text_ok(unicode: bool, x: &[u8]) -> bool
 }
 
 // Whole characters, as many as a count of two bytes can hold.
+#[tactic(auto, using(crate::proofs::TextLaws::string_is))]
 fn string_ok(unicode: bool, x: &[u8]) -> bool
     ensures { result ≡ writable_string unicode x.now }
 {
     let n = x.len();
-    whole(unicode, n) & (count(unicode, n) < 65536)
+    whole(unicode, n) & (canonical::characters_in(unicode, n) < 65536)
 }
 
 // Items, each with a size of two bytes that counts itself, up to the end.
+#[tactic(auto, using(crate::proofs::WalkLaws::items_long, crate::proofs::WalkLaws::items_all, crate::proofs::WalkLaws::items_none, crate::proofs::WalkLaws::items_small, crate::proofs::WalkLaws::items_past, crate::proofs::WalkLaws::items_next))]
 fn items_ok(x: &[u8]) -> bool
     ensures { result ≡ writable_items x.now }
 {
-    let n = x.len();
-    if 65533 < n {
+    if 65533 < x.len() {
         return false;
     }
-    // Where the size of the item ends that is due.
-    let mut p: usize = 2;
-    while p <= n {
-        let size = octets::u16_at(x, p - 2) as usize;
-        if size < 2 {
+    let mut rest = x;
+    // No index is counted: the step is the size that stands there.
+    while 2 <= rest.len() {
+        let size = octets::u16_at(rest, 0) as usize;
+        if size < 2 || rest.len() < size {
             return false;
         }
-        p += size;
+        rest = &rest[size..];
     }
-    p == n + 2
+    rest.is_empty()
 }
 
 // Blocks up to the end, with no terminal block among them. What the walk notes on its way serves nobody here.
@@ -147,7 +132,7 @@ fn items_if(there: bool, b: Place, d: &[u8]) -> bool
     requires { there ≡ true → InBuffer d.now b }
     ensures { result ≡ writable_if there writable_items (bytes_at d.now b) }
 {
-    if there { items_ok(body(d, b)) } else { true }
+    !there || items_ok(body(d, b))
 }
 
 // LinkInfo's texts stand before the strings.
@@ -155,43 +140,39 @@ fn slot_ok(k: usize, unicode: bool, x: &[u8]) -> bool
     ensures { result ≡ writable_body (kind_at k unicode) x.now }
 {
     if k < format::STRINGS {
-        return text_ok(unicode, x);
+        text_ok(unicode, x)
+    } else {
+        string_ok(unicode, x)
     }
-    string_ok(unicode, x)
 }
 
 // The bodies of characters in the slots from one to before another.
+#[tactic(auto, using(crate::proofs::SlotLaws::slots_each, crate::proofs::SlotLaws::slots_one))]
 fn slots_ok(row: [Place; 17], s: Shape, d: &[u8], from: usize, to: usize) -> bool
     requires inside { RowInBuffer d.now row s }
     requires span { (from ≤ to) × (to ≤ 17) }
     ensures { result ≡ slots_ok d.now row s from (to - from) }
 {
-    let there = s.there;
-    let wide = s.wide;
-    let mut k = from;
-    while k < to {
-        if there[k] {
-            if !slot_ok(k, wide[k], body(d, row[k])) {
-                return false;
-            }
+    for k in from..to {
+        if s[k].there && !slot_ok(k, s[k].wide, body(d, row[k])) {
+            return false;
         }
-        k += 1;
     }
     true
 }
 
 // Texts and strings apart, so that the compiler unrolls both walks.
+#[tactic(auto, unfolding(crate::specs::Steps::Slots::bodies_ok))]
 fn bodies_ok(row: [Place; 17], s: Shape, long: bool, d: &[u8]) -> bool
     requires inside { RowInBuffer d.now row s }
     requires blocks { InBuffer d.now (get_or row blocks_slot no_place) }
     ensures { result ≡ bodies_ok d.now row s long }
 {
-    let there = s.there;
-    items_if(there[format::ITEMS], row[format::ITEMS], d)
+    items_if(s[format::ITEMS].there, row[format::ITEMS], d)
         & slots_ok(row, s, d, format::LABEL, format::STRINGS)
         & slots_ok(row, s, d, format::STRINGS, format::BLOCKS)
         & blocks_ok(body(d, row[format::BLOCKS]))
-        & further_if(there[format::FURTHER], long, row[format::FURTHER], d)
+        & further_if(s[format::FURTHER].there, long, row[format::FURTHER], d)
 }
 
 // ---- the whole
@@ -206,8 +187,7 @@ pub fn writable(q: Record, s: Shape, end: u32, d: &[u8], profile: Profile) -> bo
     if 65536 < end {
         return false;
     }
-    let row = q.places;
     header_ok(q.header, profile)
         & link_ok(q.header.flags, q.link)
-        & bodies_ok(row, s, q.link.long, d)
+        & bodies_ok(q.places, s, q.link.long, d)
 }

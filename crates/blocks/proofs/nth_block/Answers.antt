@@ -1,47 +1,18 @@
+use mathlib.Core.Path.{◌≡◌, sym, ap, ◌∙◌}
 use native.Mathlib.Omega.{arith}
-use mathlib.Core.Path.{refl, ◌∙◌}
-use Rattle.blocks.proofs.StepLaws.{tail_part, by_block}
-use Rattle.blocks.proofs.NthLaws.{none_outside, none_ended, none_refused, nth_fits, block_here, block_next}
+use lib.ListN.{drop}
+use Rattle.std.specs.Prelude.{Some, Ok}
+use Rattle.blocks.specs.Steps.Walk.{by_size}
+use Rattle.blocks.proofs.WalkLaws.{rest_on}
+use Rattle.blocks.proofs.NthLaws.{step_is, block_next, sized_fits}
 use Rattle.blocks.proofs.nth_block.Goals as goal
 
-pub returns-then-s-from : goal.returns-then-s-from
-returns-then-s-from c = none_outside _ _ _ c.if-s-from.true
-
-pub loop-n-init : goal.loop-n-init
-loop-n-init c = (omega arith, refl)
-
-pub slice_bounds-step-count : goal.slice_bounds-step-count
-slice_bounds-step-count c = omega arith
-
-pub slice_bounds-step-start : goal.slice_bounds-step-start
-slice_bounds-step-start c = omega arith
-
-pub slice_bounds-step-end : goal.slice_bounds-step-end
-slice_bounds-step-end c = omega arith
-
-pub returns-then-left-eq0 : goal.returns-then-left-eq0
-returns-then-left-eq0 c =
-    block_here _ _ (rw tail_part at c.step.ensures) c.in-Block.is _ c.if-left-eq0.true ∙ c.loop-n.invariant.1
-
-pub overflow_sub-left : goal.overflow_sub-left
-overflow_sub-left c = omega arith
-
-pub overflow_add-p : goal.overflow_add-p
-overflow_add-p c =
-    let z = by_block _ (rw tail_part at c.step.ensures) c.in-Block.is in let I = c.loop-n.invariant in omega (arith, nth_fits _ _ I.0 z)
-
-pub loop-n-smaller : goal.loop-n-smaller
-loop-n-smaller c =
-    let z = by_block _ (rw tail_part at c.step.ensures) c.in-Block.is in let I = c.loop-n.invariant in omega (arith, nth_fits _ _ I.0 z, z.least)
-
-pub loop-n-preserved : goal.loop-n-preserved
-loop-n-preserved c =
-    let e = rw tail_part at c.step.ensures in
-    let I = c.loop-n.invariant in
-    (nth_fits _ _ I.0 (by_block _ e c.in-Block.is), block_next _ _ e c.in-Block.is _ c.if-left-eq0.false ∙ I.1)
-
-pub returns-in-Terminal : goal.returns-in-Terminal
-returns-in-Terminal c = none_ended _ _ (rw tail_part at c.step.ensures) _ c.in-Terminal.is ∙ c.loop-n.invariant.1
-
-pub returns-in-Refused : goal.returns-in-Refused
-returns-in-Refused c = none_refused _ _ (rw tail_part at c.step.ensures) _ c.in-Refused.is ∙ c.loop-n.invariant.1
+pub loop-preserved : goal.loop-preserved
+loop-preserved c =
+    let I = c.loop.invariant in
+    let e : Ok (Some c.in_ok-b.b) ≡ by_size (drop c.loop.at c.args.s.now) = step_is _ _ c.step.ensures c.in_ok-ok.ensures.value c.in_ok-b.was ∙ ap by_size I.here in
+    record {
+      inside = sized_fits c.args.s.now c.loop.at c.in_ok-b.b e I.inside;
+      here = rest_on c.args.s.now c.loop.rest.now c.loop.at c.in_ok-b.b.len I.here;
+      same = sym (block_next c.args.s.now c.loop.at c.in_ok-b.b e c.args.k c.loop.counter (omega arith)) ∙ I.same;
+    }

@@ -1,6 +1,5 @@
--- Both texts lie inside 788 bytes, and each is asked for its own zero.
+-- The first text is asked for its zero before the second.
 use Rattle.blocks.proofs.path_wrong.Goals as goal
 
-pub returns : goal.returns
-returns c =
-    rw (c.unless-2.ensures, c.unless.ensures, c.has_zero-units.ensures, c.has_zero-bytes.ensures)
+pub returns-then-not-has_zero-clause-is : goal.returns-then-not-has_zero-clause-is
+returns-then-not-has_zero-clause-is c = rw (← c.has_zero.ensures, c.if-not-has_zero.true)

@@ -4,8 +4,8 @@ use lib.ListN.{length, drop}
 use Rattle.blocks.specs.Steps.Walk.{Passed}
 use Rattle.blocks.proofs.run.Given as goal
 
-abbrev pub invariant-loop-n : goal.invariant-loop-n
-invariant-loop-n l = (l.rest ≡ drop l.p l.s) × Passed l.s l.start l.p l.firsts
+abbrev pub invariant-loop-b : goal.invariant-loop-b
+invariant-loop-b l = record { here : l.rest ≡ drop l.p l.s; passed : Passed l.s l.start l.p l.firsts }
 
-abbrev pub decreases-loop-n : goal.decreases-loop-n
-decreases-loop-n l = length l.rest
+abbrev pub decreases-loop-b : goal.decreases-loop-b
+decreases-loop-b l = length l.rest

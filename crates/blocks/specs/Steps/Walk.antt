@@ -1,25 +1,20 @@
 -- What the walks over blocks answer, in terms of reading.
-use Rattle.std.specs.Prelude.{ℕ, zero, suc, ◌+◌, ◌-◌, ◌≤◌, ◌≡◌, List, [], ◌∷◌, ◌++◌, Bool, true, false, ◌||◌, cond, length, drop, get_or, set, eqb, leb, ltb}
+use Rattle.std.specs.Prelude.{ℕ, zero, suc, ◌+◌, ◌-◌, ◌≤◌, ◌≡◌, List, [], ◌∷◌, ◌++◌, Bool, true, false, cond, length, drop, get_or, set, eqb, leb, ltb, Option, Some, None, IfSome, Result, Ok, Err}
 use Rattle.octets.specs.Numbers.{u32_at}
 use Rattle.format.specs.declared.Fault.{Fault}
 use Rattle.format.specs.declared.Fault.TheVariants.{Cut as CUT, Block as BLOCK, Twice as TWICE}
 use Rattle.format.specs.declared.Place.{Place}
 use Rattle.format.specs.declared.Spot.{Spot}
+use Rattle.format.specs.declared.Refusal.{Refusal}
+use Rattle.octets.specs.declared.Cursor.{Cursor}
 use Rattle.format.specs.Tests.{◌else◌at◌, Site, spot_at, tests, Outcome, got, refused, and_then, place, no_place}
 use Rattle.format.specs.Blocks.{slot_of, size_fits, inside_tests, slot_at, block_size, Standing, a_block, a_terminal, block, terminal, block_step, once, blocks_after, blocks}
 use Rattle.format.specs.Numbers.{number_of}
 use Rattle.format.specs.Steps.Firsts.{firsts}
 use Rattle.format.specs.Steps.Wrong.{wrong, held_fault}
-use Rattle.format.specs.Steps.Answers.{Answers, taken_number, taken_value}
+use Rattle.format.specs.Steps.Answers.{Answers, refusal, taken_number, taken_value}
 use Rattle.format.specs.Shortcut.{most, sum}
-use Rattle.blocks.specs.declared.BlockStep.{BlockStep}
-use Rattle.blocks.specs.declared.BlockStep.TheVariants.{Block, Terminal, Refused as NotOne}
-use Rattle.format.specs.declared.Taken.{Taken}
-use Rattle.format.specs.declared.Taken.TheVariants.{Got, Refused}
-
--- the slots of blocks that have a rule for what they hold: two texts, a store, or items
-abbrev pub has_rule : ℕ → Bool
-has_rule slot = eqb slot 0 || eqb slot 5 || eqb slot 6 || eqb slot 8 || eqb slot 10
+use Rattle.blocks.specs.declared.Block.{Block}
 
 -- ---- the step, at the start of s
 
@@ -31,10 +26,14 @@ pub record Sized (s : List ℕ) (n k : ℕ) : Type 0 where
   pub slot : k ≡ slot_of (u32_at s 4)
   pub fits : size_fits k n ≡ true
 
+-- a block, none but the terminal, or a fault
+abbrev pub BlockStep : Type 0
+BlockStep = Result (Option Block) Fault
+
 abbrev pub step_of : ℕ → Outcome Standing → BlockStep
-step_of slot (got a_block n) = Block n slot
-step_of slot (got a_terminal n) = Terminal
-step_of slot (refused f q) = NotOne f
+step_of slot (got a_block n) = Ok (Some (record { len = n; slot = slot }))
+step_of slot (got a_terminal n) = Ok None
+step_of slot (refused f q) = Err f
 
 -- the step of reading, but what a block holds is not looked at
 abbrev pub size_step : List ℕ → Outcome Standing
@@ -47,15 +46,14 @@ unfoldable pub by_size : List ℕ → BlockStep
 by_size s = step_of (slot_at s) (size_step s)
 
 unfoldable pub step_number : BlockStep → ℕ
-step_number (Block n k) = 0
-step_number Terminal = 0
-step_number (NotOne f) = number_of f
+step_number (Ok b) = 0
+step_number (Err f) = number_of f
 
 -- where the block or the terminal ends; a refusal is at its start
 unfoldable pub step_value : BlockStep → ℕ
-step_value (Block n k) = n
-step_value Terminal = 4
-step_value (NotOne f) = 0
+step_value (Ok (Some b)) = b.len
+step_value (Ok None) = 4
+step_value (Err f) = 0
 
 abbrev pub StepAnswer : List ℕ → BlockStep → Type 0
 StepAnswer s t = Answers step_number step_value 0 (size_step s) (by_size s) t
@@ -66,15 +64,15 @@ step_site p left = cond (leb 4 left) (block p) (terminal p)
 
 -- what reading says of that step
 abbrev pub Told : List ℕ → BlockStep → Type 0
-Told s (Block n k) = Sized s n k
-Told s Terminal = (p : ℕ) → block_step p s ≡ got a_terminal 4
-Told s (NotOne f) = (p : ℕ) → block_step p s ≡ refused f (spot_at (step_site p (length s)) 0)
+Told s (Ok (Some b)) = Sized s b.len b.slot
+Told s (Ok None) = (p : ℕ) → block_step p s ≡ got a_terminal 4
+Told s (Err f) = (p : ℕ) → block_step p s ≡ refused f (spot_at (step_site p (length s)) 0)
 
 -- what stands here; where a refusal stands is not told
-abbrev pub Stands : List ℕ → BlockStep → Type 0
-Stands s (Block n k) = Sized s n k × ((p : ℕ) → block_step p s ≡ got a_block n)
-Stands s Terminal = (p : ℕ) → block_step p s ≡ got a_terminal 4
-Stands s (NotOne f) = (p : ℕ) → (q : Spot) × (block_step p s ≡ refused f q)
+unfoldable pub Stands : List ℕ → BlockStep → Type 0
+Stands s (Ok (Some b)) = Sized s b.len b.slot × ((p : ℕ) → block_step p s ≡ got a_block b.len)
+Stands s (Ok None) = (p : ℕ) → block_step p s ≡ got a_terminal 4
+Stands s (Err f) = (p : ℕ) → (q : Spot) × (block_step p s ≡ refused f q)
 
 -- ---- the walk
 
@@ -132,35 +130,34 @@ pub record Passed (s : List ℕ) (a p : ℕ) (row : List ℕ) : Type 0 where
   pub first : length s ≤ most → row ≡ firsts s a lengths
 
 -- what stands from p up to the terminal, as a single body
-abbrev pub blocks_taken : ℕ → Outcome (List ℕ) → Taken
-blocks_taken p (got lengths n) = Got (place p (sum lengths)) (record { at = p + n })
-blocks_taken p (refused f q) = Refused f q
+abbrev pub blocks_taken : ℕ → Outcome (List ℕ) → Result (Place × Cursor) Refusal
+blocks_taken p (got lengths n) = Ok (place p (sum lengths), record { at = p + n })
+blocks_taken p (refused f q) = Err (refusal f q)
 
 -- after a refusal nothing is noted
 abbrev pub firsts_by : List ℕ → ℕ → Outcome (List ℕ) → List ℕ
 firsts_by s p (got lengths n) = firsts s p lengths
 firsts_by s p (refused f q) = no_firsts
 
-unfoldable pub blocks_at : List ℕ → ℕ → Taken
+unfoldable pub blocks_at : List ℕ → ℕ → Result (Place × Cursor) Refusal
 blocks_at s p = blocks_taken p (blocks p (drop p s))
 
 unfoldable pub blocks_firsts : List ℕ → ℕ → List ℕ
 blocks_firsts s p = firsts_by s p (blocks p (drop p s))
 
-abbrev pub BlocksAnswer : List ℕ → ℕ → Taken → Type 0
+abbrev pub BlocksAnswer : List ℕ → ℕ → Result (Place × Cursor) Refusal → Type 0
 BlocksAnswer s p r = Answers taken_number taken_value p (blocks p (drop p s)) (blocks_at s p) r
 
-abbrev pub read_to : ℕ → ℕ → Taken
-read_to a p = Got (place a (p - a)) (record { at = p + 4 })
+abbrev pub read_to : ℕ → ℕ → Result (Place × Cursor) Refusal
+read_to a p = Ok (place a (p - a), record { at = p + 4 })
 
-abbrev pub stopped_at : Fault → Spot → Taken
-stopped_at f q = Refused f q
+-- of a block at p whose sizes are right: the field found wrong of what it holds; or none is, and it is the second of its kind
+abbrev pub wrong_or_twice : ℕ → ℕ → Option ℕ → Refusal
+wrong_or_twice slot p (Some field) = refusal (held_fault slot) (spot_at (block p) field)
+wrong_or_twice slot p None = refusal TWICE (spot_at (block p) 4)
 
--- a block b at p whose sizes are right: what it holds is wrong, or it is the second of its kind
-unfoldable pub wrong_block : ℕ → List ℕ → ℕ → Taken
-wrong_block slot b p =
-    let field = wrong (inside_tests slot b) in
-    cond (eqb field 0) (stopped_at TWICE (spot_at (block p) 4)) (stopped_at (held_fault slot) (spot_at (block p) field))
+unfoldable pub wrong_block : ℕ → List ℕ → ℕ → Refusal
+wrong_block slot b p = wrong_or_twice slot p (wrong (inside_tests slot b))
 
 -- ---- one of the blocks
 
@@ -168,24 +165,24 @@ wrong_block slot b p =
 unfoldable pub block_from : List ℕ → ℕ → Place
 block_from s field = cond (ltb field 4) no_place (place (field - 4) (u32_at s (field - 4)))
 
--- what is made of a block's size; the empty place where there is no block
-abbrev pub if_block : BlockStep → (ℕ → Place) → Place
-if_block (Block n k) f = f n
-if_block Terminal f = no_place
-if_block (NotOne e) f = no_place
+-- what is made of a block's size; none where there is no block
+abbrev pub if_block : BlockStep → (ℕ → Option Place) → Option Place
+if_block (Ok (Some b)) f = f b.len
+if_block (Ok None) f = None
+if_block (Err e) f = None
 
 -- the block number k from p on, by their sizes
-unfoldable pub nth_block : List ℕ → ℕ → ℕ → Place
-nth_block s p zero = if_block (by_size (drop p s)) (λ n. place p n)
+unfoldable pub nth_block : List ℕ → ℕ → ℕ → Option Place
+nth_block s p zero = if_block (by_size (drop p s)) (λ n. Some (place p n))
 nth_block s p (suc k) = if_block (by_size (drop p s)) (λ n. nth_block s (p + n) k)
 
 -- the place of number k, of blocks of these lengths from p on
-abbrev pub nth_place : ℕ → List ℕ → ℕ → Place
-nth_place p [] k = no_place
-nth_place p (n ∷ ns) zero = place p n
+abbrev pub nth_place : ℕ → List ℕ → ℕ → Option Place
+nth_place p [] k = None
+nth_place p (n ∷ ns) zero = Some (place p n)
 nth_place p (n ∷ ns) (suc k) = nth_place (p + n) ns k
 
 -- b stands inside s; and where the blocks from p on are read, it is number k of them
-pub record NthOf (s : List ℕ) (p k : ℕ) (b : Place) : Type 0 where
-  pub inside : b.at + b.len ≤ length s
+pub record NthOf (s : List ℕ) (p k : ℕ) (b : Option Place) : Type 0 where
+  pub inside : IfSome b (λ x. x.at + x.len ≤ length s)
   pub is : (before lengths : List ℕ) (n : ℕ) → blocks_after before p (drop p s) ≡ got lengths n → b ≡ nth_place p lengths k

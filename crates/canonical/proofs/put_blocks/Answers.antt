@@ -1,8 +1,6 @@
--- The blocks are their body and then the terminal block, a zero of four bytes.
-use Rattle.octets.proofs.WroteLaws.{join, reword}
-use native.Mathlib.Omega.{arith}
-use mathlib.Core.Path.{refl}
+-- The blocks and the terminal block, a zero of four bytes, end to end.
+use Rattle.copies.proofs.OutputLaws.{join}
 use Rattle.canonical.proofs.put_blocks.Goals as goal
 
 pub returns : goal.returns
-returns c = record { written = reword (join c.put_body-p.ensures c.add_u32.ensures) refl (omega arith) }
+returns c = join c.put_bytes.ensures c.put_u32.ensures

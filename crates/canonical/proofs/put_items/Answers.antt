@@ -1,8 +1,9 @@
--- The items are their size, their body and an end of two zero bytes; they are few enough that the size fits in two bytes.
-use Rattle.canonical.proofs.LayoutLaws.{items_is}
-use Rattle.octets.proofs.WroteLaws.{join, reword}
+-- The size, the items and the zero of two bytes, end to end.
 use native.Mathlib.Omega.{arith}
+use Rattle.copies.proofs.OutputLaws.{join, reword}
+use Rattle.canonical.proofs.LayoutLaws.{items_is}
 use Rattle.canonical.proofs.put_items.Goals as goal
 
 pub returns : goal.returns
-returns c = record { written = reword (join c.add_u16-p.ensures (join c.put_body-p.ensures c.add_u16.ensures)) (items_is c.requires.in_buffer) (omega arith) }
+returns c =
+    reword (join c.put_u16.ensures (join c.put_bytes.ensures c.put_u16-2.ensures)) (items_is c.args.x.now) (omega arith)

@@ -1,5 +1,6 @@
--- The way back without a search: for each unit the one byte whose unit it can be.
-use Rattle.std.specs.Prelude.{ℕ, ◌%◌, List, [], ◌∷◌, cond, get_or, ltb}
+-- The way back without a search: for each unit the one byte whose unit it can be. And each character's other one, if it has one.
+use Rattle.std.specs.Prelude.{ℕ, ◌%◌, List, [], ◌∷◌, Option, Some, None, cond, get_or, ltb}
+use Rattle.format.specs.Codepage.{unit_of, assigned, byte_of, in_table}
 
 -- by a unit's remainder by 79
 unfoldable pub by_remainder : List ℕ
@@ -16,3 +17,10 @@ by_remainder =
 unfoldable pub candidate_of : ℕ → ℕ
 unfolding by_remainder
 candidate_of u = cond (ltb u 256) u (get_or by_remainder (u % 79) 0)
+
+-- the unit of a byte that is assigned, and the byte of a unit that is in the table
+abbrev pub unit_if : ℕ → Option ℕ
+unit_if b = cond (assigned b) (Some (unit_of b)) None
+
+abbrev pub byte_if : ℕ → Option ℕ
+byte_if u = cond (in_table u) (Some (byte_of u)) None

@@ -1,12 +1,8 @@
 -- The first i bytes are put; the length is kept by itself, so that each store is seen to be in range.
-use Prim.Native.Nat.{◌≤◌, ◌-◌}
 use mathlib.Core.Path.{◌≡◌}
 use lib.ListN.{length}
 use Rattle.octets.proofs.PartLaws.{putting}
 use Rattle.copies.proofs.put_each.Given as goal
 
 abbrev pub invariant-loop-i : goal.invariant-loop-i
-invariant-loop-i l = (l.i ≤ length l.src) × (length l.out ≡ length l.initial.out) × (l.out ≡ putting l.initial.out l.at l.src l.i)
-
-abbrev pub decreases-loop-i : goal.decreases-loop-i
-decreases-loop-i l = length l.src - l.i
+invariant-loop-i l = (length l.out ≡ length l.initial.out) × (l.out ≡ putting l.initial.out l.at l.src l.i)

@@ -4,7 +4,6 @@ use Rattle.octets.specs.Numbers.{little}
 use Rattle.format.specs.declared.Place.{Place}
 use Rattle.format.specs.declared.Link.{Link}
 use Rattle.format.specs.declared.Record.{Record}
-use Rattle.format.specs.declared.Shape.{Shape}
 use Rattle.format.specs.Tests.{no_place}
 use Rattle.format.specs.Presence.{items_there, info_there, local_there, network_there, device_there, provider_there}
 use Rattle.format.specs.Volume.{label_least}
@@ -13,7 +12,7 @@ use Rattle.format.specs.Bodies.{BodyKind, items_kind, text_kind, string_kind, bl
 use Rattle.format.specs.Contents.{Contents, bytes_at, body_in}
 use Rattle.format.specs.Writing.{end_to_end, if_there, header_bytes, items_bytes, text_bytes, two_fields, offset_field, label_fields, bytes_of_string, blocks_bytes}
 use Rattle.format.specs.Steps.Lengths.{volume_part, network_part}
-use Rattle.format.specs.Steps.Shape.{row_as, rows_from}
+use Rattle.format.specs.Steps.Shape.{Shape, row_as, rows_from}
 
 -- ---- a body as its kind is written
 

@@ -1,29 +1,13 @@
--- What the reader of the header answers, in terms of reading.
-use Rattle.std.specs.Prelude.{ℕ, List}
-use Rattle.format.specs.declared.Profile.{Profile}
+-- The number and the value of what the reader of the header answers.
+use Rattle.std.specs.Prelude.{ℕ, Result}
+use Rattle.octets.specs.declared.Cursor.{Cursor}
 use Rattle.format.specs.declared.Header.{Header}
-use Rattle.format.specs.Tests.{Outcome, got, refused}
-use Rattle.format.specs.Header.{header}
-use Rattle.format.specs.Numbers.{number_of}
-use Rattle.format.specs.Steps.Answers.{Answers}
-use Rattle.header.specs.declared.HeaderTaken.{HeaderTaken}
-use Rattle.header.specs.declared.HeaderTaken.TheVariants.{Got, Refused}
+use Rattle.format.specs.declared.Refusal.{Refusal}
+use Rattle.format.specs.Steps.Answers.{taken_number, taken_value}
 
-abbrev pub header_taken : Outcome Header → HeaderTaken
-header_taken (got h n) = Got h (record { at = n })
-header_taken (refused f q) = Refused f q
-
-unfoldable pub header_at : Profile → List ℕ → HeaderTaken
-header_at profile s = header_taken (header profile 0 s)
-
-unfoldable pub header_number : HeaderTaken → ℕ
-header_number (Got h c) = 0
-header_number (Refused f q) = number_of f
+abbrev pub header_number : Result (Header × Cursor) Refusal → ℕ
+header_number r = taken_number r
 
 -- where the header ends, or the position of a refusal
-unfoldable pub header_value : HeaderTaken → ℕ
-header_value (Got h c) = c.at
-header_value (Refused f q) = q.position
-
-abbrev pub HeaderAnswer : Profile → List ℕ → HeaderTaken → Type 0
-HeaderAnswer profile s r = Answers header_number header_value 0 (header profile 0 s) (header_at profile s) r
+abbrev pub header_value : Result (Header × Cursor) Refusal → ℕ
+header_value r = taken_value r

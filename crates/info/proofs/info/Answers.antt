@@ -1,80 +1,32 @@
--- Each refusal has its law, in the order of the tests; past them the part from the start to the declared end is read.
-use Rattle.info.proofs.InfoLaws.{head_passed, head_most, piece_most, info_cut, info_small, info_past, info_head_lem, info_piece, info_got}
-use Rattle.octets.proofs.CursorLaws.{take_got, take_lost, skip_got, skip_lost}
-use lib.ListN.{length, length-take, length-drop}
-use mathlib.Core.Path.{sym, ap, ◌∙◌}
-use native.Mathlib.Omega.{arith}
+-- Each refusal has its law, in the order of the tests; after one nothing is said.
+use Rattle.std.proofs.Common.{◌≡◌, ◌∙◌, sym, arith}
+use Rattle.std.proofs.lemmas.Grind.{common_steps}
+use Rattle.std.specs.Prelude.{Ok}
+use Rattle.info.specs.Steps.Taken.{OwnPart, info_at}
+use Rattle.info.proofs.LengthLaws.{row_kept}
+use Rattle.info.proofs.SectionLaws.{held_nothing, head_lost, head_silent, piece_lost, piece_silent, info_right, held_right, info_answered}
 use Rattle.info.proofs.info.Goals as goal
 
-pub returns-in_default : goal.returns-in_default
-returns-in_default c =
-    let both = info_cut _ _ _ (take_lost _ _ _ c.take_u32.ensures c.in_default.is) c.spot_at.ensures c.requires.row in record { answer = both.0; lengths = both.1 }
+pub returns-in_err-l : goal.returns-in_err-l
+returns-in_err-l c =
+    let lost = c.in_err-l.ensures c.args.profile in
+    let a : c.from_residual.result ≡ info_at c.args.profile c.args.s.now c.args.c.at = grind (arith, common_steps, lost) in
+    record { answer = a; numbers = info_answered _ _ _ a; lengths = c.requires.row ∙ sym (held_nothing _ _ _ lost) }
 
-pub returns-then-size-lt28 : goal.returns-then-size-lt28
-returns-then-size-lt28 c =
-    let t = take_got _ _ _ c.take_u32.ensures c.in-Number.is in
-    let both = info_small _ _ _ t.0 t.1 (omega arith) c.spot_at-then-size-lt28.ensures c.requires.row in record { answer = both.0; lengths = both.1 }
+pub returns-in_err-map_err : goal.returns-in_err-map_err
+returns-in_err-map_err c =
+    let P : OwnPart c.args.s.now c.args.c.at c.in_ok-l.l.now c.in_ok-l.next = c.in_ok-l.ensures in
+    let a : c.from_residual-in_err-map_err.result ≡ info_at c.args.profile c.args.s.now c.args.c.at = grind (arith, common_steps, head_lost c.args.profile c.args.s.now c.args.c.at P) in
+    record { answer = a; numbers = info_answered _ _ _ a; lengths = grind (arith, common_steps, head_silent c.args.profile c.args.s.now c.args.c.at P) }
 
-pub returns-in_default-skip : goal.returns-in_default-skip
-returns-in_default-skip c =
-    let t = take_got _ _ _ c.take_u32.ensures c.in-Number.is in
-    let both = info_past _ _ _ t.0 t.1 (omega arith) (skip_lost _ _ _ c.skip.ensures c.in_default-skip.is) c.spot_at-in_default-skip.ensures c.requires.row in record { answer = both.0; lengths = both.1 }
-
-pub slice_bounds-l-count : goal.slice_bounds-l-count
-slice_bounds-l-count c =
-    omega (arith, skip_got _ _ _ c.skip.ensures c.in-To.is)
-
-pub slice_bounds-l-start : goal.slice_bounds-l-start
-slice_bounds-l-start c =
-    omega (arith, skip_got _ _ _ c.skip.ensures c.in-To.is)
-
-pub slice_bounds-l-end : goal.slice_bounds-l-end
-slice_bounds-l-end c =
-    omega (arith, skip_got _ _ _ c.skip.ensures c.in-To.is)
-
-pub info_head_wrong-wrong-requires : goal.info_head_wrong-wrong-requires
-info_head_wrong-wrong-requires c =
-    let u = skip_got _ _ _ c.skip.ensures c.in-To.is in
-    simp (length-take, length-drop) (omega arith)
-
-pub spot_at-requires-then-wrong-ne0 : goal.spot_at-requires-then-wrong-ne0
-spot_at-requires-then-wrong-ne0 c =
-    let u = skip_got _ _ _ c.skip.ensures c.in-To.is in
-    omega (arith, head_most c.args.profile _ c.info_head_wrong-wrong.ensures)
-
-pub returns-then-wrong-ne0 : goal.returns-then-wrong-ne0
-returns-then-wrong-ne0 c =
-    let t = take_got _ _ _ c.take_u32.ensures c.in-Number.is in
-    let u = skip_got _ _ _ c.skip.ensures c.in-To.is in
-    let both = info_head_lem _ _ _ t.0 t.1 (omega arith) u.0 u.1 c.info_head_wrong-wrong.ensures c.if-wrong-ne0.true c.spot_at-then-wrong-ne0.ensures c.requires.row in record { answer = both.0; lengths = both.1 }
-
-pub pieces_wrong-wrong-requires : goal.pieces_wrong-wrong-requires
-pieces_wrong-wrong-requires c =
-    let u = skip_got _ _ _ c.skip.ensures c.in-To.is in
-    record {
-      in_bounds = (
-        simp (length-take, length-drop) (omega arith),
-        (simp (length-take, length-drop) (omega (arith, c.requires.small)), head_passed c.args.profile _ (sym c.info_head_wrong-wrong.ensures ∙ c.if-wrong-ne0.false)),
-      );
-      row = ap length c.requires.row;
-    }
-
-pub spot_at-requires-then-wrong-ne0-2 : goal.spot_at-requires-then-wrong-ne0-2
-spot_at-requires-then-wrong-ne0-2 c =
-    let t = take_got _ _ _ c.take_u32.ensures c.in-Number.is in
-    let u = skip_got _ _ _ c.skip.ensures c.in-To.is in
-    omega (arith, piece_most c.args.profile _ _ t.0 t.1 (omega arith) u.0 u.1 c.info_head_wrong-wrong.ensures c.if-wrong-ne0.false c.pieces_wrong-wrong.ensures.field)
-
-pub returns-then-wrong-ne0-2 : goal.returns-then-wrong-ne0-2
-returns-then-wrong-ne0-2 c =
-    let t = take_got _ _ _ c.take_u32.ensures c.in-Number.is in
-    let u = skip_got _ _ _ c.skip.ensures c.in-To.is in
-    let both = info_piece _ _ _ t.0 t.1 (omega arith) u.0 u.1 c.info_head_wrong-wrong.ensures c.if-wrong-ne0.false
-    c.pieces_wrong-wrong.ensures.field c.args.texts.now c.pieces_wrong-wrong.ensures.lengths c.if-wrong-ne0-2.true c.spot_at-then-wrong-ne0-2.ensures c.requires.row in record { answer = both.0; lengths = both.1 }
+pub returns-in_err-map_err-2 : goal.returns-in_err-map_err-2
+returns-in_err-map_err-2 c =
+    let P : OwnPart c.args.s.now c.args.c.at c.in_ok-l.l.now c.in_ok-l.next = c.in_ok-l.ensures in
+    let a : c.from_residual-in_err-map_err-2.result ≡ info_at c.args.profile c.args.s.now c.args.c.at = grind (arith, common_steps, piece_lost c.args.profile c.args.s.now c.args.c.at P) in
+    record { answer = a; numbers = info_answered _ _ _ a; lengths = grind (arith, common_steps, piece_silent c.args.profile c.args.s.now c.args.c.at P, row_kept) }
 
 pub returns : goal.returns
 returns c =
-    let t = take_got _ _ _ c.take_u32.ensures c.in-Number.is in
-    let u = skip_got _ _ _ c.skip.ensures c.in-To.is in
-    let both = info_got _ _ _ t.0 t.1 (omega arith) u.0 u.1 c.info_head_wrong-wrong.ensures c.if-wrong-ne0.false
-    c.pieces_wrong-wrong.ensures.field c.args.texts.now c.pieces_wrong-wrong.ensures.lengths c.if-wrong-ne0-2.false in record { answer = both.0; lengths = both.1 }
+    let P : OwnPart c.args.s.now c.args.c.at c.in_ok-l.l.now c.in_ok-l.next = c.in_ok-l.ensures in
+    let a : info_at c.args.profile c.args.s.now c.args.c.at ≡ Ok c.in_ok-l.next = grind (arith, common_steps, info_right c.args.profile c.args.s.now c.args.c.at P) in
+    record { answer = sym a; numbers = info_answered _ _ _ (sym a); lengths = grind (arith, common_steps, held_right c.args.profile c.args.s.now c.args.c.at P) }

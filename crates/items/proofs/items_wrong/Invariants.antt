@@ -8,7 +8,12 @@ use Rattle.items.proofs.Laws.{Come}
 use Rattle.items.proofs.items_wrong.Given as goal
 
 abbrev pub invariant-loop-p : goal.invariant-loop-p
-invariant-loop-p l = (l.p ≤ length l.l + 65535) × ((l.size ≤ l.p) × Come l.l l.at (l.p - l.size) l.p (wrong (item_tests ITEMS l.at 0 l.l)))
+invariant-loop-p l = record {
+  small : l.size ≤ 65535;
+  item : l.size ≤ l.p;
+  begun : l.p ≤ length l.l + l.size;
+  come : Come l.l l.at (l.p - l.size) l.p (wrong (item_tests ITEMS l.at 0 l.l));
+}
 
 abbrev pub decreases-loop-p : goal.decreases-loop-p
 decreases-loop-p l = length l.l + 65536 - l.p

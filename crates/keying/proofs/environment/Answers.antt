@@ -6,13 +6,10 @@ pub block_from-b-requires : goal.block_from-b-requires
 block_from-b-requires c = c.requires.reached
 
 pub returns-then-b-eq0 : goal.returns-then-b-eq0
-returns-then-b-eq0 c =
-    environment_absent _ c.requires c.block_from-b.ensures c.if-b-eq0.true c.only.ensures c.part_if.ensures
+returns-then-b-eq0 c = environment_absent _ c.requires c.block_from-b.ensures c.if-b-eq0.true
 
 pub block_text-requires : goal.block_text-requires
-block_text-requires c =
-    text_stands _ c.requires c.block_from-b.ensures c.if-b-eq0.false
+block_text-requires c = text_stands _ c.requires c.block_from-b.ensures c.if-b-eq0.false
 
 pub returns : goal.returns
-returns c =
-    environment_there _ c.requires c.block_from-b.ensures c.if-b-eq0.false c.block_text.ensures c.only-2.ensures c.part_if-2.ensures
+returns c = environment_there _ c.requires c.block_from-b.ensures c.if-b-eq0.false c.block_text.ensures

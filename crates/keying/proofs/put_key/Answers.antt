@@ -3,4 +3,4 @@ use Rattle.keying.proofs.Laws.{key_put}
 use Rattle.keying.proofs.put_key.Goals as goal
 
 pub returns : goal.returns
-returns c = record { written = key_put _ _ c.put_flag-p.ensures c.put_part-p.ensures.written c.put_only-p.ensures.written c.put_only-p-2.ensures.written c.put_only.ensures.written }
+returns c = key_put _ _ (rw c.one_or_0.ensures at c.put_u8.ensures) c.put_target.ensures c.put_body.ensures c.put_body-2.ensures c.put_body-3.ensures

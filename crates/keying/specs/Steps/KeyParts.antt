@@ -1,48 +1,48 @@
 -- Where the parts of a key stand in the shortcut, and what they show there.
-use Rattle.std.specs.Prelude.{ℕ, ◌+◌, ◌≤◌, ◌≡◌, List, Bool, false, cond, length}
+use Rattle.std.specs.Prelude.{ℕ, ◌+◌, ◌≤◌, ◌≡◌, List, length, Option, Some, None}
+use Rattle.std.specs.Bool.{then_some}
 use Rattle.format.specs.declared.Place.{Place}
 use Rattle.format.specs.declared.Record.{Record}
-use Rattle.format.specs.Tests.{no_place}
 use Rattle.format.specs.Shortcut.{most}
 use Rattle.format.specs.Contents.{bytes_at}
 use Rattle.format.specs.Target.{has_target}
-use Rattle.format.specs.Key.{Part, part_if, Key, block_text, environment}
+use Rattle.format.specs.Key.{Part, no_part, some_part, Key, block_text, environment}
 use Rattle.blocks.specs.Steps.Walk.{block_from}
 use Rattle.target.specs.declared.Texts.{Texts}
 use Rattle.target.specs.Steps.Texts.{texts_of, Stands, texts_length, texts_bytes}
-use Rattle.keying.specs.declared.KeyPart.{KeyPart}
 use Rattle.keying.specs.declared.KeyParts.{KeyParts}
 
--- ---- one part
+-- ---- the target
 
--- one body alone
-abbrev pub only : Place → Texts
-only b = record { first = b; separators = 0; suffix = no_place }
+abbrev pub target_part : List ℕ → Record → Option Texts
+target_part s r = then_some (has_target r) (texts_of s r)
 
--- an absent part has no texts
-unfoldable pub key_part : Bool → Texts → KeyPart
-key_part there t = record { there = there; texts = cond there t (only no_place) }
-
--- the target of a record
-unfoldable pub target_part : List ℕ → Record → KeyPart
-unfolding key_part
-target_part s r = key_part (has_target r) (texts_of s r)
-
-unfoldable pub part_shown : List ℕ → KeyPart → Part
-part_shown s p = part_if p.there (texts_bytes s p.texts)
+abbrev pub target_shown : List ℕ → Option Texts → Part
+target_shown s (Some t) = some_part (texts_bytes s t)
+target_shown s None = no_part
 
 -- the presence byte, the length and the bytes
-abbrev pub part_length : KeyPart → ℕ
-part_length p = 5 + texts_length p.texts
+abbrev pub target_length : Option Texts → ℕ
+target_length (Some t) = 5 + texts_length t
+target_length None = 5
 
-pub record PartStands (s : List ℕ) (p : KeyPart) : Type 0 where
-  pub stands : Stands s p.texts
-  pub empty : p.there ≡ false → texts_length p.texts ≡ 0
-  pub small : length s ≤ most
+abbrev pub TargetStands : List ℕ → Option Texts → Type 0
+TargetStands s (Some t) = Stands s t × (length s ≤ most)
+TargetStands s None = Unit {0}
 
--- a part that is one body
-abbrev pub Alone : KeyPart → Type 0
-Alone p = p.texts ≡ only p.texts.first
+-- ---- a part that is one body
+
+abbrev pub body_shown : List ℕ → Option Place → Part
+body_shown s (Some b) = some_part (bytes_at s b)
+body_shown s None = no_part
+
+abbrev pub body_length : Option Place → ℕ
+body_length (Some b) = 5 + b.len
+body_length None = 5
+
+abbrev pub BodyStands : List ℕ → Option Place → Type 0
+BodyStands s (Some b) = (b.at + b.len ≤ length s) × (length s ≤ most)
+BodyStands s None = Unit {0}
 
 -- b is where the byte string of the block a stands
 pub record TextOf (s : List ℕ) (a b : Place) : Type 0 where
@@ -57,31 +57,26 @@ pub record BlockAt (s : List ℕ) (field : ℕ) : Type 0 where
   pub sized : ((block_from s field).len ≡ 0 → ⊥) → 8 ≤ (block_from s field).len
 
 -- p shows the environment that the block b holds
-pub record EnvironmentOf (s : List ℕ) (b : Place) (p : KeyPart) : Type 0 where
-  pub stands : PartStands s p
-  pub alone : Alone p
-  pub is : part_shown s p ≡ environment s b
+pub record EnvironmentOf (s : List ℕ) (b : Place) (p : Option Place) : Type 0 where
+  pub stands : BodyStands s p
+  pub is : body_shown s p ≡ environment s b
 
 -- ---- the whole key
 
 unfoldable pub key_shown : List ℕ → KeyParts → Key
-unfolding part_shown
 key_shown s k = record {
   unicode = k.unicode;
-  target = part_shown s k.target;
-  arguments = part_shown s k.arguments;
-  workdir = part_shown s k.workdir;
-  environment = part_shown s k.environment;
+  target = target_shown s k.target;
+  arguments = body_shown s k.arguments;
+  workdir = body_shown s k.workdir;
+  environment = body_shown s k.environment;
 }
 
 abbrev pub key_length : KeyParts → ℕ
-key_length k = 1 + (part_length k.target + (part_length k.arguments + (part_length k.workdir + part_length k.environment)))
+key_length k = 1 + (target_length k.target + (body_length k.arguments + (body_length k.workdir + body_length k.environment)))
 
 pub record KeyStands (s : List ℕ) (k : KeyParts) : Type 0 where
-  pub target : PartStands s k.target
-  pub arguments : PartStands s k.arguments
-  pub workdir : PartStands s k.workdir
-  pub environment : PartStands s k.environment
-  pub arguments_alone : Alone k.arguments
-  pub workdir_alone : Alone k.workdir
-  pub environment_alone : Alone k.environment
+  pub target : TargetStands s k.target
+  pub arguments : BodyStands s k.arguments
+  pub workdir : BodyStands s k.workdir
+  pub environment : BodyStands s k.environment

@@ -1,25 +1,23 @@
--- An accepted shortcut has its rows by the outline, and a refused one has none; a window on an empty buffer shows a piece of the text.
-use mathlib.Core.List.{[]}
-use native.Mathlib.Omega.{arith}
+-- An accepted shortcut has its rows by the outline, and a refused one has none.
+use mathlib.Core.Path.{sym, ◌∙◌}
+use Rattle.std.proofs.Common.{rules}
+use Rattle.reader.specs.Steps.Finish.{Whole}
 use Rattle.shown.proofs.Laws.{all_rows}
-use Rattle.lines.proofs.ListingTexts.{accepted_listing, refused_listing}
-use Rattle.lines.proofs.WindowLaws.{Showed-join, Showed-as, Showed-piece}
+use Rattle.lines.proofs.ListingTexts.{rows_shown, accepted_listing, refused_listing}
+use Rattle.lines.proofs.WindowLaws.{Showed-join, Showed-as, piece_shown}
 use Rattle.lines.proofs.put_listing.Goals as goal
 
-pub returns-in-Off : goal.returns-in-Off
-returns-in-Off c =
-    let told = refused_listing c.outline_of-o.ensures.told c.in-Off.is in
-    let both = Showed-piece _ _ _ (Showed-as c.show_verdict-w.ensures told) in record { answer = both.0; output = both.1 }
-
-pub flags_of-flags-requires : goal.flags_of-flags-requires
-flags_of-flags-requires c =
-    c.outline_of-o.ensures.told.on _ c.in_default.is
+pub returns-in_default : goal.returns-in_default
+returns-in_default c =
+    let told = refused_listing _ _ c.outline_of-o.ensures.answer c.verdict_of.ensures c.in_default.is in
+    let shown = piece_shown (Showed-as c.verdict.ensures told) c.new-w.ensures.out c.new-w.ensures.at c.new-w.ensures.skip in
+    record { answer = c.filled.ensures ∙ shown.at; output = search rules }
 
 pub returns : goal.returns
 returns c =
-    let told = c.outline_of-o.ensures.told in
-    let on = c.in_default.is in
-    let R = all_rows (told.on _ on) c.flags_of-flags.ensures in
-    let sections = Showed-join c.show_verdict-w-2.ensures (omega arith) c.show_sections-w.ensures in
-    let all = Showed-join sections (omega arith) (c.show_blocks-w.ensures [] R.lengths R.count R.is) in
-    let both = Showed-piece _ _ _ (Showed-as all (accepted_listing told on R)) in record { answer = both.0; output = both.1 }
+    let o = c.outline_of-o.ensures in
+    let w : Whole c.args.profile c.args.s.now c.in-Ok.ends _ = record { ends = sym o.answer ∙ c.in-Ok.is; lengths = o.lengths } in
+    let R = all_rows w c.flags.ensures in
+    let all = Showed-join (Showed-join c.verdict.ensures c.sections.ensures) (rows_shown c.blocks-2.ensures R) in
+    let shown = piece_shown (Showed-as all (accepted_listing _ _ o.answer c.verdict_of.ensures R)) c.new-w.ensures.out c.new-w.ensures.at c.new-w.ensures.skip in
+    record { answer = c.filled-2.ensures ∙ shown.at; output = search rules }

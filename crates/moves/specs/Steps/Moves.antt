@@ -18,6 +18,11 @@ abbrev pub translate : Bool → List ℕ → List ℕ
 translate true = to_units
 translate false = to_bytes
 
+-- how many bytes n bytes become
+abbrev pub translated_size : Bool → ℕ → ℕ
+translated_size true n = 2 * n
+translated_size false n = n / 2
+
 abbrev pub translatable : Bool → List ℕ → Bool
 translatable true = all_assigned
 translatable false = all_in_table

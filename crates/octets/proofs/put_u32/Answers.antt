@@ -1,8 +1,7 @@
--- A number put as two halves that adjoin is the number put whole.
-use native.Mathlib.Omega.{arith}
-use Rattle.octets.proofs.PartLaws.{put_halves}
+use mathlib.Core.Path.{ap, ◌∙◌}
+use Rattle.octets.specs.Parts.{put}
+use Rattle.octets.proofs.ReadLaws.{parted}
 use Rattle.octets.proofs.put_u32.Goals as goal
 
 pub returns : goal.returns
-returns c =
-    put_halves 2 _ _ _ (omega arith) c.put_u16.ensures c.put_u16-2.ensures
+returns c = c.put_array.ensures ∙ ap (put _ _) (c.to_le_bytes.ensures ∙ parted 4 _)

@@ -1,7 +1,6 @@
--- A number is its lower half and its upper half, two bytes each.
-use native.Mathlib.Omega.{arith}
-use Rattle.octets.proofs.ReadLaws.{number_halves}
+use mathlib.Core.Path.{◌∙◌}
+use Rattle.octets.proofs.ReadLaws.{joined}
 use Rattle.octets.proofs.u32_at.Goals as goal
 
 pub returns : goal.returns
-returns c = number_halves 2 _ _ (omega arith) c.u16_at.ensures c.u16_at-2.ensures
+returns c = c.from_le_bytes.ensures ∙ joined 3 _ _ c.bytes_at.ensures c.requires

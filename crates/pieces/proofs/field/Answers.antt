@@ -2,9 +2,6 @@
 use Rattle.pieces.specs.Steps.Found.{field_if}
 use Rattle.pieces.proofs.field.Goals as goal
 
-pub u32_at-requires : goal.u32_at-requires
-u32_at-requires c = c.requires c.if-there.true
-
 pub returns-then-there : goal.returns-then-there
 unfolding field_if
 returns-then-there c = rw c.if-there.true c.u32_at.ensures

@@ -5,18 +5,10 @@ use Rattle.pieces.proofs.NetworkLaws.{network_says}
 use native.Mathlib.Omega.{arith}
 use Rattle.pieces.proofs.network_of.Goals as goal
 
-pub field-requires : goal.field-requires
-field-requires c =
-    λ e. omega (arith, c.requires.stands.1.0 (rw (← c.u32_at-name.ensures) e))
-
 pub body_at-requires-3 : goal.body_at-requires-3
 body_at-requires-3 c =
     let bytes : Bytes c.args.v.now = record { at = λ i. omega (arith, c.shared_slice_known-1.given i) } in
     omega (arith, field_below _ _ _ c.field.ensures bytes, c.requires.stands.1.1)
-
-pub field-requires-2 : goal.field-requires-2
-field-requires-2 c =
-    λ e. omega (arith, c.requires.stands.1.0 (rw (← c.u32_at-name.ensures) e))
 
 pub body_at-requires-4 : goal.body_at-requires-4
 body_at-requires-4 c =

@@ -1,9 +1,12 @@
--- An accepted shortcut has no section at fault; a refusal has its spot.
-use Rattle.reader.proofs.OutlineLaws.{fault_whole, fault_off}
+-- The refusal goes up as it is; what is accepted is accepted as a whole.
+use Rattle.std.proofs.lemmas.Result.{err_from_is_err_and}
+use Rattle.reader.proofs.OutlineLaws.{outline_fault}
 use Rattle.reader.proofs.fault.Goals as goal
 
-pub returns-in-On : goal.returns-in-On
-returns-in-On c = fault_whole c.outline_of-o.ensures.told c.in-On.is
+pub returns-in_err-outline_of : goal.returns-in_err-outline_of
+returns-in_err-outline_of c =
+    let p = err_from_is_err_and c.from_residual.result c.from_residual.ensures.1 in
+    rw (p.1, p.2) (outline_fault _ _ c.in_err-outline_of.ensures.answer)
 
-pub returns-in-Off : goal.returns-in-Off
-returns-in-Off c = fault_off c.outline_of-o.ensures.told c.in-Off.is
+pub returns : goal.returns
+returns c = outline_fault _ _ c.in_ok-outline_of.ensures.answer

@@ -1,89 +1,78 @@
--- How reading ends: all of the shortcut was read, or bytes are left, or a section was refused.
-use Rattle.std.specs.Prelude.{ℕ, ◌-◌, ◌≡◌, List, map, cond, length, take, drop, leb, eqb}
-use Rattle.octets.specs.declared.Cursor.{Cursor}
+-- What the first phase answers, and what is known of a shortcut that it accepts.
+use Rattle.std.specs.Prelude.{ℕ, ◌+◌, ◌-◌, ◌≡◌, List, map, cond, length, take, drop, leb, Result, Ok, Err}
 use Rattle.format.specs.declared.Profile.{Profile}
-use Rattle.format.specs.declared.Fault.{Fault}
-use Rattle.format.specs.declared.Fault.TheVariants.{Long as LONG, Trail as TRAIL}
 use Rattle.format.specs.declared.Record.{Record}
-use Rattle.format.specs.declared.Verdict.{Verdict}
-use Rattle.format.specs.declared.Verdict.TheVariants.{Accepted, Refused}
-use Rattle.format.specs.declared.Spot.{Spot}
-use Rattle.format.specs.Tests.{no_section, spot_at, got, refused}
+use Rattle.format.specs.declared.Refusal.{Refusal}
+use Rattle.format.specs.Tests.{Outcome, got, refused}
+use Rattle.format.specs.Verdicts.{Verdict, refused_at}
+use Rattle.format.specs.Header.{header}
 use Rattle.format.specs.Blocks.{blocks}
 use Rattle.format.specs.Bodies.{place_in, blocks_slot}
 use Rattle.format.specs.Numbers.{number_of}
 use Rattle.format.specs.Steps.Firsts.{firsts}
-use Rattle.format.specs.Steps.Answers.{Answers}
-use Rattle.format.specs.Info.{no_info}
-use Rattle.format.specs.Shortcut.{most, shortcut, reading, no_record}
+use Rattle.format.specs.Steps.Answers.{refusal, read_from, Answers}
+use Rattle.format.specs.Shortcut.{most, Sections, shortcut, reading, no_record}
 use Rattle.format.specs.Demands.{Accepts}
-use Rattle.header.specs.declared.HeaderTaken.{HeaderTaken}
-use Rattle.header.specs.declared.HeaderTaken.TheVariants.{Got, Refused as Stopped}
-use Rattle.header.specs.Steps.Taken.{header_at}
 use Rattle.blocks.specs.Steps.Walk.{no_firsts}
-use Rattle.reader.specs.declared.Outline.{Outline}
+use Rattle.info.specs.Steps.Found.{no_lengths}
 use Rattle.reader.specs.declared.SectionEnds.{SectionEnds}
-use Rattle.reader.specs.declared.StringEnds.{StringEnds}
-use Rattle.reader.specs.Steps.EachSection.{Walk, walk_from}
-use Rattle.reader.specs.declared.Next.{Next}
-use Rattle.reader.specs.declared.Next.TheVariants.{On, Off}
+use Rattle.reader.specs.Steps.EachSection.{given, lengths_from, firsts_from}
 
--- ---- going through all sections, refused ones too
+-- ---- where the sections end
 
-abbrev pub no_ends : SectionEnds
-no_ends = record { items = 0; info = 0; name = 0; relative = 0; workdir = 0; arguments = 0; icon = 0 }
+-- each section is as long as it was found, one after another; an absent one has no bytes
+abbrev pub ends_in : Sections → SectionEnds
+ends_in c =
+    let (header, (items, (info, (name, (relative, (workdir, (arguments, (icon, blocks)))))))) = c in
+    let items_end = header.len + items.len in
+    let info_end = items_end + info.len in
+    let name_end = info_end + name.len in
+    let relative_end = name_end + relative.len in
+    let workdir_end = relative_end + workdir.len in
+    let arguments_end = workdir_end + arguments.len in
+    record {
+      items = items_end;
+      info = info_end;
+      name = name_end;
+      relative = relative_end;
+      workdir = workdir_end;
+      arguments = arguments_end;
+      icon = arguments_end + icon.len;
+    }
 
--- a refusal before any section after the header is looked at
-unfoldable pub walk_off : Fault → Spot → Walk
-walk_off f p = record { next = Off f p; held = no_record; info = no_info; ends = no_ends; firsts = no_firsts }
+-- an accepted shortcut by where its sections end
+abbrev pub outlined : Outcome Sections → Result SectionEnds Refusal
+outlined (got c n) = Ok (ends_in c)
+outlined (refused f q) = Err (refusal f q)
 
-abbrev pub walk_after : Profile → List ℕ → HeaderTaken → Walk
-walk_after profile s (Got h c) = walk_from profile s h c
-walk_after profile s (Stopped f p) = walk_off f p
+unfoldable pub outline : Profile → List ℕ → Result SectionEnds Refusal
+unfolding shortcut
+outline profile s = outlined (shortcut profile s)
 
--- LONG first, then the header, then the sections after it
-unfoldable pub walk_of : Profile → List ℕ → Walk
-unfolding walk_from walk_off
-walk_of profile s = cond (leb (length s) most) (walk_after profile s (header_at profile s)) (walk_off LONG (spot_at no_section most))
+-- ---- the two rows, of refused shortcuts too
 
--- ---- what the first phase answers
+unfoldable pub lengths_read : Profile → List ℕ → List ℕ
+lengths_read profile s =
+    cond (leb (length s) most) (given (read_from 0 (header profile 0 s)) (λ h. lengths_from profile s h.0 h.1) no_lengths) no_lengths
 
-unfoldable pub outline_off : Fault → Spot → Outline
-outline_off f p = record { next = Off f p; ends = no_ends }
+unfoldable pub firsts_read : Profile → List ℕ → List ℕ
+firsts_read profile s =
+    cond (leb (length s) most) (given (read_from 0 (header profile 0 s)) (λ h. firsts_from profile s h.0 h.1) no_firsts) no_firsts
 
--- the terminal block ends at the cursor
-abbrev pub trailing : Cursor → Spot
-trailing c = record { section = 9; start = c.at - 4; position = c.at }
+-- ---- what is known of an accepted shortcut
 
--- n is the shortcut's length
-unfoldable pub ended_with : ℕ → Next → SectionEnds → Outline
-unfolding outline_off
-ended_with n (On c) e = cond (eqb c.at n) (record { next = On c; ends = e }) (outline_off TRAIL (trailing c))
-ended_with n (Off f p) e = outline_off f p
+-- s is accepted, its sections end at e, and LinkInfo's texts have these lengths
+pub record Whole (profile : Profile) (s : List ℕ) (e : SectionEnds) (texts : List ℕ) : Type 0 where
+  pub ends : outline profile s ≡ Ok e
+  pub lengths : texts ≡ lengths_read profile s
 
-abbrev pub ended_at : ℕ → ℕ → ℕ → StringEnds → Cursor → Outline
-ended_at n items info e c =
-    ended_with n (On c)
-    (record {
-      items = items;
-      info = info;
-      name = e.name;
-      relative = e.relative;
-      workdir = e.workdir;
-      arguments = e.arguments;
-      icon = e.icon;
-    })
-
-abbrev pub outline_is : List ℕ → Walk → Outline
-outline_is s w = ended_with (length s) w.next w.ends
+-- LinkInfo's own bytes
+abbrev pub info_own : List ℕ → SectionEnds → List ℕ
+info_own s e = take (e.info - e.items) (drop e.items s)
 
 -- the lengths of LinkInfo's texts, by their slots
 unfoldable pub lengths_in : Record → List ℕ
 lengths_in r = map (λ b. b.len) (take 9 (drop 1 r.places))
-
-unfoldable pub next_verdict : Next → Verdict
-next_verdict (On c) = Accepted c.at
-next_verdict (Off f p) = Refused f p.position
 
 -- the row is that of the blocks which the record r holds
 abbrev pub FirstsOf : List ℕ → Record → List ℕ → Type 0
@@ -91,32 +80,30 @@ FirstsOf s r row =
     (lengths : List ℕ) (n : ℕ) → blocks (place_in r blocks_slot).at (drop (place_in r blocks_slot).at s) ≡ got lengths n
     → row ≡ firsts s (place_in r blocks_slot).at lengths
 
--- s is accepted, its sections end at e, and LinkInfo's texts have these lengths
-pub record Whole (profile : Profile) (s : List ℕ) (e : SectionEnds) (texts : List ℕ) : Type 0 where
-  pub accepted : Accepts profile s (reading profile s).held
-  pub held : (reading profile s).held ≡ (walk_of profile s).held
-  pub ends : e ≡ (walk_of profile s).ends
-  pub lengths : texts ≡ lengths_in (reading profile s).held
+-- what the answer o tells of the reading of s, with the two rows beside it
+pub record Told (profile : Profile) (s : List ℕ) (o : Result SectionEnds Refusal) (texts row : List ℕ) : Type 0 where
+  pub whole : (e : SectionEnds) → o ≡ Ok e → Whole profile s e texts
+  pub accepted : (e : SectionEnds) → o ≡ Ok e → Accepts profile s (reading profile s).held
+  pub lengths : (e : SectionEnds) → o ≡ Ok e → texts ≡ lengths_in (reading profile s).held
+  pub noted : (e : SectionEnds) → o ≡ Ok e → FirstsOf s (reading profile s).held row
+  pub off : (r : Refusal) → o ≡ Err r → shortcut profile s ≡ refused r.fault r.spot
+  pub stopped : (r : Refusal) → o ≡ Err r → reading profile s ≡ record { verdict = refused_at r.fault r.spot.position; held = no_record }
 
--- what an outline o tells of the reading of s, with the two rows beside it
-pub record Told (profile : Profile) (s : List ℕ) (o : Outline) (texts row : List ℕ) : Type 0 where
-  pub on : (c : Cursor) → o.next ≡ On c → Whole profile s o.ends texts
-  pub end : (c : Cursor) → o.next ≡ On c → c.at ≡ length s
-  pub noted : (c : Cursor) → o.next ≡ On c → FirstsOf s (reading profile s).held row
-  pub off : (f : Fault) (p : Spot) → o.next ≡ Off f p → shortcut profile s ≡ refused f p
-  pub stopped : (f : Fault) (p : Spot) → o.next ≡ Off f p → reading profile s ≡ record { verdict = Refused f p.position; held = no_record }
+-- n is the shortcut's length
+abbrev pub next_verdict : ℕ → Result SectionEnds Refusal → Verdict
+next_verdict n (Ok e) = Ok n
+next_verdict n (Err r) = refused_at r.fault r.spot.position
 
 -- ---- numbers and values of the answers
 
-unfoldable pub next_number : Next → ℕ
-next_number (On c) = 0
-next_number (Off f p) = number_of f
+unfoldable pub next_number : Result SectionEnds Refusal → ℕ
+next_number (Ok e) = 0
+next_number (Err r) = number_of r.fault
 
--- where the sections end, or the position of a refusal
-unfoldable pub next_value : Next → ℕ
-next_value (On c) = c.at
-next_value (Off f p) = p.position
+-- where the sections end, n for all of them, or the position of a refusal
+unfoldable pub next_value : ℕ → Result SectionEnds Refusal → ℕ
+next_value n (Ok e) = n
+next_value n (Err r) = r.spot.position
 
-abbrev pub OutlineAnswer : Profile → List ℕ → Outline → Type 0
-OutlineAnswer profile s r =
-    Answers (λ (o : Outline). next_number o.next) (λ (o : Outline). next_value o.next) 0 (shortcut profile s) (outline_is s (walk_of profile s)) r
+abbrev pub OutlineAnswer : Profile → List ℕ → Result SectionEnds Refusal → Type 0
+OutlineAnswer profile s r = Answers next_number (next_value (length s)) 0 (shortcut profile s) (outline profile s) r

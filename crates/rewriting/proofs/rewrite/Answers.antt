@@ -8,4 +8,4 @@ returns-in_default c = let both = rewrite_left _ _ _ c.read-g.ensures.answer c.i
 
 pub returns : goal.returns
 returns c =
-    let both = rewrite_written _ _ _ c.read-g.ensures.answer (record { at = λ i. omega (arith, c.shared_slice_known-1.given i) }) c.in-Accepted.is (c.write.ensures.answer, (c.write.ensures.output, (c.write.ensures.numbers, c.write.ensures.least))) in record { answer = both.0; output = both.1.0; numbers = both.1.1.0; kept = both.1.1.1 }
+    let both = rewrite_written _ _ _ c.read-g.ensures.answer (record { at = λ i. omega (arith, c.type_inv.s i) }) c.in-Ok.is (c.write.ensures.answer, (c.write.ensures.output, (c.write.ensures.numbers, c.write.ensures.least))) in record { answer = both.0; output = both.1.0; numbers = both.1.1.0; kept = both.1.1.1 }

@@ -1,6 +1,8 @@
 -- Entries that stand one after another in a file, each after a gap: none on a shelf and among bodies end to end, the length in the old form.
-use Rattle.std.specs.Prelude.{ℕ, ◌+◌, ◌≤◌, List, [], ◌∷◌, map, length, take, drop, get_or}
+use Rattle.std.specs.Prelude.{ℕ, ◌+◌, ◌*◌, ◌≤◌, List, [], ◌∷◌, map, length, take, drop, get_or}
+use Rattle.octets.specs.Numbers.{u32_at}
 use Rattle.format.specs.declared.Place.{Place}
+use Rattle.format.specs.Tests.{place}
 use Rattle.format.specs.Shortcut.{most, sum}
 use Rattle.shelves.specs.Table.{most_entries, bodies_start, shelf_rows}
 use Rattle.shelves.specs.OldFile.{old_entries}
@@ -14,6 +16,10 @@ apart gap (n ∷ ns) d = take n (drop gap d) ∷ apart gap ns (drop (gap + n) d)
 abbrev pub span : ℕ → List ℕ → ℕ
 span gap [] = 0
 span gap (n ∷ ns) = gap + n + span gap ns
+
+-- the row of a number in the table of a shelf
+abbrev pub row : List ℕ → ℕ → Place
+row s k = place (u32_at s (4 + 8 * k)) (u32_at s (4 + 8 * k + 4))
 
 -- the lengths in the table of a shelf
 unfoldable pub table_lengths : List ℕ → List ℕ

@@ -4,27 +4,19 @@ use Rattle.shelves.proofs.ApartLaws.{Small-sum}
 use Rattle.shelving.proofs.FileLaws.{shelve_bad, shelve_Small, shelve_room, shelve_fits, shelve_made}
 use Rattle.shelving.proofs.shelve.Goals as goal
 
-pub first_bad-bad-requires : goal.first_bad-bad-requires
-first_bad-bad-requires c =
-    omega (arith, c.requires.whole)
+pub returns-in-Some : goal.returns-in-Some
+returns-in-Some c = rw c.at.ensures (shelve_bad _ _ _ _ c.requires _ c.in-Some.ensures)
 
-pub returns-then-bad-n : goal.returns-then-bad-n
-returns-then-bad-n c =
-    shelve_bad _ _ _ _ c.requires _ c.first_bad-bad.ensures c.if-bad-n.true
-
-pub overflow_add-n-2 : goal.overflow_add-n-2
-overflow_add-n-2 c =
-    let small = shelve_Small _ _ _ _ c.requires c.args.out.now c.first_bad-bad.ensures (omega arith) in
+pub overflow_add-lengths-2 : goal.overflow_add-lengths-2
+overflow_add-lengths-2 c =
+    let small = shelve_Small _ _ _ _ c.requires c.args.out.now c.in_default.ensures in
     omega (arith, Small-sum small, c.requires.total, c.requires.few)
 
-pub returns-then-out-n : goal.returns-then-out-n
-returns-then-out-n c =
-    shelve_room _ _ _ _ c.requires _ c.first_bad-bad.ensures (omega arith) (omega arith)
+pub returns-then-out-lengths : goal.returns-then-out-lengths
+returns-then-out-lengths c = rw c.at-then-out-lengths.ensures (shelve_room _ _ _ _ c.requires _ c.in_default.ensures c.if-out-lengths.true)
 
 pub put_shelf-requires : goal.put_shelf-requires
-put_shelf-requires c =
-    shelve_fits _ _ _ _ c.requires _ c.first_bad-bad.ensures (omega arith) (omega arith)
+put_shelf-requires c = shelve_fits _ _ _ _ c.requires _ c.in_default.ensures c.if-out-lengths.false
 
 pub returns : goal.returns
-returns c =
-    shelve_made _ _ _ _ c.requires _ c.first_bad-bad.ensures (omega arith) (omega arith) c.put_shelf.ensures.written
+returns c = shelve_made _ _ _ _ c.requires _ c.in_default.ensures c.if-out-lengths.false c.put_shelf.ensures.written

@@ -4,5 +4,5 @@ use Rattle.format.specs.declared.Place.{Place}
 use Rattle.format.specs.Tests.{place, no_place}
 
 -- from p to e where it is there
-unfoldable pub between : Bool → ℕ → ℕ → Place
+abbrev pub between : Bool → ℕ → ℕ → Place
 between there p e = cond there (place p (e - p)) no_place

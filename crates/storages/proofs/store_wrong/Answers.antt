@@ -1,68 +1,11 @@
-use mathlib.Core.Path.{refl, sym, ◌∙◌}
-use native.Mathlib.Omega.{arith}
-use lib.ListN.{length-drop}
-use lib.Seq.{length-take-le}
-use Rattle.format.specs.Store.{storage_tests, store_tests}
-use Rattle.format.proofs.StoreLaws.{storage_Faults}
-use Rattle.storages.proofs.Laws.{by_part, by_end, by_wrong, part_wrong, part_right, tail_part}
+use Rattle.format.specs.Store.{store_tests}
+use Rattle.format.proofs.StoreLaws.{store_wrong_inside}
 use Rattle.storages.proofs.store_wrong.Goals as goal
 
-pub loop-n-init : goal.loop-n-init
-loop-n-init c = (c.requires.0, (refl, refl))
-
-pub slice_bounds-storage_wrong-end : goal.slice_bounds-storage_wrong-end
-slice_bounds-storage_wrong-end c =
-    let z = by_part 28 _ c.part_step.ensures c.in-Part.is in
-    sym (length-take-le _ _ z.fits)
-
-pub storage_wrong-w-requires : goal.storage_wrong-w-requires
-storage_wrong-w-requires c =
-    let I = c.loop-n.invariant in
-    let z = by_part 28 _ c.part_step.ensures c.in-Part.is in
-    rw (length-take-le _ _ z.fits) (z.low, omega (arith, z.fits, I.1.0, c.requires.1))
-
-pub returns-then-w-ne0 : goal.returns-then-w-ne0
+pub returns-clause-is : goal.returns-clause-is
 unfolding store_tests
-returns-then-w-ne0 c =
-    let I = c.loop-n.invariant in
-    part_wrong 28 storage_tests storage_Faults _ I.0 c.part_step.ensures c.in-Part.is c.storage_wrong-w.ensures c.if-w-ne0.true ∙ I.1.1
+returns-clause-is c = c.parts_wrong.ensures
 
-pub overflow_add-p : goal.overflow_add-p
-overflow_add-p c =
-    let I = c.loop-n.invariant in
-    let z = by_part 28 _ c.part_step.ensures c.in-Part.is in
-    omega (arith, z.fits, I.1.0, c.requires.1)
-
-pub slice_bounds-rest-count : goal.slice_bounds-rest-count
-slice_bounds-rest-count c =
-    let z = by_part 28 _ c.part_step.ensures c.in-Part.is in
-    z.fits
-
-pub slice_bounds-rest-start : goal.slice_bounds-rest-start
-slice_bounds-rest-start c =
-    let z = by_part 28 _ c.part_step.ensures c.in-Part.is in
-    z.fits
-
-pub slice_bounds-rest-end : goal.slice_bounds-rest-end
-slice_bounds-rest-end c = omega arith
-
-pub loop-n-smaller : goal.loop-n-smaller
-loop-n-smaller c =
-    let z = by_part 28 _ c.part_step.ensures c.in-Part.is in
-    simp (tail_part, length-drop) (omega (arith, z.some, z.fits))
-
-pub loop-n-preserved : goal.loop-n-preserved
+pub returns-clause-inside : goal.returns-clause-inside
 unfolding store_tests
-loop-n-preserved c =
-    let I = c.loop-n.invariant in
-    let z = by_part 28 _ c.part_step.ensures c.in-Part.is in
-    rw (tail_part, length-drop)
-    (omega (arith, I.0), (omega (arith, z.fits, I.1.0), part_right 28 storage_tests storage_Faults _ I.0 c.part_step.ensures c.in-Part.is c.storage_wrong-w.ensures c.if-w-ne0.false ∙ I.1.1))
-
-pub returns-in-End : goal.returns-in-End
-unfolding store_tests
-returns-in-End c = let I = c.loop-n.invariant in by_end 28 storage_tests storage_Faults _ I.0 c.part_step.ensures c.in-End.is ∙ I.1.1
-
-pub returns-in-Wrong : goal.returns-in-Wrong
-unfolding store_tests
-returns-in-Wrong c = let I = c.loop-n.invariant in by_wrong 28 storage_tests storage_Faults _ I.0 c.part_step.ensures c.in-Wrong.is ∙ I.1.1
+returns-clause-inside c = rw c.parts_wrong.ensures (store_wrong_inside c.args.at c.args.l.now)

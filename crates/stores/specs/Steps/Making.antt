@@ -1,8 +1,9 @@
 -- What is put of a store, row after row.
-use Rattle.std.specs.Prelude.{ℕ, ◌+◌, ◌*◌, ◌≤◌, ◌≡◌, List, [], ◌∷◌, ◌++◌, true, cond, length, eqb}
+use Rattle.std.specs.Prelude.{ℕ, ◌+◌, ◌≤◌, ◌≡◌, List, [], ◌∷◌, ◌++◌, true, cond, length, eqb}
 use Rattle.octets.specs.Numbers.{little}
+use Rattle.copies.specs.declared.output.Output.{Output}
 use Rattle.format.specs.declared.StoreRow.{StoreRow}
-use Rattle.format.specs.StoreWriting.{Entry, storage, by_number, by_name, unknown, entries, rows_placed, sized, value_bytes, values_bytes, store_bytes, entries_fit, most_store, row_at, rows_at, rows_from}
+use Rattle.format.specs.StoreWriting.{Entry, storage, by_number, by_name, unknown, entries, rows_placed, sized, value_bytes, values_bytes, store_bytes, entries_fit, most_store, rows_from}
 use Rattle.stores.specs.Steps.Sizes.{row_size}
 
 -- ---- pieces
@@ -15,6 +16,10 @@ values_size (r ∷ rs) = cond (eqb r.kind 0) 4 (row_size r + values_size rs)
 -- a value with its number, or with its name and that one's length
 abbrev pub value_with : ℕ → List ℕ → List ℕ → List ℕ
 value_with n name raw = sized (little 4 n ++ (0 ∷ (name ++ raw)))
+
+-- a value up to its name and raw bytes, of which there are n: its number, or its name's length
+abbrev pub value_head : ℕ → ℕ → List ℕ
+value_head number n = little 4 (9 + n) ++ (little 4 number ++ (0 ∷ []))
 
 -- a storage up to its values, of which there are n bytes
 abbrev pub head_bytes : List ℕ → ℕ → List ℕ
@@ -41,16 +46,11 @@ pub record Fitting (d : List ℕ) (rs : List StoreRow) : Type 0 where
   pub placed : rows_placed (length d) rs ≡ true
   pub fits : entries_fit kind (entries d rs) ≡ true
 
--- and what they make from the place at on has room in out, and is no longer than a store can be
-pub record RowsRoom (rs : List StoreRow) (d out : List ℕ) (at : ℕ) : Type 0 where
+-- and what they make has room in the output o, and is no longer than a store can be
+pub record RowsRoom (rs : List StoreRow) (d : List ℕ) (o : Output) : Type 0 where
   pub fitting : Fitting d rs
   pub few : length (open_bytes (entries d rs)) ≤ most_store
-  pub room : at + length (open_bytes (entries d rs)) ≤ length out
-
--- for the row whose numbers stand at i, and the rows that are left after it
-pub record RowRoom (ns : List ℕ) (i left : ℕ) (d out : List ℕ) (at : ℕ) : Type 0 where
-  pub there : i + 6 + 6 * left ≤ length ns
-  pub rows : RowsRoom (row_at ns i ∷ rows_at ns (i + 6) left) d out at
+  pub room : o.at + length (open_bytes (entries d rs)) ≤ length o.out.now
 
 -- for a whole store
 pub record StoreRoom (ns d out : List ℕ) : Type 0 where

@@ -1,8 +1,8 @@
 -- Without a block there are no rows; else those of its store.
-use mathlib.Core.Path.{sym, ap, ◌∙◌}
+use mathlib.Core.Path.{sym, ap}
 use native.Mathlib.Omega.{arith}
 use Rattle.format.specs.Blind.{has_values}
-use Rattle.storing.proofs.ListLaws.{no_rows, store_part, store_ready}
+use Rattle.storing.proofs.ListLaws.{no_rows, store_ready}
 use Rattle.storing.proofs.has_values.Goals as goal
 
 pub returns-then-b-eq0 : goal.returns-then-b-eq0
@@ -13,17 +13,8 @@ overflow_add-at c =
     let H = c.requires c.if-b-eq0.false in
     omega (arith, H.inside, H.long, c.well_formed)
 
-pub overflow_sub-b : goal.overflow_sub-b
-overflow_sub-b c =
-    let H = c.requires c.if-b-eq0.false in
-    omega (arith, H.long)
-
 pub any_value-requires : goal.any_value-requires
-any_value-requires c =
-    let H = c.requires c.if-b-eq0.false in
-    store_ready _ _ H (omega (arith, c.well_formed)) c.part.ensures
+any_value-requires c = store_ready _ _ (c.requires c.if-b-eq0.false) (omega (arith, c.well_formed)) c.store_of.ensures
 
 pub returns : goal.returns
-returns c =
-    let H = c.requires c.if-b-eq0.false in
-    rw (c.part.ensures ∙ store_part _ _ H) at c.any_value.ensures
+returns c = rw c.store_of.ensures at c.any_value.ensures

@@ -1,32 +1,25 @@
 -- Without a block there is no row; else the row of its store.
-use mathlib.Core.Path.{refl, ◌∙◌}
+use mathlib.Core.Path.{refl}
 use native.Mathlib.Omega.{arith}
-use Rattle.storing.proofs.ListLaws.{store_part, row_none, row_is, store_ready}
+use Rattle.storing.proofs.ListLaws.{row_none, row_refused, row_is, store_ready}
 use Rattle.storing.proofs.row_of.Goals as goal
 
+pub returns-in_default : goal.returns-in_default
+returns-in_default c = row_refused _ _ _ (rw c.in_default.is at c.stored_in.ensures) refl
+
 pub returns-then-b-eq0 : goal.returns-then-b-eq0
-returns-then-b-eq0 c = row_none _ _ _ c.stored_in-t.ensures refl c.if-b-eq0.true
+returns-then-b-eq0 c = row_none _ _ _ c.in-Ok.ensures refl c.if-b-eq0.true
 
 pub overflow_add-at : goal.overflow_add-at
 overflow_add-at c =
-    let T = c.stored_in-t.ensures in
-    let H = T.holds c.if-b-eq0.false in
+    let H = c.in-Ok.ensures.holds c.if-b-eq0.false in
     omega (arith, H.inside, H.long, c.well_formed)
 
-pub overflow_sub-b : goal.overflow_sub-b
-overflow_sub-b c =
-    let T = c.stored_in-t.ensures in
-    let H = T.holds c.if-b-eq0.false in
-    omega (arith, H.long)
+pub store_of-requires : goal.store_of-requires
+store_of-requires c = c.in-Ok.ensures.holds c.if-b-eq0.false
 
 pub row_at-requires : goal.row_at-requires
-row_at-requires c =
-    let T = c.stored_in-t.ensures in
-    let H = T.holds c.if-b-eq0.false in
-    store_ready _ _ H (omega (arith, c.well_formed)) c.part.ensures
+row_at-requires c = store_ready _ _ (c.in-Ok.ensures.holds c.if-b-eq0.false) (omega (arith, c.well_formed)) c.store_of.ensures
 
 pub returns : goal.returns
-returns c =
-    let T = c.stored_in-t.ensures in
-    let H = T.holds c.if-b-eq0.false in
-    row_is _ _ _ T c.if-b-eq0.false (rw (c.part.ensures ∙ store_part _ _ H) at c.row_at.ensures)
+returns c = row_is _ _ _ c.in-Ok.ensures c.if-b-eq0.false (rw c.store_of.ensures at c.row_at.ensures)

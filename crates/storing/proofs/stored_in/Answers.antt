@@ -1,19 +1,21 @@
 -- An accepted outline leads to the block by the ninth of its signatures.
-use Rattle.storing.proofs.ListLaws.{stored_refused, store_field}
+use Rattle.std.proofs.Common.{sym, refl}
+use Rattle.std.proofs.lemmas.Result.{err_from_is_err_and}
+use Rattle.reader.proofs.OutlineLaws.{outline_accepted, outline_noted, outline_refused}
+use Rattle.storing.proofs.ListLaws.{store_field}
 use Rattle.storing.proofs.stored_in.Goals as goal
+
+pub returns-in_err-outline_of : goal.returns-in_err-outline_of
+returns-in_err-outline_of c =
+    let p = err_from_is_err_and c.from_residual.result c.from_residual.ensures.1 in
+    rw (p.1, p.2) (outline_refused _ _ (sym c.in_err-outline_of.ensures.answer))
 
 pub block_from-requires : goal.block_from-requires
 block_from-requires c =
-    let told = c.outline_of-o.ensures.told in
-    let on = c.in-On.is in
-    (store_field _ _ _ (told.on _ on).accepted (told.noted _ on)).reached
+    let outline = c.in_ok-outline_of.ensures in
+    (store_field _ _ _ (outline_accepted _ _ outline.answer refl) (outline_noted _ _ outline.answer refl outline.firsts)).reached
 
-pub returns-in-On : goal.returns-in-On
-returns-in-On c =
-    let told = c.outline_of-o.ensures.told in
-    let on = c.in-On.is in
-    (store_field _ _ _ (told.on _ on).accepted (told.noted _ on)).stored c.block_from.ensures (told.end _ on)
-
-pub returns-in-Off : goal.returns-in-Off
-returns-in-Off c =
-    stored_refused c.outline_of-o.ensures.told c.in-Off.is
+pub returns : goal.returns
+returns c =
+    let outline = c.in_ok-outline_of.ensures in
+    (store_field _ _ _ (outline_accepted _ _ outline.answer refl) (outline_noted _ _ outline.answer refl outline.firsts)).stored c.block_from.ensures

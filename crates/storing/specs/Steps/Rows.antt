@@ -1,13 +1,11 @@
 -- How far the walk over the rows of a store has come, and what is left of them.
-use Rattle.std.specs.Prelude.{ℕ, ◌+◌, ◌-◌, ◌≤◌, ◌<◌, ◌≡◌, List, [], ◌∷◌, ◌++◌, Bool, true, false, ◌||◌, length, take, drop, eqb}
+use Rattle.std.specs.Prelude.{ℕ, ◌+◌, ◌-◌, ◌≤◌, ◌<◌, ◌≡◌, List, [], ◌∷◌, ◌++◌, Bool, true, false, ◌||◌, Option, None, Some, length, take, drop, eqb}
 use Rattle.octets.specs.Numbers.{u32_at}
 use Rattle.format.specs.declared.StoreRow.{StoreRow}
 use Rattle.format.specs.Tests.{all}
 use Rattle.format.specs.Store.{values_tests, store_tests}
 use Rattle.format.specs.StoreList.{per_part, value_row, store_rows}
 use Rattle.storing.specs.declared.rows.StoreCursor.{StoreCursor}
-use Rattle.storing.specs.declared.rows.NextRow.{NextRow}
-use Rattle.storing.specs.declared.rows.NextRow.TheVariants.{Row, End}
 
 -- what is left of the values of the storage at hand, and the storages after it
 abbrev pub values_left : List ℕ → StoreCursor → List ℕ
@@ -47,6 +45,6 @@ pub record Next (l : List ℕ) (base : ℕ) (c : StoreCursor) (r : StoreRow) (d 
 pub record NoneLeft (l : List ℕ) (base : ℕ) (c : StoreCursor) : Type 0 where
   pub none : rows_left l base c ≡ []
 
-abbrev pub NextIs : List ℕ → ℕ → StoreCursor → NextRow → Type 0
-NextIs l base c (Row r d) = Next l base c r d
-NextIs l base c End = NoneLeft l base c
+abbrev pub NextIs : List ℕ → ℕ → StoreCursor → Option (StoreRow × StoreCursor) → Type 0
+NextIs l base c (Some (r, d)) = Next l base c r d
+NextIs l base c None = NoneLeft l base c

@@ -1,14 +1,14 @@
 -- Where the store of a shortcut stands.
-use Rattle.std.specs.Prelude.{◌≡◌, List, ℕ, ◌+◌, ◌≤◌, length, drop, true}
+use Rattle.std.specs.Prelude.{◌≡◌, List, ℕ, ◌+◌, ◌≤◌, length, drop, true, Result, Ok, Err}
 use Rattle.format.specs.declared.Profile.{Profile}
-use Rattle.format.specs.Tests.{all}
+use Rattle.format.specs.Tests.{all, refused}
+use Rattle.format.specs.declared.Refusal.{Refusal}
 use Rattle.format.specs.declared.Place.{Place}
 use Rattle.format.specs.Store.{store_tests}
 use Rattle.format.specs.Shortcut.{shortcut, reading}
 use Rattle.format.specs.Contents.{bytes_at}
 use Rattle.format.specs.declared.StoreRow.{StoreRow}
 use Rattle.format.specs.StoreList.{block_rows, rows_by, store_row}
-use Rattle.storing.specs.declared.Stored.{Stored}
 
 -- the block at b, if there is one, holds a store whose tests hold
 pub record Holds (s : List ℕ) (b : Place) : Type 0 where
@@ -16,10 +16,15 @@ pub record Holds (s : List ℕ) (b : Place) : Type 0 where
   pub long : 12 ≤ b.len
   pub right : all (store_tests 0 (drop 8 (bytes_at s b))) ≡ true
 
-pub record StoredIs (profile : Profile) (s : List ℕ) (t : Stored) : Type 0 where
-  pub verdict : t.verdict ≡ (reading profile s).verdict
-  pub rows : block_rows s t.block ≡ rows_by s (shortcut profile s)
-  pub holds : (t.block.len ≡ 0 → ⊥) → Holds s t.block
+-- s is accepted, and the block at b holds its store; of length 0 there is none
+pub record StoreAt (profile : Profile) (s : List ℕ) (b : Place) : Type 0 where
+  pub verdict : (reading profile s).verdict ≡ Ok (length s)
+  pub rows : block_rows s b ≡ rows_by s (shortcut profile s)
+  pub holds : (b.len ≡ 0 → ⊥) → Holds s b
+
+abbrev pub StoredIs : Profile → List ℕ → Result Place Refusal → Type 0
+StoredIs profile s (Ok b) = StoreAt profile s b
+StoredIs profile s (Err r) = shortcut profile s ≡ refused r.fault r.spot
 
 -- the places of a row lie inside n bytes
 pub record RowIn (n : ℕ) (r : StoreRow) : Type 0 where

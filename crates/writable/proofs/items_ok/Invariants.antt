@@ -1,11 +1,11 @@
--- The items from p - 2 on decide for the whole body, since those before are whole; p passes the end by one item at most.
-use Rattle.writable.proofs.WalkLaws.{OnItems}
-use lib.ListN.{length}
-use Prim.Native.Nat.{◌≤◌, ◌+◌, ◌-◌}
+-- What is left decides as the whole body does.
+use Rattle.std.proofs.Common.{◌≡◌, length}
+use Rattle.format.specs.Writing.{writable_items}
+use Rattle.writable.proofs.WalkLaws.{items_left}
 use Rattle.writable.proofs.items_ok.Given as goal
 
-abbrev pub invariant-loop-p : goal.invariant-loop-p
-invariant-loop-p l = (2 ≤ l.p) × ((l.p ≤ length l.x + 65537) × OnItems l.x (l.p - 2))
+abbrev pub invariant-loop-rest : goal.invariant-loop-rest
+invariant-loop-rest l = items_left l.rest ≡ writable_items l.x
 
-abbrev pub decreases-loop-p : goal.decreases-loop-p
-decreases-loop-p l = length l.x + 65538 - l.p
+abbrev pub decreases-loop-rest : goal.decreases-loop-rest
+decreases-loop-rest l = length l.rest

@@ -1,11 +1,8 @@
--- What is left to be tested shrinks slot by slot.
-use Rattle.writable.proofs.SlotLaws.{rest_ok, inside_row, there_row}
-use Prim.Native.Nat.{◌-◌, ◌≤◌}
-use mathlib.Core.Path.{◌≡◌}
+-- Of the slots before k each body that is there lies in n bytes.
+use Rattle.std.proofs.Common.{◌≡◌, ℕ, ◌<◌, true, get_or}
+use Rattle.format.specs.Steps.Shape.{no_slot}
+use Rattle.writable.proofs.SlotLaws.{inside_at}
 use Rattle.writable.proofs.placed.Given as goal
 
 abbrev pub invariant-loop-k : goal.invariant-loop-k
-invariant-loop-k l = (l.k ≤ 17) × (rest_ok (inside_row l.n) (there_row l.there) l.row 17 0 ≡ rest_ok (inside_row l.n) (there_row l.there) l.row 17 l.k)
-
-abbrev pub decreases-loop-k : goal.decreases-loop-k
-decreases-loop-k l = 17 - l.k
+invariant-loop-k l = (j : ℕ) → j < l.k → (get_or l.s j no_slot).there ≡ true → inside_at l.n l.row j ≡ true

@@ -3,5 +3,4 @@ use Rattle.writable.proofs.TextLaws.{text_is}
 use Rattle.writable.proofs.text_ok.Goals as goal
 
 pub returns : goal.returns
-returns c =
-    text_is c.args.unicode c.args.x.now c.whole.ensures c.has_zero.ensures
+returns c = text_is c.args.unicode c.args.x.now c.whole.ensures c.has_zero.ensures

@@ -1,6 +1,6 @@
--- A text is its body and then its end.
-use Rattle.octets.proofs.WroteLaws.{join}
+-- The text and its zero character, end to end.
+use Rattle.copies.proofs.OutputLaws.{join}
 use Rattle.canonical.proofs.texts.put_text.Goals as goal
 
 pub returns : goal.returns
-returns c = record { written = join c.put_body-p.ensures c.put_end.ensures.written }
+returns c = join c.put_bytes.ensures c.put_end.ensures

@@ -1,15 +1,8 @@
--- What is left after i units decides as the whole does.
-use Rattle.format.specs.Codepage.{in_table, all_in_table}
-use Rattle.format.specs.Writing.{every}
-use Rattle.octets.specs.Characters.{units}
-use lib.ListN.{length, drop}
-use Prim.Native.Nat.{◌≤◌, ◌-◌, ◌/◌}
-use mathlib.Core.List.{map}
-use mathlib.Core.Path.{◌≡◌}
+-- The units so far are in the table.
+use Rattle.std.proofs.Common.{◌≡◌, ℕ, ◌*◌, ◌<◌, true}
+use Rattle.octets.specs.Numbers.{u16_at}
+use Rattle.format.specs.Codepage.{in_table}
 use Rattle.codepage.proofs.texts.all_in_table.Given as goal
 
-abbrev pub invariant-loop-i : goal.invariant-loop-i
-invariant-loop-i l = (l.i ≤ length l.x / 2) × (every (map in_table (drop l.i (units l.x))) ≡ all_in_table l.x)
-
-abbrev pub decreases-loop-i : goal.decreases-loop-i
-decreases-loop-i l = length l.x / 2 - l.i
+abbrev pub invariant-loop-k : goal.invariant-loop-k
+invariant-loop-k l = (j : ℕ) → j < l.k → in_table (u16_at l.x (2 * j)) ≡ true

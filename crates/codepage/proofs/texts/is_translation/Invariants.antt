@@ -1,13 +1,8 @@
--- What is left after i characters decides as the whole does; both texts have as many.
-use Rattle.codepage.proofs.TextLaws.{rest}
-use Rattle.format.specs.Codepage.{is_translation}
-use lib.ListN.{length}
-use Prim.Native.Nat.{◌≤◌, ◌*◌, ◌-◌}
-use mathlib.Core.Path.{◌≡◌}
+-- The units so far are those of the bytes.
+use Rattle.std.proofs.Common.{◌≡◌, ℕ, ◌*◌, ◌<◌, Some, get_or}
+use Rattle.octets.specs.Numbers.{u16_at}
+use Rattle.codepage.specs.Steps.Candidates.{unit_if}
 use Rattle.codepage.proofs.texts.is_translation.Given as goal
 
-abbrev pub invariant-loop-i : goal.invariant-loop-i
-invariant-loop-i l = (l.i ≤ length l.x) × ((length l.y ≡ 2 * length l.x) × (rest l.x l.y l.i ≡ is_translation l.x l.y))
-
-abbrev pub decreases-loop-i : goal.decreases-loop-i
-decreases-loop-i l = length l.x - l.i
+abbrev pub invariant-loop-k : goal.invariant-loop-k
+invariant-loop-k l = (j : ℕ) → j < l.k → unit_if (get_or l.x j 0) ≡ Some (u16_at l.y (2 * j))

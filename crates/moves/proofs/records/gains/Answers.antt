@@ -1,6 +1,6 @@
 -- Both of its tests.
-use mathlib.Core.Bool.{Bool, not, ◌&&◌}
 use mathlib.Core.Path.{ap}
+use mathlib.Core.Bool.{Bool, not, ◌&&◌}
 use Rattle.moves.proofs.records.gains.Goals as goal
 
 pub returns : goal.returns

@@ -1,68 +1,34 @@
+use mathlib.Core.Path.{◌≡◌, sym, ap, ◌∙◌}
 use native.Mathlib.Omega.{arith}
-use mathlib.Core.Path.{refl, sym, ap, ◌∙◌}
+use Prim.Native.Nat.{◌+◌, ◌-◌}
 use lib.ListN.{length}
-use Rattle.shelves.proofs.OldLaws.{old_many, old_cut, old_past, old_on, old_end, wrong_count}
+use borrow.Author.Tests.{eqb-true, eqb-false}
+use Rattle.shelves.specs.Table.{most_entries}
+use Rattle.shelves.proofs.OldLaws.{old_on, count_end, count_past, count_last}
 use Rattle.shelves.proofs.old.old_count.Goals as goal
 
-pub loop-at-init : goal.loop-at-init
-loop-at-init c =
-    (omega arith, (omega arith, (refl, omega arith)))
+pub returns-then-is_empty : goal.returns-then-is_empty
+returns-then-is_empty c =
+    let I = c.loop-k.invariant in
+    count_end c.args.s.now c.loop-k.rest.now c.loop-k.k I.fits I.count (eqb-true (length c.loop-k.rest.now) 0 (sym c.is_empty.ensures ∙ c.if-is_empty.true))
 
-pub returns-then-left-eq0 : goal.returns-then-left-eq0
-returns-then-left-eq0 c =
-    let s = c.args.s.now in
-    wrong_count s (sym c.loop-at.invariant.1.1.0 ∙ old_many s c.loop-at.at (omega arith) c.if-left-eq0.true)
+pub returns-in_err-after : goal.returns-in_err-after
+returns-in_err-after c =
+    let I = c.loop-k.invariant in
+    let more = eqb-false (length c.loop-k.rest.now) 0 (sym c.is_empty.ensures ∙ c.if-is_empty.false) in
+    c.from_residual.ensures ∙ count_past c.args.s.now c.loop-k.rest.now c.loop-k.k I.fits I.count more c.in_err-after.ensures
 
-pub overflow_sub-s : goal.overflow_sub-s
-overflow_sub-s c = omega arith
-
-pub returns-then-s-at-lt4 : goal.returns-then-s-at-lt4
-returns-then-s-at-lt4 c =
-    let s = c.args.s.now in
-    wrong_count s (sym c.loop-at.invariant.1.1.0 ∙ old_cut s c.loop-at.at (omega arith) c.loop-at.left c.if-s-at-lt4.true)
-
-pub u32_at-n-requires : goal.u32_at-n-requires
-u32_at-n-requires c = omega arith
-
-pub overflow_cast-n : goal.overflow_cast-n
-overflow_cast-n c = omega arith
-
-pub overflow_sub-s-in-loop-at : goal.overflow_sub-s-in-loop-at
-overflow_sub-s-in-loop-at c = omega arith
-
-pub overflow_add-n : goal.overflow_add-n
-overflow_add-n c = omega arith
-
-pub returns-then-s-at : goal.returns-then-s-at
-returns-then-s-at c =
-    let s = c.args.s.now in
-    wrong_count s (sym c.loop-at.invariant.1.1.0 ∙ old_past s c.loop-at.at (omega arith) c.loop-at.left (omega (arith, c.u32_at-n.ensures)))
-
-pub overflow_add-at : goal.overflow_add-at
-overflow_add-at c = omega arith
-
-pub overflow_add-at-in-loop-at : goal.overflow_add-at-in-loop-at
-overflow_add-at-in-loop-at c = omega arith
-
-pub overflow_sub-left : goal.overflow_sub-left
-overflow_sub-left c = omega arith
-
-pub loop-at-smaller : goal.loop-at-smaller
-loop-at-smaller c = omega arith
-
-pub loop-at-preserved : goal.loop-at-preserved
-loop-at-preserved c =
-    let s = c.args.s.now in
-    let p = c.loop-at.at in
-    let left = c.loop-at.left in
-    let on = old_on s p (omega arith) left (omega arith) (omega (arith, c.u32_at-n.ensures)) in
-    (omega arith, (omega arith, (rw c.u32_at-n.ensures (sym on.0 ∙ c.loop-at.invariant.1.1.0), rw c.u32_at-n.ensures (omega (arith, ap length on.1, c.loop-at.invariant.1.1.1)))))
-
-pub overflow_sub-result : goal.overflow_sub-result
-overflow_sub-result c = omega arith
+pub loop-k-preserved : goal.loop-k-preserved
+loop-k-preserved c =
+    let I = c.loop-k.invariant in
+    let t = c.loop-k.rest.now in
+    let e = c.in_ok-after.ensures in
+    let more = eqb-false (length t) 0 (sym c.is_empty.ensures ∙ c.if-is_empty.false) in
+    let on = old_on t more (most_entries - c.loop-k.k) (omega (arith, c.loop-k-test.true)) e.0 in
+    let fewer : most_entries - c.loop-k.k - 1 ≡ most_entries - (c.loop-k.k + 1) = omega arith in
+    rw (e.2, ← fewer) (record { fits = sym on.0 ∙ I.fits; count = omega (arith, I.count, ap length on.1) })
 
 pub returns : goal.returns
 returns c =
-    let s = c.args.s.now in
-    let end = old_end s c.loop-at.at (omega arith) c.loop-at.left in
-    rw (sym c.loop-at.invariant.1.1.0 ∙ end.0) (omega (arith, ap length end.1, c.loop-at.invariant.1.1.1))
+    let I = c.loop-k.invariant in
+    c.then_some.ensures ∙ count_last c.args.s.now c.loop-k.rest.now c.loop-k.k I.fits I.count (omega arith) c.is_empty-2.ensures

@@ -3,12 +3,11 @@ use mathlib.Core.Path.{◌≡◌}
 use Prim.Native.Nat.{◌+◌, ◌*◌, ◌≤◌}
 use lib.ListN.{length, drop}
 use Rattle.shelves.specs.Table.{table_rows, bodies_start, rows_follow}
+use Rattle.shelves.proofs.TableLaws.{rows_on}
 use Rattle.shelves.proofs.table.rows_follow.Given as goal
 
-abbrev pub invariant-loop-left : goal.invariant-loop-left
-invariant-loop-left l =
-    (l.i + 8 * l.left ≤ length l.s) × ((l.left ≤ l.n) × ((l.at + 4294967296 * l.left ≤ bodies_start l.n + 4294967296 * l.n)
-    × (rows_follow (length l.s) l.at (table_rows l.left (drop l.i l.s)) ≡ rows_follow (length l.s) (bodies_start l.n) (table_rows l.n (drop 4 l.s)))))
-
-abbrev pub decreases-loop-left : goal.decreases-loop-left
-decreases-loop-left l = l.left
+abbrev pub invariant-loop-k : goal.invariant-loop-k
+invariant-loop-k l = record {
+  small : l.at ≤ bodies_start l.n + 4294967296 * l.k;
+  follow : rows_follow (length l.s) l.at (rows_on l.s l.n l.k) ≡ rows_follow (length l.s) (bodies_start l.n) (table_rows l.n (drop 4 l.s));
+}

@@ -1,14 +1,12 @@
 -- The two answers of reading.
-use mathlib.Core.Path.{sym, ap, ◌∙◌}
+use mathlib.Core.Path.{ap}
 use Rattle.shelving.specs.Shelf.{accepted_by, accepted_entry}
 use Rattle.shelving.proofs.entries.entry_ok.Goals as goal
 
-pub returns-in-Accepted : goal.returns-in-Accepted
+pub returns-in-Ok : goal.returns-in-Ok
 unfolding accepted_entry
-returns-in-Accepted c =
-    sym (ap accepted_by (sym c.check.ensures.answer ∙ c.in-Accepted.is))
+returns-in-Ok c = ap accepted_by c.in-Ok.ensures.answer
 
-pub returns-in-Refused : goal.returns-in-Refused
+pub returns-in_default : goal.returns-in_default
 unfolding accepted_entry
-returns-in-Refused c =
-    sym (ap accepted_by (sym c.check.ensures.answer ∙ c.in-Refused.is))
+returns-in_default c = ap accepted_by c.in_default.ensures.answer

@@ -3,5 +3,4 @@ use Rattle.stores.proofs.MakingLaws.{head_put}
 use Rattle.stores.proofs.making.put_storage.Goals as goal
 
 pub returns : goal.returns
-returns c =
-    head_put c.args.d.now c.args.identifier c.args.n c.requires.1.0 c.add_u32-p.ensures c.add_u32-p-2.ensures c.put_body.ensures
+returns c = head_put c.args.identifier.now c.args.n c.requires.1.0 c.put_u32.ensures c.put_u32-2.ensures c.put_bytes.ensures

@@ -1,35 +1,18 @@
-use mathlib.Core.Path.{ap, ◌∙◌}
-use native.Mathlib.Omega.{arith}
-use Rattle.format.specs.Blind.{has_values}
-use Rattle.storing.proofs.RowLaws.{first_Right, first_rows, by_row, by_end, nearer, is_value, no_value_yet}
+-- The rows are those of the store.
+use mathlib.Core.Path.{sym, ◌∙◌}
+use mathlib.Core.Bool.{not}
+use lib.Dec.{eqb}
+use borrow.Author.Tests.{tests}
+use Rattle.std.proofs.Common.{rules}
+use Rattle.std.proofs.lemmas.Iterator.Consumers.{YieldsList-from_first}
+use Rattle.std.proofs.lemmas.Iterator.Search.{any_from_yields_List}
+use Rattle.format.specs.declared.StoreRow.{StoreRow}
+use Rattle.format.specs.StoreList.{store_rows}
+use Rattle.storing.proofs.RowLaws.{values_any}
 use Rattle.storing.proofs.rows.any_value.Goals as goal
 
-pub loop-r-init : goal.loop-r-init
-loop-r-init c =
-    rw c.first_cursor-c.ensures (first_Right _ c.requires.0, ap has_values (first_rows c.args.l.now c.args.base))
-
-pub next_row-requires : goal.next_row-requires
-next_row-requires c = (c.loop-r.invariant.0, c.requires.1)
-
-pub returns-then-r-ne0 : goal.returns-then-r-ne0
-returns-then-r-ne0 c =
-    let I = c.loop-r.invariant in
-    let N = by_row c.next_row.ensures c.in-Row.is in
-    is_value N.rows c.if-r-ne0.true ∙ I.1
-
-pub loop-r-smaller : goal.loop-r-smaller
-loop-r-smaller c =
-    let N = by_row c.next_row.ensures c.in-Row.is in
-    omega (arith, (nearer N).0, (nearer N).1)
-
-pub loop-r-preserved : goal.loop-r-preserved
-loop-r-preserved c =
-    let I = c.loop-r.invariant in
-    let N = by_row c.next_row.ensures c.in-Row.is in
-    (N.right, no_value_yet N.rows c.if-r-ne0.false ∙ I.1)
-
-pub returns-in-End : goal.returns-in-End
-returns-in-End c =
-    let I = c.loop-r.invariant in
-    let none = by_end c.next_row.ensures c.in-End.is in
-    rw none.none at I.1
+pub returns : goal.returns
+returns c =
+    let all = store_rows c.args.base c.args.l.now in
+    any_from_yields_List (λ (r : StoreRow). not (eqb r.kind 0)) _ _ c.any.result c.any.ensures.ran (YieldsList-from_first (λ x. x) (λ rest. rest) all c.new.ensures) (λ x b q k. search (rules, tests))
+    ∙ sym (values_any all)

@@ -1,12 +1,8 @@
--- The numbers put and those of the rows left are all numbers; a cursor passes a byte at least with each row.
-use Prim.Native.Nat.{◌-◌}
-use lib.ListN.{length}
-use Rattle.storing.specs.Steps.Rows.{Right}
+-- The numbers put and those of the rows left are all numbers.
+use Rattle.std.specs.Iterator.Adapters.{enumerate_source, enumerate_count}
+use Rattle.format.specs.StoreList.{store_rows}
 use Rattle.storing.proofs.RowLaws.{Putting}
 use Rattle.storing.proofs.rows.put_rows.Given as goal
 
-abbrev pub invariant-loop-r : goal.invariant-loop-r
-invariant-loop-r l = Right l.l l.c × Putting l.l l.base l.initial.rows l.c l.at l.rows
-
-abbrev pub decreases-loop-r : goal.decreases-loop-r
-decreases-loop-r l = length l.l - l.c.at
+abbrev pub invariant-loop-k : goal.invariant-loop-k
+invariant-loop-k l = Putting (store_rows l.fn.base l.fn.l) l.initial.rows (enumerate_source l.k-iterator) (enumerate_count l.k-iterator) l.rows

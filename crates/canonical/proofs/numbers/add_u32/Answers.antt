@@ -1,7 +1,0 @@
--- The number's four bytes are put at the place, and the answer is the place after them.
-use Rattle.octets.proofs.WroteLaws.{Wrote-number}
-use native.Mathlib.Omega.{arith}
-use Rattle.canonical.proofs.numbers.add_u32.Goals as goal
-
-pub returns : goal.returns
-returns c = Wrote-number 4 _ _ _ c.put_u32.ensures (omega arith)

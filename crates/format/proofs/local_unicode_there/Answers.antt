@@ -1,4 +1,0 @@
-use Rattle.format.proofs.local_unicode_there.Goals as goal
-
-pub returns : goal.returns
-returns c = rw c.local_there.ensures

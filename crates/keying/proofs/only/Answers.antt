@@ -1,4 +1,0 @@
-use Rattle.keying.proofs.only.Goals as goal
-
-pub returns : goal.returns
-returns c = cc

@@ -1,5 +1,0 @@
-use mathlib.Core.Path.{refl}
-use Rattle.pathing.proofs.is_path.Goals as goal
-
-pub returns : goal.returns
-returns c = refl

@@ -1,4 +1,0 @@
-use Rattle.single.proofs.bytes_of.Goals as goal
-
-pub returns-then-unicode : goal.returns-then-unicode
-returns-then-unicode c = rw c.if-unicode.true
