@@ -15,7 +15,7 @@ const NUMBERED: &[(&str, &str, &str)] = &[
     ("Result<Cursor, Cursor>", "Result Cursor Cursor", "skipped_number"),
     ("Option<usize>", "Option ℕ", "zero_number"),
     ("Result<(Place, Cursor), Refusal>", "{A : Type 0} → Result (A × Cursor) Refusal", "taken_number"),
-    ("Result<(Header, Cursor), Refusal>", "Result (Header × Cursor) Refusal", "header_number"),
+    ("Result<(Header, Cursor), Refusal>", "{A : Type 0} → Result (A × Cursor) Refusal", "taken_number"),
     ("Result<Cursor, Refusal>", "Result Cursor Refusal", "info_number"),
     ("Result<SectionEnds, Refusal>", "Result SectionEnds Refusal", "next_number"),
     ("Result<Option<Block>, Fault>", "BlockStep", "step_number"),
@@ -28,17 +28,20 @@ const NUMBERED: &[(&str, &str, &str)] = &[
 const BY_THEOREMS: &[&str] =
     &["took_number", "skipped_number", "zero_number", "end_number", "volume_number", "network_number"];
 
-/// Answers that tell a number or a record from a field or a section at fault, and a text or a place from none: neither case has a number of its own.
+/// Functions whose answer tells a number or a record from a field or a section at fault, or a text or a place from none: neither case has a number of its own.
 /// The place of an entry on a shelf has the number of its verdict, and so has what salvage saved.
 const PLAIN: &[&str] = &[
-    "Result<(), usize>",
-    "Result<Found<usize>, usize>",
-    "Result<Found<NetworkTexts>, usize>",
-    "Result<usize, Refusal>",
-    "Option<Found<usize>>",
-    "Option<Place>",
-    "Result<Place, Refused>",
-    "Result<Salvaged, Refused>",
+    "block_from",
+    "nth_block",
+    "demand",
+    "text_at",
+    "apart_six",
+    "volume",
+    "network",
+    "fault",
+    "salvage",
+    "shelf_entry",
+    "shelf_one",
 ];
 
 /// The enums that a file of code declares.
@@ -46,15 +49,28 @@ fn enums(source: &str) -> impl Iterator<Item = &str> {
     source.lines().filter_map(|line| line.strip_prefix("pub enum ")?.split_whitespace().next())
 }
 
-/// What the functions of a file of code answer, each with whether it is public.
-fn answers(source: &str) -> Vec<(bool, &str)> {
+/// What a function of the code answers.
+#[derive(Debug, PartialEq)]
+struct Answer<'a> {
+    public: bool,
+    name: &'a str,
+    typed: &'a str,
+}
+
+/// What the functions of a file of code answer.
+fn answers(source: &str) -> Vec<Answer<'_>> {
     let functions = source.match_indices("fn ").filter(|(at, _)| {
         let before = source[..*at].rsplit('\n').next().unwrap().trim_start();
         ["", "pub ", "pub(crate) "].contains(&before)
     });
     let signature = |at: usize| source[at..].split(" {\n").next()?.split("{\n").next();
     let answer = |at: usize| signature(at)?.split_once(") -> ")?.1.lines().next();
-    functions.filter_map(|(at, _)| Some((source[..at].ends_with("pub "), answer(at)?.trim_end()))).collect()
+    let one = |at: usize| {
+        let public = source[..at].ends_with("pub ");
+        let name = words(&source[at..]).nth(1)?.split('<').next()?;
+        Some(Answer { public, name, typed: answer(at)?.trim_end() })
+    };
+    functions.filter_map(|(at, _)| one(at)).collect()
 }
 
 /// The definition that takes this type to its numbers.
@@ -112,7 +128,7 @@ fn is_either(answer: &str) -> bool {
 /// The answers of several cases that public functions give, each once.
 fn kinds(code: &str) -> BTreeSet<&str> {
     let own: Vec<&str> = enums(code).filter(|name| !HELD.contains(name)).collect();
-    let given = answers(code).into_iter().filter(|(public, _)| *public).map(|(_, answer)| answer);
+    let given = answers(code).into_iter().filter(|one| one.public).map(|one| one.typed);
     given.filter(|one| is_either(one) || *one == "Verdict" || own.contains(one)).collect()
 }
 
@@ -126,22 +142,22 @@ fn complaints(code: &str, definitions: &str) -> Vec<String> {
             _ => (),
         }
     }
-    for (public, answer) in answers(code) {
-        let known = NUMBERED.iter().any(|(typed, _, _)| *typed == answer) || PLAIN.contains(&answer);
-        if public && is_either(answer) && !known {
-            found.push(format!("{} has no numbers", answer));
+    for one in answers(code) {
+        let known = NUMBERED.iter().any(|(typed, _, _)| *typed == one.typed) || PLAIN.contains(&one.name);
+        if one.public && is_either(one.typed) && !known {
+            found.push(format!("{}: {} has no numbers", one.name, one.typed));
         }
     }
     found
 }
 
-/// What is missing of the rows: that a function answers so, and that the definition stands and is used.
+/// What is missing of the rows: that a function answers so, and that the definition stands and is used. Of the functions without: that they stand.
 fn rows(code: &str, definitions: &str, theorems: &str) -> Vec<String> {
     let mut found = Vec::new();
     let answers = answers(code);
     for (answer, typed, name) in NUMBERED {
         let line = format!("{} : {} → ℕ", name, typed);
-        if !answers.iter().any(|(_, one)| one == answer) {
+        if !answers.iter().any(|one| one.typed == *answer) {
             found.push(format!("nothing answers {}", answer));
         }
         if !definitions.lines().any(|one| definition(one) == Some(&line)) {
@@ -150,6 +166,11 @@ fn rows(code: &str, definitions: &str, theorems: &str) -> Vec<String> {
         let said = if BY_THEOREMS.contains(name) { [theorems, ""] } else { [code, definitions] };
         if !used(&said, name) {
             found.push(format!("nothing cites {}", name));
+        }
+    }
+    for name in PLAIN {
+        if !answers.iter().any(|one| one.name == *name && one.public && is_either(one.typed)) {
+            found.push(format!("{} answers no Result and no Option", name));
         }
     }
     found
@@ -204,12 +225,12 @@ fn an_answer_without_numbers_is_found() {
     let code = "    pub fn skip(\n        self,\n    ) -> Result<Cursor, Cursor>\n        ensures { result ≡ skipped }\n    {\n";
     let definition = "unfoldable pub skipped_number : Result Cursor Cursor → ℕ\nskipped_number (Ok c) = 0\n";
     let theorem = "pub skipped_has_number : skipped_number (skipped s) ≡ 0\n";
-    assert_eq!(answers(code), [(true, "Result<Cursor, Cursor>")]);
+    assert_eq!(answers(code), [Answer { public: true, name: "skip", typed: "Result<Cursor, Cursor>" }]);
     assert!(complaints(code, definition).is_empty());
     for (from, to) in [("Cursor>", "Place>"), ("Result<Cursor, Cursor>", "Option<Cursor>")] {
         let other = code.replace(from, to);
-        let answer = answers(&other)[0].1;
-        assert_eq!(complaints(&other, definition), [format!("{} has no numbers", answer)]);
+        let answer = answers(&other)[0].typed;
+        assert_eq!(complaints(&other, definition), [format!("skip: {} has no numbers", answer)]);
     }
     let of_skip = |found: Vec<String>| {
         found

@@ -12,6 +12,8 @@ struct Function {
     file: String,
     owner: Option<String>,
     name: String,
+    /// Whether it has const parameters.
+    of_constants: bool,
     /// How many buffers are lent to be written, and whether a part of the caller's bytes is shown.
     buffers: usize,
     shows: bool,
@@ -74,6 +76,7 @@ fn functions(crate_name: &str, file: &str, source: &str) -> Vec<Function> {
                 file: file.to_string(),
                 owner: owner.clone(),
                 name: named.split(|c| c == '(' || c == '<').next().unwrap().to_string(),
+                of_constants: named.split('(').next().unwrap().contains("<const "),
                 buffers: signature.matches("&mut ").count(),
                 shows: signature.contains("-> &"),
             });
@@ -103,10 +106,20 @@ fn proved(theorems: &str, function: &Function) -> bool {
         (Some(proof), Some(contract)) => (proof, contract),
         _ => return false,
     };
-    let begins = format!("pub {}_one_outcome : {} {}.ended ", function.law(), function.form(), contract);
-    let ends = format!(" {}.Reads.Post", proof);
-    let states = |line: &str| line.starts_with(&begins) && line.ends_with(&ends) && buffers(line) == function.buffers;
-    theorems.lines().any(states)
+    let begins = format!("pub {}_one_outcome : ", function.law());
+    let states = |says: &str| match function.of_constants {
+        // Of every value of its constants, which come first.
+        true => says.split_once(" → ").map_or(false, |(given, said)| {
+            let over = format!("{} ({}.ended (", function.form(), contract);
+            given.starts_with('(') && said.starts_with(&over) && said.contains(&format!(" ({}.Reads.Post ", proof))
+        }),
+        false => {
+            says.starts_with(&format!("{} {}.ended ", function.form(), contract))
+                && says.ends_with(&format!(" {}.Reads.Post", proof))
+        }
+    };
+    let mut said = theorems.lines().filter_map(|line| line.strip_prefix(&begins));
+    said.any(|says| states(says) && buffers(says) == function.buffers)
 }
 
 /// The functions that the page leaves out: the file, the name and the reason.
@@ -208,6 +221,12 @@ fn what_is_missing_or_too_much_is_found() {
     let twice = CODE.replace("out: &mut [u8]", "out: &mut [u8], to: &mut [u8]");
     assert_eq!(tried(&twice, &LAWS.replace("s.1.0.now", "s.1.0.now ++ s.1.0.now"), PAGE), without("put"));
     assert_eq!(tried(&twice, &LAWS.replace("s.1.0.now", "s.1.0.now ++ s.1.1.0.now"), PAGE), "");
+    let of_each = CODE.replace("pub fn take(", "pub fn take<const K: u32>(");
+    let laws = LAWS.replace("OneAnswer take_contract.ended take.Reads.Post", "(K : ℕ) → OneAnswer (take_contract.ended (number K)) (take.Reads.Post K)");
+    assert_eq!(tried(&of_each, &laws, PAGE), "");
+    assert_eq!(tried(&of_each, LAWS, PAGE), without("take"));
+    assert_eq!(tried(&of_each, &laws.replace("take.Reads", "other.Reads"), PAGE), without("take"));
+    assert_eq!(tried(CODE, &laws, PAGE), without("take"));
     assert_eq!(tried(&CODE.replace("fn inner", "pub fn inner"), LAWS, PAGE), without("inner"));
     assert_eq!(tried(CODE, LAWS, &PAGE.replace("say", "told")).matches(" of ").count(), 2);
     assert!(tried(&CODE.replace("say", "told"), LAWS, PAGE)

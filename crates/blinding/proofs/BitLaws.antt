@@ -6,13 +6,13 @@ use Prim.Native.Nat.{ℕ, ◌+◌, ◌≤◌}
 use native.Mathlib.Omega.{arith}
 use lib.ListN.{length, drop, get_or}
 use lib.Dec.{eqb}
-use borrow.Author.Tests.{eqb-true}
+use borrow.Author.Tests.{eqb-true, ne_eqb}
 use Rattle.format.specs.declared.Profile.{Profile}
 use Rattle.format.specs.declared.Place.{Place}
 use Rattle.format.specs.declared.Record.{Record}
 use Rattle.format.specs.declared.StoreRow.{StoreRow}
 use Rattle.format.specs.declared.Refusal.{Refusal}
-use Rattle.format.specs.Tests.{got, refused}
+use Rattle.format.specs.Tests.{got, no_place}
 use Rattle.format.specs.Numbers.{Numbered}
 use Rattle.format.specs.Blocks.{slot_of, size_fits, blocks, first_place}
 use Rattle.format.specs.Shortcut.{Sections, blocks_of, shortcut, record_of}
@@ -33,10 +33,10 @@ use Rattle.reader.specs.Steps.Finish.{FirstsOf, outline}
 use Rattle.reader.proofs.OutlineLaws.{outline_refused}
 use Rattle.storing.specs.Steps.Stored.{Holds}
 use Rattle.storing.proofs.ListLaws.{store_field}
-use Rattle.blinding.specs.Steps.Bits.{AllInside, PathAt, names_in, bits_from, bits_by, bits_in}
+use Rattle.blinding.specs.Steps.Bits.{AllInside, PathAt, PathBlock, names_in, bits_from, bits_by, bits_in}
 use Rattle.blinding.proofs.TextLaws.{not_none}
 use Rattle.format.specs.Verdicts.{Verdict, refused_at}
-use Rattle.std.specs.Prelude.{Ok, Err}
+use Rattle.std.specs.Prelude.{Option, Some, None, Ok, Err, is_some, SomeIff, IfSome, unwrap_or}
 
 -- ---- where the blocks stand
 
@@ -44,6 +44,7 @@ use Rattle.std.specs.Prelude.{Ok, Err}
 pub record Leads (s : List ℕ) (c : Sections) (signature field : ℕ) : Type 0 where
   pub reached : field ≤ length s
   pub is : block_from s field ≡ block_of s c signature
+  pub there : 4 ≤ field → 8 ≤ (block_from s field).len
 
 -- what an accepted shortcut has
 pub record Read (profile : Profile) (s : List ℕ) (r : Record) (row : List ℕ) : Type 0 where
@@ -57,7 +58,12 @@ pub record Read (profile : Profile) (s : List ℕ) (r : Record) (row : List ℕ)
   pub path : PathAt s (block_of s sections 0xA0000001)
   pub reached : get_or row 8 0 ≤ length s
   pub rows : block_rows s (block_from s (get_or row 8 0)) ≡ rows_of s sections
-  pub store : ((block_from s (get_or row 8 0)).len ≡ 0 → ⊥) → Holds s (block_from s (get_or row 8 0))
+  pub store : 4 ≤ get_or row 8 0 → Holds s (block_from s (get_or row 8 0))
+
+-- a block that is there has bytes
+pub there_is : {s : List ℕ} {c : Sections} {signature field : ℕ} → Leads s c signature field → (b : Option Place) → SomeIff b (4 ≤ field) (block_from s field) → is_some b ≡ not (eqb (unwrap_or b no_place).len 0)
+there_is L (Some x) h = let long = L.there h.0 in rw (ne_eqb x.len 0 (λ z. omega (arith, ap (λ (p : Place). p.len) h.1)))
+there_is L None h = refl
 
 -- by the table of signatures it has one size
 path_at : (s : List ℕ) (start : ℕ) (lengths : List ℕ) (n : ℕ) → blocks start (drop start s) ≡ got lengths n → PathAt s (first_place s 0xA0000001 start lengths)
@@ -94,9 +100,8 @@ module _ (profile : Profile) (s : List ℕ) (r : Record) (a : Accepts profile s 
       let leads : (k signature : ℕ) → get_or (firsts s start lengths) k 0 ≡ first_field s signature start lengths → Leads s c signature (get_or row k 0) = λ k signature e.
       let F = First-block s signature start lengths _ walk in
       let field : get_or row k 0 ≡ first_field s signature start lengths = ap (λ (l : List ℕ). get_or l k 0) is ∙ e in
-      record { reached = rw field F.field; is = ap (block_from s) field ∙ F.block } in
+      record { reached = rw field F.field; is = ap (block_from s) field ∙ F.block; there = rw field (rw F.block F.there) } in
       let S = store_field profile s r a noted in
-      let T = S.stored refl in
       record {
         sections = c;
         is = x.is;
@@ -107,17 +112,23 @@ module _ (profile : Profile) (s : List ℕ) (r : Record) (a : Accepts profile s 
         items = leads 10 0xA000000C refl;
         path = path_at s start lengths _ walk;
         reached = S.reached;
-        rows = T.rows ∙ ap (rows_by s) x.is;
-        store = T.holds;
+        rows = S.rows ∙ ap (rows_by s) x.is;
+        store = S.holds;
       }
 
+  -- what is asked of a block that is there
+  pub path_ready : (b : Option Place) → SomeIff b (4 ≤ get_or row 0 0) (block_from s (get_or row 0 0)) → IfSome b (PathBlock s)
+  path_ready (Some x) h =
+      let R = accepted_bits in
+      let long : 8 ≤ (block_of s R.sections 0xA0000001).len = rw R.environment.is at (R.environment.there h.0) in
+      rw (h.1 ∙ R.environment.is) (record { inside = R.path.inside; long = R.path.long (λ z. omega arith) })
+  path_ready None h = tt
+
+  pub store_ready : (b : Option Place) → SomeIff b (4 ≤ get_or row 8 0) (block_from s (get_or row 8 0)) → IfSome b (Holds s)
+  store_ready (Some x) h = rw h.1 (accepted_bits.store h.0)
+  store_ready None h = tt
+
   module _ {b d i st : Place} (eb : b ≡ block_from s (get_or row 0 0)) (ed : d ≡ block_from s (get_or row 5 0)) (es : st ≡ block_from s (get_or row 8 0)) (ei : i ≡ block_from s (get_or row 10 0)) where
-    pub path_ready : PathAt s b
-    path_ready = let R = accepted_bits in rw (eb ∙ R.environment.is) R.path
-
-    pub store_ready : (st.len ≡ 0 → ⊥) → Holds s st
-    store_ready = rw es accepted_bits.store
-
     bits_are : bits_from s r b d i (block_rows s st) ≡ bits_in profile s
     unfolding bits_in
     bits_are =

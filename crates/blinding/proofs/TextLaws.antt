@@ -18,7 +18,7 @@ use Rattle.octets.proofs.PartLaws.{part_in}
 use Rattle.format.specs.declared.Place.{Place}
 use Rattle.format.specs.declared.Record.{Record}
 use Rattle.format.specs.Presence.{local_there}
-use Rattle.format.specs.Tests.{one_or_0}
+use Rattle.format.specs.Tests.{one_or_0, no_place}
 use Rattle.format.specs.Pieces.{text_length}
 use Rattle.format.specs.Bodies.{place_in, local_slot, net_slot, suffix_slot}
 use Rattle.format.specs.Contents.{bytes_at}
@@ -26,12 +26,12 @@ use Rattle.format.specs.Target.{has_target, target_text}
 use Rattle.format.specs.Key.{part_if, block_text, environment}
 use Rattle.format.specs.PathWriting.{until_zero, unicode_text}
 use Rattle.format.specs.Blind.{says_text}
-use Rattle.format.proofs.Bools.{or_right, clash}
+use Rattle.format.proofs.Bools.{or_right}
 use Rattle.format.proofs.PositionLaws.{part_drop}
 use Rattle.target.specs.declared.Texts.{Texts}
 use Rattle.target.specs.Steps.Texts.{first_text, texts_of, Stands, texts_length}
 use Rattle.target.proofs.Laws.{texts_are, texts_long}
-use Rattle.blinding.specs.Steps.Bits.{AllInside, PathAt, names_in}
+use Rattle.blinding.specs.Steps.Bits.{AllInside, PathBlock, names_in}
 
 -- ---- up to a zero
 
@@ -69,33 +69,33 @@ until_is u s {n} h e = e ∙ sym (part_in s 0 n (omega (arith, h.1))) ∙ ap (λ
 
 -- ---- the texts of a path block
 
-module _ (s : List ℕ) (b : Place) (P : PathAt s b) where
-  pub no_byte_text : b.len ≡ 0 → [] ≡ block_text s b
-  unfolding before_zero
-  no_byte_text z = rw z
+module _ (s : List ℕ) (b : Place) (P : PathBlock s b) where
+  bytes_stand : part s (b.at + 8) 780 ≡ drop 8 (bytes_at s b)
+  bytes_stand =
+      let n : b.len - 8 ≡ 780 = omega (arith, P.long) in
+      sym (part_in s (b.at + 8) 780 (omega (arith, P.inside, P.long))) ∙ sym (rw n at (part_drop 8 b.len b.at s (omega (arith, P.long))))
 
-  pub no_unicode_text : b.len ≡ 0 → [] ≡ unicode_text (bytes_at s b)
-  unfolding units before_zero
-  no_unicode_text z = rw z
+  units_stand : part s (b.at + 268) 520 ≡ take 520 (drop 268 (bytes_at s b))
+  units_stand =
+      let n : b.len - 268 ≡ 520 = omega (arith, P.long) in
+      sym (part_in s (b.at + 268) 520 (omega (arith, P.inside, P.long)))
+      ∙ sym (take-take 520 520 (drop (b.at + 268) s) (omega arith))
+      ∙ ap (take 520) (sym (rw n at (part_drop 268 b.len b.at s (omega (arith, P.long)))))
 
-  module _ (there : b.len ≡ 0 → ⊥) where
-    bytes_stand : part s (b.at + 8) 780 ≡ drop 8 (bytes_at s b)
-    bytes_stand =
-        let n : b.len - 8 ≡ 780 = omega (arith, P.long there) in
-        sym (part_in s (b.at + 8) 780 (omega (arith, P.inside, P.long there))) ∙ sym (rw n at (part_drop 8 b.len b.at s (omega (arith, P.long there))))
+  pub byte_text_is : {x y : List ℕ} → x ≡ part s (b.at + 8) 780 → y ≡ until_zero false x → y ≡ block_text s b
+  byte_text_is e f = f ∙ ap (until_zero false) (e ∙ bytes_stand)
 
-    units_stand : part s (b.at + 268) 520 ≡ take 520 (drop 268 (bytes_at s b))
-    units_stand =
-        let n : b.len - 268 ≡ 520 = omega (arith, P.long there) in
-        sym (part_in s (b.at + 268) 520 (omega (arith, P.inside, P.long there)))
-        ∙ sym (take-take 520 520 (drop (b.at + 268) s) (omega arith))
-        ∙ ap (take 520) (sym (rw n at (part_drop 268 b.len b.at s (omega (arith, P.long there)))))
+  pub unicode_text_is : {x y : List ℕ} → x ≡ part s (b.at + 268) 520 → y ≡ until_zero true x → y ≡ unicode_text (bytes_at s b)
+  unicode_text_is e f = f ∙ ap (until_zero true) (e ∙ units_stand)
 
-    pub byte_text_is : {x y : List ℕ} → x ≡ part s (b.at + 8) 780 → y ≡ until_zero false x → y ≡ block_text s b
-    byte_text_is e f = f ∙ ap (until_zero false) (e ∙ bytes_stand)
+-- without a block they are empty
+pub no_byte_text : (s : List ℕ) → [] ≡ block_text s no_place
+unfolding before_zero
+no_byte_text s = refl
 
-    pub unicode_text_is : {x y : List ℕ} → x ≡ part s (b.at + 268) 520 → y ≡ until_zero true x → y ≡ unicode_text (bytes_at s b)
-    unicode_text_is e f = f ∙ ap (until_zero true) (e ∙ units_stand)
+pub no_unicode_text : (s : List ℕ) → [] ≡ unicode_text (bytes_at s no_place)
+unfolding units before_zero
+no_unicode_text s = refl
 
 -- ---- whether the key names a driver
 

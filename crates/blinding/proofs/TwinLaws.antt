@@ -8,7 +8,9 @@ use lib.ListN.{length}
 use lib.Dec.{leb}
 use borrow.Author.Tests.{le-leb, not-true, not-false}
 use Rattle.octets.specs.Steps.Puts.{part}
+use Rattle.std.specs.Prelude.{Option, Some, None, is_some, IfSome, unwrap_or}
 use Rattle.format.specs.declared.Place.{Place}
+use Rattle.format.specs.Tests.{no_place}
 use Rattle.format.specs.declared.Record.{Record}
 use Rattle.format.specs.Presence.{local_there, local_unicode_there}
 use Rattle.format.specs.Bodies.{local_slot, net_slot, net_unicode_slot, suffix_slot, local_unicode_slot, suffix_unicode_slot}
@@ -20,7 +22,7 @@ use Rattle.format.specs.PathWriting.{unicode_text}
 use Rattle.format.specs.Blind.{other_twin, text_in, other_target, other_environment}
 use Rattle.format.proofs.Bools.{clash}
 use Rattle.format.proofs.BodyLaws.{body_part}
-use Rattle.blinding.specs.Steps.Bits.{first_twin}
+use Rattle.blinding.specs.Steps.Bits.{PathBlock, first_twin}
 
 no_and : (a b : Bool) → a ≡ false → false ≡ (a && b)
 no_and a b e = rw e
@@ -87,3 +89,13 @@ module _ (s : List ℕ) (b : Place) where
   environment_told z {x} {y} {t} e f i =
       let same : t ≡ is_translation (block_text s b) (unicode_text (bytes_at s b)) = i ∙ rw (e, f) in
       ap not same ∙ yes_and (leb 1 b.len) (not (is_translation (block_text s b) (unicode_text (bytes_at s b)))) (le-leb 1 b.len (omega arith))
+
+module _ (s : List ℕ) where
+  pub environment_none : {n : Bool} → (b : Option Place) → is_some b ≡ not n → n ≡ true → false ≡ other_environment s (unwrap_or b no_place)
+  environment_none None e k = no_environment s no_place refl
+  environment_none (Some x) e k = clash refl (e ∙ rw k)
+
+  -- a path block has bytes
+  pub environment_some : {n : Bool} → (b : Option Place) → IfSome b (PathBlock s) → is_some b ≡ not n → n ≡ false → (unwrap_or b no_place).len ≡ 0 → ⊥
+  environment_some (Some x) P e k z = omega (arith, P.long)
+  environment_some None P e k z = clash (e ∙ rw k) refl

@@ -1,16 +1,19 @@
 // Where a shortcut can name its driver without its key telling it (FORMAT: Blind spots).
 #![tactic(auto)]
 
-ghost use Rattle.std.specs.Prelude.{◌≡◌, ◌+◌, ◌≤◌, cond, length};
+ghost use Rattle.std.specs.Prelude.{◌≡◌, ◌+◌, ◌≤◌, cond, length, IfSome, unwrap_or};
+ghost use Rattle.format.specs.Tests.{no_place};
 ghost use Rattle.format.specs.Numbers.{Numbered};
 ghost use Rattle.format.specs.Pieces.{text_length};
 ghost use Rattle.format.specs.Contents.{bytes_at};
 ghost use Rattle.format.specs.Key.{block_text};
 ghost use Rattle.format.specs.PathWriting.{until_zero, unicode_text};
-ghost use Rattle.format.specs.Blind.{could_name, other_twin, other_target, other_environment, key_blind, key_blind_answer};
+ghost use Rattle.format.specs.Blind.{could_name, other_twin, other_target, other_environment, has_values, key_blind, key_blind_answer};
+ghost use Rattle.format.specs.StoreList.{block_rows};
 ghost use Rattle.format.specs.Shortcut.{reading};
 ghost use Rattle.reader.specs.Steps.Finish.{FirstsOf};
-ghost use Rattle.blinding.specs.Steps.Bits.{AllInside, PathAt, names_in, first_twin, bits_in};
+ghost use Rattle.storing.specs.Steps.Stored.{Holds};
+ghost use Rattle.blinding.specs.Steps.Bits.{AllInside, PathBlock, names_in, first_twin, bits_in};
 
 use format::{Place, Profile, Record, Verdict};
 use reader::Outline;
@@ -32,32 +35,32 @@ fn until_zero(unicode: bool, s: &[u8]) -> &[u8]
     octets::part(s, 0, n)
 }
 
-fn byte_text(s: &[u8], b: Place) -> &[u8]
-    requires { PathAt s.now b }
-    ensures { result.now ≡ block_text s.now b }
+fn byte_text(s: &[u8], b: Option<Place>) -> &[u8]
+    requires { IfSome b (PathBlock s.now) }
+    ensures { result.now ≡ block_text s.now (unwrap_or b no_place) }
 {
-    if b.len == 0 {
+    let Some(b) = b else {
         return &s[..0];
-    }
+    };
     until_zero(false, octets::part(s, b.at + 8, 780))
 }
 
-fn unicode_text(s: &[u8], b: Place) -> &[u8]
-    requires { PathAt s.now b }
-    ensures { result.now ≡ unicode_text (bytes_at s.now b) }
+fn unicode_text(s: &[u8], b: Option<Place>) -> &[u8]
+    requires { IfSome b (PathBlock s.now) }
+    ensures { result.now ≡ unicode_text (bytes_at s.now (unwrap_or b no_place)) }
 {
-    if b.len == 0 {
+    let Some(b) = b else {
         return &s[..0];
-    }
+    };
     until_zero(true, octets::part(s, b.at + 268, 520))
 }
 
 // ---- the bits
 
 // By its target text, or by the text of the environment block b.
-fn names_driver(s: &[u8], r: Record, b: Place) -> bool
-    requires { AllInside s.now r × PathAt s.now b }
-    ensures { result ≡ names_in s.now r b }
+fn names_driver(s: &[u8], r: Record, b: Option<Place>) -> bool
+    requires { AllInside s.now r × IfSome b (PathBlock s.now) }
+    ensures { result ≡ names_in s.now r (unwrap_or b no_place) }
 {
     if byte_text(s, b).len() != 0 {
         return true;
@@ -76,6 +79,7 @@ fn could_name(r: Record) -> bool
     format::items_there(f) | format::relative_there(f) | format::info_there(f)
 }
 
+// Presence is a fact of the record, which has both places either way.
 fn other_twin(s: &[u8], there: bool, text: Place, unicode: Place) -> bool
     requires { (text.at + text.len ≤ length s.now) × (unicode.at + unicode.len ≤ length s.now) }
     ensures { result ≡ other_twin there (bytes_at s.now text) (bytes_at s.now unicode) }
@@ -124,16 +128,26 @@ fn other_target(s: &[u8], r: Record) -> bool
         )
 }
 
-fn other_environment(s: &[u8], b: Place) -> bool
-    requires { PathAt s.now b }
-    ensures { result ≡ other_environment s.now b }
+fn other_environment(s: &[u8], b: Option<Place>) -> bool
+    requires { IfSome b (PathBlock s.now) }
+    ensures { result ≡ other_environment s.now (unwrap_or b no_place) }
 {
-    if b.len == 0 {
+    if b.is_none() {
         return false;
     }
     let text = byte_text(s, b);
     let unicode = unicode_text(s, b);
     !codepage::texts::is_translation(text, unicode)
+}
+
+fn store_has_values(s: &[u8], store: Option<Place>) -> bool
+    requires { IfSome store (Holds s.now) }
+    ensures { result ≡ has_values (block_rows s.now (unwrap_or store no_place)) }
+{
+    match store {
+        Some(b) => storing::has_values(s, b),
+        None => false,
+    }
 }
 
 // The bound is in the contract, so that a caller's sum is seen to fit.
@@ -159,8 +173,8 @@ fn bits_of(o: &Outline, firsts: &[u32; 11]) -> usize
     bit_if(!names_driver(s, r, environment) & could_name(r), 1)
         + bit_if(other_target(s, r), 2)
         + bit_if(other_environment(s, environment), 4)
-        + bit_if((darwin.len != 0) | (items.len != 0), 8)
-        + bit_if(storing::has_values(s, store), 16)
+        + bit_if(darwin.is_some() | items.is_some(), 8)
+        + bit_if(store_has_values(s, store), 16)
 }
 
 // ---- the call

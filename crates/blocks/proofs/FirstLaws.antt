@@ -7,10 +7,12 @@ use native.Mathlib.Omega.{arith}
 use lib.ListN.{length, drop, get_or, set, length-drop}
 use lib.Seq.{drop-drop}
 use lib.Dec.{ltb, eqb}
-use borrow.Author.Tests.{leb-true, ltb-false, ne_eqb, eqb-true, le-ltb, not-true}
+use borrow.Author.Tests.{leb-true, ltb-false, ne_eqb, eqb-true, le-ltb, lt-ltb, not-true}
+use Rattle.std.specs.Prelude.{Option, Some, None, SomeIff, unwrap_or}
 use Rattle.octets.specs.Numbers.{u32_at}
 use Rattle.octets.proofs.NumberLaws.{number_drop}
-use Rattle.format.specs.Tests.{got}
+use Rattle.format.specs.declared.Place.{Place}
+use Rattle.format.specs.Tests.{got, no_place}
 use Rattle.format.specs.Blocks.{SizeRule, signatures, slot_in, slot_of, slot_at, block_size, blocks_after, blocks, first_place}
 use Rattle.format.specs.Steps.Firsts.{first_field, firsts_in, firsts}
 use Rattle.format.specs.Shortcut.{sum}
@@ -137,10 +139,11 @@ pub record First (s : List ℕ) (signature p : ℕ) (lengths : List ℕ) : Type 
   pub inside : (first_place s signature p lengths).at + (first_place s signature p lengths).len ≤ length s
   pub field : first_field s signature p lengths ≤ length s
   pub sized : ((first_place s signature p lengths).len ≡ 0 → ⊥) → 8 ≤ (first_place s signature p lengths).len
+  pub there : 4 ≤ first_field s signature p lengths → 8 ≤ (first_place s signature p lengths).len
 
 none_First : (s : List ℕ) (signature p : ℕ) → First s signature p []
 unfolding block_from
-none_First s signature p = record { block = refl; inside = omega arith; field = omega arith; sized = λ z. absurd (z refl) }
+none_First s signature p = record { block = refl; inside = omega arith; field = omega arith; sized = λ z. absurd (z refl); there = λ z. absurd (omega arith) }
 
 First-read : (k : ℕ) (s before : List ℕ) (signature p : ℕ) (lengths : List ℕ) (n : ℕ) → length (drop p s) ≤ k → blocks_after before p (drop p s) ≡ got lengths n → First s signature p lengths
 unfolding block_from
@@ -168,13 +171,21 @@ First-read (suc k) s before signature p lengths n l e =
           inside = rw e w;
           field = rw e (omega arith);
           sized = rw e (λ z. big);
+          there = rw e (λ z. big);
         }
     go size at big w ls f false e = record {
       block = rw e f.block;
       inside = rw e f.inside;
       field = rw e f.field;
       sized = rw e f.sized;
+      there = rw e f.there;
     }
+
+-- what a field leads to, as a place
+pub place_from : (s : List ℕ) (field : ℕ) (b : Option Place) → SomeIff b (4 ≤ field) (block_from s field) → unwrap_or b no_place ≡ block_from s field
+unfolding block_from
+place_from s field (Some x) h = h.1
+place_from s field None h = rw (lt-ltb field 4 (omega arith))
 
 pub First-block : (s : List ℕ) (signature p : ℕ) (lengths : List ℕ) (n : ℕ) → blocks p (drop p s) ≡ got lengths n → First s signature p lengths
 First-block s signature p lengths n e = First-read (length (drop p s)) s [] signature p lengths n (omega arith) e

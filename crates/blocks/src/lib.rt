@@ -1,7 +1,7 @@
 // Blocks (FORMAT: Blocks): what stands where one is due, and the walks over them up to the terminal block.
 #![tactic(auto)]
 
-ghost use Rattle.std.specs.Prelude.{◌≡◌, true, ◌+◌, ◌≤◌, length, IfSome};
+ghost use Rattle.std.specs.Prelude.{◌≡◌, true, ◌+◌, ◌≤◌, length, IfSome, SomeIff};
 ghost use Rattle.format.specs.Tests.{spot_at};
 ghost use Rattle.format.specs.Blocks.{slot_of, size_fits, path_tests, inside_tests};
 ghost use Rattle.format.specs.Shortcut.{most};
@@ -151,12 +151,6 @@ fn judged(rest: &[u8]) -> Result<Option<Block>, Fault>
 
 // ---- the walks
 
-fn no_firsts() -> [u32; 11]
-    ensures { result ≡ no_firsts }
-{
-    [0u32; 11]
-}
-
 // Where the signature of the block at p stands, which is never 0; no shortcut reaches what is too far for the number.
 fn field_of(p: usize) -> u32
     ensures { result ≡ field_of p }
@@ -216,7 +210,7 @@ fn stopped(r: Refusal, firsts: &mut [u32; 11]) -> Result<(Place, Cursor), Refusa
     ensures value { result ≡ Err r }
     ensures row { firsts.new ≡ no_firsts }
 {
-    *firsts = no_firsts();
+    *firsts = [0u32; 11];
     Err(r)
 }
 
@@ -263,20 +257,17 @@ pub fn blocks(s: &[u8], c: Cursor, firsts: &mut [u32; 11]) -> Result<(Place, Cur
     }
 }
 
-// The block whose signature stands there; the empty place for 0.
+// The block whose signature stands there; none for 0.
 #[tactic(auto, unfolding(crate::specs::Steps::Walk::block_from))]
-pub fn block_from(s: &[u8], field: u32) -> Place
+pub fn block_from(s: &[u8], field: u32) -> Option<Place>
     requires { field ≤ length s.now }
-    ensures { result ≡ block_from s.now field }
+    ensures { SomeIff result (4 ≤ field) (block_from s.now field) }
 {
-    if field < 4 {
-        return format::NO_PLACE;
-    }
-    let at = field as usize - 4;
-    Place {
+    let at = (field as usize).checked_sub(4)?;
+    Some(Place {
         at,
         len: octets::u32_at(s, at) as usize,
-    }
+    })
 }
 
 // Where block number k stands, of those that start at `from`.

@@ -12,7 +12,7 @@ ghost use Rattle.format.specs.Steps.Flat.{volume_head_bytes, network_to, network
 use copies::output::Output;
 use format::Link;
 
-// Two offset fields that are there or not.
+// Two offset fields that are there or not: presence is a fact of the record.
 pub fn put_fields(w: &mut Output, there: bool, x: u32, y: u32)
     requires { HasRoom w.old (cond there 8 0) }
     ensures { Writes w.old w.new (two_fields there x y) (cond there 8 0) }
@@ -51,7 +51,7 @@ fn put_volume_fields(w: &mut Output, l: Link, sizes: [u32; 17])
     put_label_fields(w, l.label_unicode);
 }
 
-// The sizes are a row beside the record: a type with the fact would ask more than the clause does.
+// Here and in the heads below the sizes are a row beside the record: a type with the fact would ask more than the clause does.
 pub fn put_volume_head(w: &mut Output, l: Link, sizes: [u32; 17])
     requires room { HasRoom w.old (volume_part l) }
     requires few { label_least l.label_unicode + get_or sizes label_slot 0 ≤ 131072 }

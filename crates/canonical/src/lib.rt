@@ -115,6 +115,7 @@ pub fn put_blocks(w: &mut Output, x: &[u8])
     w.put_u32(0);
 }
 
+// Presence is a fact of the record, which has the place either way.
 pub fn put_items_if(w: &mut Output, there: bool, d: &[u8], b: Place)
     requires inside { there ≡ true → InBuffer d.now b }
     requires room { HasRoom w.old (cond there (b.len + 4) 0) }
@@ -237,7 +238,7 @@ fn put_record(w: &mut Output, f: &Form)
     put_blocks(w, body(f.bodies, row[format::BLOCKS]));
 }
 
-// From the buffer's start on. Answers the shortcut's length.
+// From the buffer's start on. Answers the shortcut's length. The rows stand beside the record: docs/MAP.md and docs/CONTRACTS.md name this call.
 pub fn put_canonical(out: &mut [u8], q: Record, s: Shape, sizes: [u32; 17], d: &[u8]) -> usize
     requires fits { RoomFor d.now out.old q }
     requires shape { s ≡ shape_of q.header.flags q.link }

@@ -1,4 +1,4 @@
-// A body, and a string with its terminator.
+// A body, and a string with its terminator. `unicode` is what the file says of the text.
 ghost use Rattle.std.specs.Prelude.{◌≡◌, ◌+◌, length, replicate};
 ghost use Rattle.octets.specs.Characters.{bytes_of};
 ghost use Rattle.copies.specs.Steps.Writes.{HasRoom, Writes};

@@ -61,7 +61,7 @@ pub fn put_units(out: &mut [u8], at: usize, x: &[u8]) -> usize
     at + 2 * x.len()
 }
 
-// A Unicode text as bytes. Its units are all in the table, so that a candidate need not be looked at again.
+// A Unicode text as bytes. Its units are all in the table, so that a candidate need not be looked at again. The place is as in `put_units`.
 pub fn put_bytes(out: &mut [u8], at: usize, x: &[u8]) -> usize
     requires known { all_in_table x.now ≡ true }
     requires room { at + length x.now / 2 ≤ length out.old }

@@ -1,5 +1,6 @@
 // Copies into a lent buffer: many bytes in one store each, so that a copy goes by sixteen bytes at a time. Where the last
 // span would pass the end it stands back, and puts some bytes a second time.
+// They take the buffer and a place: an `Output` is made of these.
 #![tactic(auto)]
 
 pub mod output;

@@ -261,7 +261,7 @@ pub const NO_RECORD: Record = Record {
     places: [NO_PLACE; 17],
 };
 
-// The number of a fault.
+// The number of a fault: a cast, by the definition's name.
 #[tactic(auto, unfolding(crate::specs::Numbers::number_of))]
 pub fn number_of(f: Fault) -> u8
     ensures { result ≡ number_of f }
@@ -270,7 +270,7 @@ pub fn number_of(f: Fault) -> u8
 }
 
 // Whether the number has bit K.
-fn bit<const K: u32>(n: u32) -> bool
+pub fn bit<const K: u32>(n: u32) -> bool
     requires { K < 32 }
     ensures { result ≡ bit K n }
 {
@@ -462,14 +462,14 @@ pub fn network_head(unicode: bool) -> u32
     if unicode { 0x1C } else { 0x14 }
 }
 
-// What is absent counts as 0.
+// What is absent counts as 0. One test, which other crates make too.
 pub fn number_if(there: bool, n: u32) -> u32
     ensures { result ≡ cond there n 0 }
 {
     if there { n } else { 0 }
 }
 
-// ---- numbers and labels
+// ---- numbers and labels: of numbers, a call of the library each, for a definition of the rules
 
 pub fn one_or_0(b: bool) -> u8
     ensures { result ≡ one_or_0 b }

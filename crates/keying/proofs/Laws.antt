@@ -23,7 +23,7 @@ use Rattle.format.specs.declared.Place.{Place}
 use Rattle.format.specs.declared.Record.{Record}
 use Rattle.format.specs.declared.Fault.TheVariants.{Room as ROOM}
 use Rattle.format.specs.declared.Refusal.{Refusal}
-use Rattle.format.specs.Tests.{got, refused, one_or_0, place}
+use Rattle.format.specs.Tests.{got, refused, one_or_0, place, no_place}
 use Rattle.format.specs.Numbers.{Numbered}
 use Rattle.format.specs.Presence.{workdir_bit, arguments_bit, string_there, strings_unicode}
 use Rattle.format.specs.Blocks.{blocks}
@@ -42,7 +42,7 @@ use Rattle.format.proofs.AcceptedLaws.{accepted_Read, accepted_bodies, accepted_
 use Rattle.format.proofs.KeyDemands.{record_Tells}
 use Rattle.format.proofs.KeyRoom.{made}
 use Rattle.blocks.specs.Steps.Walk.{block_from}
-use Rattle.blocks.proofs.FirstLaws.{First-block}
+use Rattle.blocks.proofs.FirstLaws.{First-block, place_from}
 use Rattle.reader.specs.Steps.Finish.{FirstsOf, outline}
 use Rattle.reader.proofs.OutlineLaws.{outline_refused}
 use Rattle.target.specs.declared.Texts.{Texts}
@@ -126,16 +126,17 @@ no_block s b e = rw e
 a_block : (s : List ℕ) (b : Place) → (b.len ≡ 0 → ⊥) → some_part (block_text s b) ≡ environment s b
 a_block s b e = rw (le-leb 1 b.len (omega arith))
 
-module _ (s : List ℕ) {field : ℕ} (B : BlockAt s field) {b : Place} (f : b ≡ block_from s field) where
-  pub environment_absent : b.len ≡ 0 → EnvironmentOf s (block_from s field) None
-  environment_absent z = rw (← f) (record { stands = tt; is = no_block s b z })
+module _ (s : List ℕ) {field : ℕ} (B : BlockAt s field) where
+  pub environment_absent : (4 ≤ field → ⊥) → EnvironmentOf s (block_from s field) None
+  environment_absent z = rw (← place_from s field None z) (record { stands = tt; is = no_block s no_place refl })
 
-  pub environment_there : {a : Place} → (b.len ≡ 0 → ⊥) → TextOf s b a → EnvironmentOf s (block_from s field) (Some a)
-  environment_there {a} z x = rw (← f) (record { stands = (x.inside, B.small); is = ap some_part x.is ∙ a_block s b z })
+  module _ {b : Place} (f : b ≡ block_from s field) where
+    pub environment_there : {a : Place} → (b.len ≡ 0 → ⊥) → TextOf s b a → EnvironmentOf s (block_from s field) (Some a)
+    environment_there {a} z x = rw (← f) (record { stands = (x.inside, B.small); is = ap some_part x.is ∙ a_block s b z })
 
-  -- what the text of the block asks
-  pub text_stands : (b.len ≡ 0 → ⊥) → (b.at + b.len ≤ length s) × (8 ≤ b.len)
-  text_stands z = (rw f B.inside, rw f (B.sized (λ e. z (ap (λ (c : Place). c.len) f ∙ e))))
+    -- what the text of the block asks
+    pub text_stands : (4 ≤ field → 8 ≤ (block_from s field).len) → 4 ≤ field → (b.at + b.len ≤ length s) × (8 ≤ b.len)
+    text_stands long z = (rw f B.inside, rw f (long z))
 
 -- ---- what is in the key of an accepted shortcut
 
@@ -149,6 +150,7 @@ first_slot s {row} a start lengths n q h w =
 -- the row leads to the first block of its first slot
 pub record Leads (profile : Profile) (s : List ℕ) (field : ℕ) : Type 0 where
   pub block : BlockAt s field
+  pub there : 4 ≤ field → 8 ≤ (block_from s field).len
   pub is : environment s (block_from s field) ≡ (key_in profile s).environment
 
 module _ (profile : Profile) (s : List ℕ) (r : Record) (e : Accepts profile s r) where
@@ -170,6 +172,7 @@ module _ (profile : Profile) (s : List ℕ) (r : Record) (e : Accepts profile s 
           inside = rw F.block F.inside;
           sized = rw F.block F.sized;
         };
+        there = rw F.block F.there;
         is = ap (environment s) F.block ∙ ap (λ (y : Key). y.environment) (sym m.is);
       })
 

@@ -41,15 +41,13 @@ fn block_text(s: &[u8], b: Place) -> Place
     }
 }
 
-// By the block, whatever flag bit 9 says. Its signature stands at the field; 0 where there is none.
+// By the block, whatever flag bit 9 says. Its signature stands at the field; 0 where there is none: the field is a number of the row `firsts`.
 fn environment(s: &[u8], field: u32) -> Option<Place>
-    requires { BlockAt s.now field }
+    requires at { BlockAt s.now field }
+    requires long { 4 ≤ field → 8 ≤ (block_from s.now field).len }
     ensures { EnvironmentOf s.now (block_from s.now field) result }
 {
-    let b = blocks::block_from(s, field);
-    if b.len == 0 {
-        return None;
-    }
+    let b = blocks::block_from(s, field)?;
     Some(block_text(s, b))
 }
 
@@ -109,7 +107,7 @@ fn key_length(k: KeyParts) -> usize
         + body_length(k.environment)
 }
 
-// The presence byte and the length.
+// The presence byte and the length. Presence is a fact of the part.
 fn put_head(there: bool, n: usize, out: &mut Output)
     requires { (n ≤ 4294967295) × HasRoom out.old 5 }
     ensures { Writes out.old out.new (little 1 (one_or_0 there) ++ little 4 n) 5 }

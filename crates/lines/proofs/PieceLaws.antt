@@ -10,7 +10,7 @@ use lib.Seq.{take_all, drop-drop}
 use lib.Dec.{ltb}
 use borrow.Author.Tests.{ltb-true}
 use Rattle.octets.specs.Numbers.{Bytes}
-use Rattle.lines.specs.Text.{piece}
+use Rattle.lines.specs.Text.{listing_text, key_text, piece}
 use Rattle.lines.specs.Steps.Pieces.{text_of, pieces}
 use Rattle.lines.proofs.Lengths.{length_listing, length_key_line}
 use Rattle.format.specs.declared.Profile.{Profile}
@@ -43,3 +43,12 @@ length_text profile false s bs = length_listing profile s
 -- what a program writes, put end to end
 pub all_written : (profile : Profile) (key : Bool) (s : List ℕ) → Bytes s → pieces 8 65536 (text_of profile key s) 0 ≡ text_of profile key s
 all_written profile key s bs = from_there 8 65536 (text_of profile key s) 0 (omega (arith, length_text profile key s bs))
+
+-- the same of each text by its own name
+pub listing_written : (profile : Profile) (s : List ℕ) → Bytes s → pieces 8 65536 (listing_text profile s) 0 ≡ listing_text profile s
+unfolding text_of
+listing_written profile s bs = all_written profile false s bs
+
+pub key_written : (profile : Profile) (s : List ℕ) → Bytes s → pieces 8 65536 (key_text profile s) 0 ≡ key_text profile s
+unfolding text_of
+key_written profile s bs = all_written profile true s bs

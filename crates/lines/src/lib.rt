@@ -74,6 +74,7 @@ fn write_text<F: Fn(&[u8], usize, &mut [u8], Profile) -> usize>(put: F, s: &[u8]
 {
     let mut out = [0u8; 65536];
     let mut from = 0;
+    // It ends in the middle: the last piece is written too.
     loop {
         let n = put(s, from, &mut out, profile);
         io::write_all(1, octets::part(&out, 0, n));

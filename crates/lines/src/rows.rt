@@ -17,7 +17,7 @@ impl Window<'_> {
         self.show(b"\n");
     }
 
-    // A section that is there, from p to e.
+    // A section that is there, from p to e. Presence is a flag of the header.
     fn line_if(&mut self, there: bool, name: &[u8], p: usize, e: usize)
         ensures { Showed self.old (line_if there name.now p e) self.new }
     {

@@ -1,28 +1,16 @@
 // A text shown part after part through a window, so that a buffer of any length gets any piece of it.
 ghost use Rattle.std.specs.Prelude.{◌≡◌, ◌≤◌, ◌<◌, ◌∷◌, [], length};
-ghost use Rattle.lines.specs.Text.{decimal, hex_digit, hex_of, verdict_line};
+ghost use Rattle.lines.specs.Text.{decimal, hex_of, verdict_line};
 
 use format::Verdict;
 
-// The buffer, how far it is filled, and how many bytes of the text are still to be passed over.
+// The buffer, how far it is filled, and how many bytes of the text are still to be passed over. Where it stands is kept from one call to the next.
 #[derive(Drop)]
 pub(crate) struct Window<'a> {
     out: &'a mut [u8],
     at: usize,
     skip: usize,
     ghost within: { at ≤ length out.now },
-}
-
-// By hand: no clause of std says which bytes its Display writes.
-#[tactic(auto, unfolding(crate::specs::Text::hex_digit))]
-fn hex_digit(x: u8) -> u8
-    requires { x < 16 }
-    ensures { result ≡ hex_digit x }
-{
-    if x < 10 {
-        return b'0' + x;
-    }
-    b'a' + (x - 10)
 }
 
 impl<'a> Window<'a> {
@@ -71,8 +59,9 @@ impl<'a> Window<'a> {
     fn byte(&mut self, x: u8)
         ensures { Showed self.old (hex_of (x ∷ [])) self.new }
     {
-        let digits = [hex_digit(x / 16), hex_digit(x % 16)];
-        self.show(&digits);
+        let mut text = [0u8; 16];
+        let k = io::hex(x as u64, 2, &mut text);
+        self.show(&text[..k]);
     }
 
     pub(crate) fn hex(&mut self, bytes: &[u8])

@@ -14,7 +14,7 @@ fn moved_place(unicode: bool, b: Place) -> Place
     Place { at: b.at, len }
 }
 
-// A Unicode text of LinkInfo: translated from the byte text, as it was, or dropped.
+// A Unicode text of LinkInfo: translated from the byte text, as it was, or dropped. Both flags are facts of the records.
 fn unicode_place(unicode: bool, gain: bool, text: Place, old: Place) -> Place
     requires { text.len ≤ 65536 }
     ensures { result ≡ unicode_place unicode gain text old }

@@ -1,4 +1,4 @@
-// A string translated as it is put.
+// A string translated as it is put. `unicode` is a flag of the file that is made.
 ghost use Rattle.std.specs.Prelude.{◌≡◌, true, false, ◌+◌, ◌*◌, ◌/◌, ◌≤◌, length};
 ghost use Rattle.copies.specs.Steps.Writes.{HasRoom, Writes};
 ghost use Rattle.format.specs.Shortcut.{most};

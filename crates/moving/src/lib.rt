@@ -1,4 +1,4 @@
-// A shortcut of byte strings moved to one of Unicode, and home again (FORMAT: Moving). `unicode` tells the way.
+// A shortcut of byte strings moved to one of Unicode, and home again (FORMAT: Moving). `unicode`, a flag of the file that is made, tells the way.
 #![tactic(auto)]
 
 pub mod texts;

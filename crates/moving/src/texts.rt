@@ -47,7 +47,7 @@ pub fn put_strings(w: &mut Output, unicode: bool, m: &Moved)
 
 // ---- LinkInfo
 
-// A Unicode text that is gained, with its terminator.
+// A Unicode text that is gained, with its terminator. What is there, and what is gained, are facts of the records.
 fn put_gained(w: &mut Output, there: bool, x: &[u8])
     requires { HasRoom w.old (cond there (2 * length x.now + 2) 0) }
     ensures { Writes w.old w.new

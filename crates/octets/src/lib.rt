@@ -154,6 +154,7 @@ fn put_array<const W: usize>(out: &mut [u8], at: usize, bytes: [u8; W])
     out[at..at + W].copy_from_slice(&bytes);
 }
 
+// A function for each width, as for reading.
 pub fn put_u16(out: &mut [u8], at: usize, n: u16)
     requires { at + 2 ≤ length out.old }
     ensures { out.new ≡ put out.old at (little 2 n) }

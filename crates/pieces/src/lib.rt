@@ -76,7 +76,7 @@ fn uncut(there: bool, end: usize, l: &[u8]) -> bool
 
 // ---- strings
 
-// The one of `single` takes a count of 32 bits and asks nothing.
+// The one of `single` takes a count of 32 bits and asks nothing. `unicode`, here and below, is what the file says of a text.
 fn bytes_of(unicode: bool, n: usize) -> usize
     requires { n ≤ 65536 }
     ensures { result ≡ bytes_of unicode n }
@@ -116,7 +116,7 @@ pub fn text_at(
     })
 }
 
-// The place of a body of so many bytes at the offset o of a part that starts at `start` in the file; the empty place where it is absent.
+// The place of a body of so many bytes at the offset o of a part that starts at `start` in the file; the empty place where it is absent (FORMAT: Zeros).
 pub fn body_at(present: bool, start: usize, o: usize, len: u32) -> Place
     requires { start + o ≤ 4295098367 }
     ensures { result ≡ cond present (place (start + o) len) no_place }
@@ -330,7 +330,7 @@ pub fn network(present: bool, l: &[u8], head: usize) -> Result<Found<NetworkText
     placed(o, v, network_in(v))
 }
 
-// What a network link that keeps the rules says; it starts at the place at. The row has the lengths of LinkInfo's texts, those of the network link from the third on.
+// What a network link that keeps the rules says; it starts at the place at. The row has the lengths of LinkInfo's texts, those of the network link from the third on; it is lent (see info).
 pub fn network_of(v: &[u8], at: usize, texts: &[u32; 9]) -> Network
     requires stands { (0x14 ≤ length v.now) × ((network_unicode v.now ≡ true → 0x1C ≤ length v.now) × (at ≤ 65536)) }
     requires lengths { take 4 (drop 2 texts.now) ≡ network_lengths (network_fields at v.now) }

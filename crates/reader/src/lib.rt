@@ -39,6 +39,7 @@ fn items_on(s: &[u8], present: bool, c: Cursor) -> Result<Cursor, Refusal>
     Ok(next)
 }
 
+// `unicode` is a flag of the file.
 fn string_on(
     s: &[u8],
     present: bool,
@@ -55,7 +56,7 @@ fn string_on(
     Ok(next)
 }
 
-// The row gets the lengths of LinkInfo's texts.
+// The row, which is lent (see info), gets the lengths of LinkInfo's texts.
 fn info_on(
     s: &[u8],
     present: bool,
@@ -176,7 +177,7 @@ pub fn read(s: &[u8], profile: Profile) -> Reading
     }
 }
 
-// The verdict of an outline: what is accepted is accepted as a whole.
+// The verdict of an outline: what is accepted is accepted as a whole. A function, since a `Result` takes no methods of ours.
 pub fn verdict_of(s: &[u8], o: Result<SectionEnds, Refusal>) -> Verdict
     ensures { result ≡ next_verdict (length s.now) o }
 {

@@ -15,7 +15,7 @@ use fields::put_place;
 use format::{Header, Place, Profile, Record};
 use info::RightInfo;
 
-// An accepted shortcut: where its sections end, and how long LinkInfo's texts are.
+// An accepted shortcut: where its sections end, and how long LinkInfo's texts are; that row is lent (see info).
 #[derive(Clone, Copy)]
 pub struct Outline<'a> {
     pub s: &'a [u8],
@@ -26,7 +26,7 @@ pub struct Outline<'a> {
     pub ghost whole: { Whole profile s.now ends texts.now },
 }
 
-// The body of a string: after its count, up to its end; the empty place where it is absent.
+// The body of a string: after its count, up to its end; the empty place where it is absent (FORMAT: Zeros).
 fn body_if(there: bool, from: usize, to: usize) -> Place
     requires { (there ≡ true → from + 2 ≤ to) × (to ≤ 65536) }
     ensures { result ≡ cond there (place (from + 2) (to - from - 2)) no_place }
@@ -63,7 +63,7 @@ impl<'a> Outline<'a> {
         octets::u32_at(self.s, 20)
     }
 
-    // LinkInfo's flags; 0 where it is absent.
+    // LinkInfo's flags; 0 where it is absent (FORMAT: Zeros).
     pub fn link_flags(&self) -> u32
         ensures { result ≡ (reading self.now.profile self.now.s.now).held.link.flags }
     {

@@ -86,7 +86,7 @@ pub fn shelf_one(s: &[u8], k: usize) -> Result<Place, Refused>
     }
 }
 
-// The bytes of that entry; empty beside a refusal.
+// The bytes of that entry; empty beside a refusal. This and the next are two names of the rules.
 pub fn shelf_fetch(s: &[u8], k: usize) -> &[u8]
     ensures { result.now ≡ entry_shown s.now k }
 {

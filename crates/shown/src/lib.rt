@@ -46,7 +46,7 @@ fn place_in(o: &Outline, name: u32, block: usize) -> Place
     }
 }
 
-// Where the section stands, all of it, as listed; the empty place where it is absent, refused or unknown.
+// Where the section stands, all of it, as listed; the empty place where it is absent, refused or unknown: C gets it so.
 pub fn section_place(s: &[u8], name: u32, block: usize, profile: Profile) -> Place
     ensures { result ≡ section_place profile s.now name block }
 {

@@ -10,7 +10,7 @@ ghost use Rattle.format.specs.Steps.Answers.{read_from};
 use format::{Fault, Place, Refusal};
 use octets::Cursor;
 
-// The count is of characters, of two bytes each in Unicode.
+// The count is of characters, of two bytes each in Unicode, a flag of the file. The one of `pieces` asks for 65536 at most.
 fn bytes_of(unicode: bool, count: u32) -> usize
     ensures { result ≡ bytes_of unicode count }
 {

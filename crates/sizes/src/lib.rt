@@ -28,6 +28,7 @@ fn besides(unicode: bool) -> [u32; 17]
     [4, label, 1, 1, 1, 2, 2, 1, 2, 2, 2, 2, 2, 2, 2, 4, 0]
 }
 
+// Presence is a fact of the record, which has the place either way.
 #[tactic(auto, using(crate::proofs::SizeLaws::few))]
 fn size(there: bool, b: Place, beside: u32) -> u32
     requires { beside ≤ 4 }
@@ -97,7 +98,7 @@ fn total(sizes: &[u32; 17]) -> u32
     sizes.iter().sum()
 }
 
-// The header, the heads and all sizes.
+// The header, the heads and all sizes. These are a row beside the record: a struct would be made for this one call.
 #[tactic(auto, using(crate::proofs::SizeLaws::same_sum, crate::proofs::SizeLaws::few_heads, crate::proofs::SizeLaws::few_sizes), unfolding(crate::specs::Steps::Sizes::clipped_length))]
 pub fn end_of(q: Record, sizes: [u32; 17]) -> u32
     requires { sizes ≡ sizes_of q }

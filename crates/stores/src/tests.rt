@@ -79,7 +79,7 @@ fn values_after(values: Values, r: StoreRow, d: &[u8]) -> Option<Values>
 
 // ---- length
 
-// One more than the longest stands for every length that is too great.
+// One more than the longest stands for every length that is too great (see `clipped` in sizes).
 fn capped(n: usize) -> usize
     ensures { (result ≡ capped_store n) × (result ≤ 65449) }
 {

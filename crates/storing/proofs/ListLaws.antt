@@ -19,7 +19,7 @@ use Rattle.format.specs.declared.Record.{Record}
 use Rattle.format.specs.declared.Refusal.{Refusal}
 use Rattle.format.specs.declared.Reading.{Reading}
 use Rattle.format.specs.declared.StoreRow.{StoreRow}
-use Rattle.format.specs.Tests.{got, refused, all}
+use Rattle.format.specs.Tests.{got, refused, all, no_place}
 use Rattle.format.specs.Numbers.{Numbered}
 use Rattle.format.specs.Store.{store_tests}
 use Rattle.format.specs.Blocks.{blocks, first_place}
@@ -38,13 +38,13 @@ use Rattle.format.proofs.PositionLaws.{part_drop}
 use Rattle.format.proofs.StoreLaws.{store_anywhere}
 use Rattle.format.proofs.StoreDemands.{first_store}
 use Rattle.blocks.specs.Steps.Walk.{block_from}
-use Rattle.blocks.proofs.FirstLaws.{First-block}
+use Rattle.blocks.proofs.FirstLaws.{First-block, place_from}
 use Rattle.reader.specs.Steps.Finish.{FirstsOf}
 use Rattle.storing.specs.Steps.Stored.{Holds, StoreAt, RowIs}
 use Rattle.storing.proofs.RowLaws.{numbers_long}
 use Rattle.storing.proofs.InsideLaws.{store_in, nth_in}
 use Rattle.format.specs.Verdicts.{Verdict, refused_at}
-use Rattle.std.specs.Prelude.{Ok}
+use Rattle.std.specs.Prelude.{Option, Some, None, Ok, SomeIff, IfSome, unwrap_or}
 
 -- ---- where the store stands
 
@@ -56,9 +56,14 @@ no_rows s b e = rw e
 -- of an accepted shortcut with the row of its signatures
 module _ (profile : Profile) (s : List ℕ) (held : Record) {row : List ℕ} (a : Accepts profile s held) (noted : FirstsOf s held row) where
   -- the ninth signature of the table
+  abbrev field : ℕ
+  field = get_or row 8 0
+
   pub record StoreField : Type 0 where
-    pub reached : get_or row 8 0 ≤ length s
-    pub stored : {b : Place} → b ≡ block_from s (get_or row 8 0) → StoreAt profile s b
+    pub reached : field ≤ length s
+    pub verdict : (reading profile s).verdict ≡ Ok (length s)
+    pub rows : block_rows s (block_from s field) ≡ rows_by s (shortcut profile s)
+    pub holds : 4 ≤ field → Holds s (block_from s field)
 
   pub store_field : StoreField
   unfolding Accepts firsts rows_of
@@ -70,25 +75,30 @@ module _ (profile : Profile) (s : List ℕ) (held : Record) {row : List ℕ} (a 
       let walk = read_Walk profile s q (length s) (shortcut-Whole profile s q (length s) x.is).read in
       let same : (place_in held blocks_slot).at ≡ start = ap (λ (r : Record). (place_in r blocks_slot).at) (sym x.held) in
       let n : (ls : List ℕ) (m : ℕ) → blocks start (drop start s) ≡ got ls m → row ≡ firsts s start ls = rw same at noted in
-      let field : get_or row 8 0 ≡ first_field s 0xA0000009 start lengths = ap (λ (l : List ℕ). get_or l 8 0) (n lengths _ walk) in
+      let is : field ≡ first_field s 0xA0000009 start lengths = ap (λ (l : List ℕ). get_or l 8 0) (n lengths _ walk) in
       let F = First-block s 0xA0000009 start lengths _ walk in
+      let p : block_from s field ≡ first_place s 0xA0000009 start lengths = ap (block_from s) is ∙ F.block in
       record {
-        reached = rw field F.field;
-        stored = λ i.
-            let p : _ ≡ first_place s 0xA0000009 start lengths = i ∙ ap (block_from s) field ∙ F.block in
+        reached = rw is F.field;
+        verdict = ap (λ (y : Reading). y.verdict) a;
+        rows = rw p (sym (ap (rows_by s) x.is));
+        holds = λ z.
+            let long : 8 ≤ (first_place s 0xA0000009 start lengths).len = F.there (rw is at z) in
+            let h = first_store s start lengths _ walk (λ e. omega arith) in
             rw p
             (record {
-              verdict = ap (λ (y : Reading). y.verdict) a;
-              rows = sym (ap (rows_by s) x.is);
-              holds = λ z.
-                  let h = first_store s start lengths _ walk z in
-                  record {
-                    inside = omega (arith, h.inside);
-                    long = h.long;
-                    right = store_anywhere 0 8 (drop 8 (bytes_at s (first_place s 0xA0000009 start lengths))) ∙ Pass-all (store_tests 8 (drop 8 (bytes_at s (first_place s 0xA0000009 start lengths)))) h.right;
-                  };
+              inside = omega (arith, h.inside);
+              long = h.long;
+              right = store_anywhere 0 8 (drop 8 (bytes_at s (first_place s 0xA0000009 start lengths))) ∙ Pass-all (store_tests 8 (drop 8 (bytes_at s (first_place s 0xA0000009 start lengths)))) h.right;
             });
       }
+
+  pub stored : (b : Option Place) → SomeIff b (4 ≤ field) (block_from s field) → StoreAt profile s b
+  stored b i = record { verdict = store_field.verdict; rows = rw (place_from s field b i) store_field.rows; holds = held_by b i }
+    where
+      held_by : (b : Option Place) → SomeIff b (4 ≤ field) (block_from s field) → IfSome b (Holds s)
+      held_by (Some x) i = rw i.1 (store_field.holds i.0)
+      held_by None i = tt
 
 -- ---- the list
 
@@ -116,9 +126,9 @@ module _ (profile : Profile) (s out : List ℕ) where
   unfolding store_list_answer store_list_output store_list output_of
   list_left i = list_call profile s out (rw i) (rw i)
 
-  module _ {b : Place} (T : StoreAt profile s b) where
+  module _ {b : Option Place} (T : StoreAt profile s b) where
     abbrev rows : List StoreRow
-    rows = block_rows s b
+    rows = block_rows s (unwrap_or b no_place)
 
     list_is : store_list profile s (length out) ≡ cond (leb (length (all_numbers rows)) (length out)) (got (all_numbers rows) (length rows)) (refused ROOM nowhere)
     unfolding store_list
@@ -126,12 +136,6 @@ module _ (profile : Profile) (s out : List ℕ) where
         let x = accepted_Read profile s (reading profile s).held (length s) (accepted_held profile s {g = reading profile s} refl T.verdict) in
         let r : rows ≡ rows_of s x.sections = T.rows ∙ ap (rows_by s) x.is in
         rw (x.is, r)
-
-    pub list_none : b.len ≡ 0 → ListCall profile s out (Ok 0) out
-    unfolding store_list_answer store_list_output output_of
-    list_none e =
-        let z : store_list profile s (length out) ≡ got [] 0 = list_is ∙ rw (no_rows s b e, le-leb 0 (length out) (omega arith)) in
-        list_call profile s out (rw z) (rw z (put-nil out 0))
 
     module _ {m : ℕ} (count : m ≡ length rows) where
       pub list_room : length out / 6 < m → ListCall profile s out (refused_at ROOM 0) out
@@ -149,6 +153,12 @@ module _ (profile : Profile) (s out : List ℕ) where
           let z : store_list profile s (length out) ≡ got (all_numbers rows) (length rows) = list_is ∙ rw (le-leb (length (all_numbers rows)) (length out) (list_fits h)) in
           list_call profile s out (rw (z, count)) (e ∙ rw z)
 
+  pub list_none : StoreAt profile s None → ListCall profile s out (Ok 0) out
+  unfolding store_list_answer store_list_output output_of
+  list_none T =
+      let z : store_list profile s (length out) ≡ got [] 0 = list_is T ∙ rw (le-leb 0 (length out) (omega arith)) in
+      list_call profile s out (rw z) (rw z (put-nil out 0))
+
 -- ---- a row
 
 -- a refused shortcut has none
@@ -156,25 +166,25 @@ pub row_refused : (profile : Profile) (s : List ℕ) (k : ℕ) {q : Refusal} {r 
 unfolding store_row
 row_refused profile s k e i = record { is = i ∙ rw e; inside = rw i (nth_in (length s) k [] tt) }
 
-module _ (profile : Profile) (s : List ℕ) (k : ℕ) {b : Place} (T : StoreAt profile s b) where
-  row_told : nth_row k (block_rows s b) ≡ store_row profile s k
+module _ (profile : Profile) (s : List ℕ) (k : ℕ) where
+  row_told : {b : Option Place} → StoreAt profile s b → nth_row k (block_rows s (unwrap_or b no_place)) ≡ store_row profile s k
   unfolding store_row
-  row_told = ap (nth_row k) T.rows
+  row_told T = ap (nth_row k) T.rows
 
-  pub row_none : {r : StoreRow} → r ≡ nth_row k [] → b.len ≡ 0 → RowIs profile s k r
-  row_none {r} i e = record {
-    is = i ∙ sym (ap (nth_row k) (no_rows s b e)) ∙ row_told;
+  pub row_none : {r : StoreRow} → StoreAt profile s None → r ≡ nth_row k [] → RowIs profile s k r
+  row_none {r} T i = record {
+    is = i ∙ sym (ap (nth_row k) (no_rows s no_place refl)) ∙ row_told T;
     inside = rw i (nth_in (length s) k [] tt);
   }
 
-  pub row_is : {r : StoreRow} → (b.len ≡ 0 → ⊥) → r ≡ nth_row k (block_rows s b) → RowIs profile s k r
-  row_is {r} z i =
-      let h = T.holds z in
+  pub row_is : {r : StoreRow} {b : Place} → StoreAt profile s (Some b) → r ≡ nth_row k (block_rows s b) → RowIs profile s k r
+  row_is {r} {b} T i =
+      let h = T.holds in
       let l : List ℕ = drop 8 (bytes_at s b) in
       let d : length (bytes_at s b) ≡ b.len = length-take-le b.len (drop b.at s) (omega (arith, h.inside, length-drop b.at s)) in
       let e : b.at + 8 + length l ≤ length s = omega (arith, length-drop 8 (bytes_at s b), h.inside, h.long) in
       let a = nth_in (b.at + 8 + length l) k (block_rows s b) (store_in (b.at + 8) 0 l (all-Pass (store_tests 0 l) h.right)) in
-      record { is = i ∙ row_told; inside = rw i (record { name = omega (arith, a.name); raw = omega (arith, a.raw) }) }
+      record { is = i ∙ row_told T; inside = rw i (record { name = omega (arith, a.name); raw = omega (arith, a.raw) }) }
 
 -- the parts that a row shows
 module _ (profile : Profile) (s : List ℕ) (k : ℕ) {r : StoreRow} (R : RowIs profile s k r) where

@@ -14,8 +14,8 @@ ghost use Rattle.storing.specs.Steps.Stored.{Holds, StoredIs, RowIs};
 use format::{Fault, Place, Profile, Refusal, Refused, StoreRow, Verdict};
 use stores::{making, tests};
 
-// Where the block stands that holds the store of an accepted shortcut; the empty place where there is none.
-fn stored_in(s: &[u8], profile: Profile) -> Result<Place, Refusal>
+// Where the block stands that holds the store of an accepted shortcut, if there is one.
+fn stored_in(s: &[u8], profile: Profile) -> Result<Option<Place>, Refusal>
     ensures { StoredIs profile s.now result }
 {
     let mut texts = [0u32; 9];
@@ -39,10 +39,9 @@ pub fn store_list(s: &[u8], rows: &mut [u64], profile: Profile) -> Verdict
     ensures output { rows.new ≡ store_list_output profile s.now rows.old }
     ensures numbers { Numbered result (store_list profile s.now (length rows.old)) }
 {
-    let b = stored_in(s, profile)?;
-    if b.len == 0 {
+    let Some(b) = stored_in(s, profile)? else {
         return Ok(0);
-    }
+    };
     let at = b.at + 8;
     let l = store_of(s, b);
     let n = rows::count_rows(l, at);
@@ -53,21 +52,21 @@ pub fn store_list(s: &[u8], rows: &mut [u64], profile: Profile) -> Verdict
     Ok(n)
 }
 
-// The row of this number; zeros where there is none.
+// The row of this number; zeros where there is none, as the definition has it.
 fn row_of(s: &[u8], k: usize, profile: Profile) -> StoreRow
     ensures { RowIs profile s.now k result }
 {
-    let Ok(b) = stored_in(s, profile) else {
-        return rows::NO_ROW;
-    };
-    if b.len == 0 {
-        return rows::NO_ROW;
+    match stored_in(s, profile) {
+        Ok(Some(b)) => {
+            let at = b.at + 8;
+            rows::row_at(store_of(s, b), at, k)
+        }
+        Ok(None) => rows::NO_ROW,
+        Err(_) => rows::NO_ROW,
     }
-    let at = b.at + 8;
-    rows::row_at(store_of(s, b), at, k)
 }
 
-// The name of the value in this row; empty where the row has none, or there is no such row.
+// The name of the value in this row; empty where the row has none, or there is no such row: C gets a slice.
 pub fn store_name(s: &[u8], k: usize, profile: Profile) -> &[u8]
     ensures { result.now ≡ store_name profile s.now k }
 {
@@ -85,7 +84,7 @@ pub fn store_raw(s: &[u8], k: usize, profile: Profile) -> &[u8]
     octets::part(s, b.at, b.len)
 }
 
-// Whether the store in the block that stands there has values. No block has none.
+// Whether the store in the block that stands there has values. No block has none; its condition allows the empty place for one, as the definition does.
 pub fn has_values(s: &[u8], b: Place) -> bool
     requires { (b.len ≡ 0 → ⊥) → Holds s.now b }
     ensures { result ≡ has_values (block_rows s.now b) }

@@ -11,6 +11,7 @@ ghost use Rattle.storing.specs.Steps.Rows.{Right, values_over, NextIs};
 use format::{Place, StoreRow};
 use std::marker::Model;
 
+// The zeros are those of the definition, for a row that is not there.
 pub const NO_ROW: StoreRow = StoreRow {
     kind: 0,
     number: 0,
@@ -18,7 +19,7 @@ pub const NO_ROW: StoreRow = StoreRow {
     raw: format::NO_PLACE,
 };
 
-// Where the next size stands, and where the storage at hand ends; with no storage at hand the two are one place.
+// Where the next size stands, and where the storage at hand ends; with no storage at hand the two are one place. Both are places in what is read: nothing is put there.
 #[derive(Clone, Copy)]
 struct StoreCursor {
     at: usize,

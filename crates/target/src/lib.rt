@@ -110,6 +110,7 @@ pub fn put_body(s: &[u8], b: Place, out: &mut Output)
     out.put_bytes(&s[from..end]);
 }
 
+// Whether there is one is a fact of the texts.
 fn put_separator(there: bool, out: &mut Output)
     requires { HasRoom out.old (one_or_0 there) }
     ensures { Writes out.old out.new (cond there backslash []) (one_or_0 there) }

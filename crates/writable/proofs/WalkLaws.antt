@@ -5,18 +5,18 @@ use mathlib.Core.Bool.{Bool, true, false, ◌&&◌, cond}
 use Prim.Native.Nat.{ℕ, zero, suc, ◌+◌, ◌-◌, ◌*◌, ◌≤◌, ◌<◌}
 use native.Mathlib.Omega.{arith}
 use lib.ListN.{length, take, drop, length-append, length-drop}
-use lib.Seq.{take_all, take-append-le, drop-append-le, drop-drop, drop_at}
+use lib.Seq.{take-append-le, drop-append-le, drop-drop, drop_at}
 use lib.Dec.{eqb, leb}
 use borrow.Author.Tests.{ne_eqb, leb-true, le-leb, lt-leb, lt-ltb, le-ltb}
 use Rattle.octets.specs.Numbers.{number, number_at, little, u16_at, u32_at}
-use Rattle.octets.proofs.NumberLaws.{number_same, length-little}
+use Rattle.octets.proofs.NumberLaws.{number_same, number_drop, length-little}
 use Rattle.format.specs.declared.Fault.TheVariants.{Items as ITEMS}
 use Rattle.format.specs.Tests.{Outcome, got, refused}
 use Rattle.format.specs.Blocks.{slot_of, slot_at, block_rules, block_size, block_tests, a_block, block, block_step, once, blocks_after}
 use Rattle.format.specs.Steps.ItemWalk.{walk}
 use Rattle.format.specs.Shortcut.{sum}
 use Rattle.format.specs.Writing.{writable_items, takes, writable_blocks}
-use Rattle.format.proofs.Bools.{and_no, clash}
+use Rattle.format.proofs.Bools.{and_no, by_order, clash}
 use Rattle.format.proofs.Chains.{Pass, pass, no_value}
 use Rattle.format.proofs.ItemsLaws.{tests_walk}
 use Rattle.format.proofs.BlockLaws.{the_end, step_elim, blocks_Walked}
@@ -29,7 +29,7 @@ use Rattle.writable.proofs.TestLaws.{same_test}
 unfoldable pub items_left : List ℕ → Bool
 items_left r = walk 0 (r ++ 0 ∷ 0 ∷ [])
 
-pub items_all : (x : List ℕ) → length x ≤ 65533 → items_left x ≡ writable_items x
+items_all : (x : List ℕ) → length x ≤ 65533 → items_left x ≡ writable_items x
 unfolding items_left
 items_all x h = rw (lt-ltb (length x + 2) 65536 (omega arith)) (sym (tests_walk ITEMS 0 0 (x ++ 0 ∷ 0 ∷ [])))
 
@@ -52,7 +52,7 @@ walk_past (suc (suc (suc k))) [] h = refl
 walk_past (suc k) (a ∷ r) h = walk_past k r (omega arith)
 
 -- one byte is no item
-pub items_none : (r : List ℕ) → length r < 2 → items_left r ≡ eqb (length r) 0
+items_none : (r : List ℕ) → length r < 2 → items_left r ≡ eqb (length r) 0
 unfolding items_left walk
 items_none [] h = refl
 items_none (a ∷ []) h = go (eqb (a + 256 * 0) 0) (a + 256 * 0 - 2)
@@ -78,16 +78,64 @@ items_sized (a ∷ b ∷ r) n h e =
     go (suc n) = rw (ne_eqb (suc n) 0 (λ e. omega arith))
 
 module _ (r : List ℕ) (n : ℕ) (some : 2 ≤ length r) (size : n ≡ u16_at r 0) where
-  pub items_small : n < 2 → items_left r ≡ false
+  items_small : n < 2 → items_left r ≡ false
   items_small h = items_sized r n some size ∙ rw (lt-leb 2 n h)
 
-  pub items_past : 2 ≤ n → length r < n → items_left r ≡ false
+  items_past : 2 ≤ n → length r < n → items_left r ≡ false
   items_past o h = items_sized r n some size ∙ rw (le-leb 2 n o, walk_past (n - 2) (drop 2 r) (simp length-drop (omega arith)))
 
-  pub items_next : 2 ≤ n → n ≤ length r → items_left (take (length r - n) (drop n r)) ≡ items_left r
+  items_next : 2 ≤ n → n ≤ length r → items_left (drop n r) ≡ items_left r
   items_next o h =
       let e : 2 + (n - 2) ≡ n = omega arith in
-      ap items_left (take_all (length r - n) (drop n r) (simp length-drop (omega arith))) ∙ sym (items_sized r n some size ∙ rw (le-leb 2 n o, walk_on (n - 2) (drop 2 r) (simp length-drop (omega arith))) (ap items_left (drop-drop (n - 2) 2 r ∙ ap (λ (k : ℕ). drop k r) e)))
+      sym (items_sized r n some size ∙ rw (le-leb 2 n o, walk_on (n - 2) (drop 2 r) (simp length-drop (omega arith))) (ap items_left (drop-drop (n - 2) 2 r ∙ ap (λ (k : ℕ). drop k r) e)))
+
+-- the walk is due at p, where the size that stands there ends: what is left there decides, or p has passed the end
+pub record ItemsDue (x : List ℕ) (p : ℕ) : Type 0 where
+  pub sized : 2 ≤ p
+  pub near : p ≤ length x + 65537
+  pub here : p ≤ length x + 2 → items_left (drop (p - 2) x) ≡ writable_items x
+  pub past : length x + 2 < p → false ≡ writable_items x
+
+module _ (x : List ℕ) where
+  pub items_begin : length x ≤ 65533 → ItemsDue x 2
+  items_begin h = record { sized = omega arith; near = omega arith; here = λ i. items_all x h; past = λ i. absurd (omega arith) }
+
+  module _ (p : ℕ) (d : ItemsDue x p) where
+    abbrev rest : List ℕ
+    rest = drop (p - 2) x
+
+    -- one byte left over is no item
+    pub items_end : length x < p → eqb p (length x + 2) ≡ writable_items x
+    items_end h = by_order p (length x + 2) ends (λ k. ne_eqb p (length x + 2) (λ e. omega arith) ∙ d.past k)
+      where
+        ends : p ≤ length x + 2 → eqb p (length x + 2) ≡ writable_items x
+        ends k =
+            let l : length rest ≡ length x - (p - 2) = length-drop (p - 2) x in
+            same_test p (length x + 2) (length rest) 0 (λ e. omega arith) (λ e. omega arith) ∙ sym (items_none rest (omega arith)) ∙ d.here k
+
+    module _ {n : ℕ} (some : p ≤ length x) (size : n ≡ u16_at x (p - 2)) where
+      left : items_left rest ≡ writable_items x
+      left = d.here (omega arith)
+
+      long : 2 ≤ length rest
+      long = simp length-drop (omega arith)
+
+      here_size : n ≡ u16_at rest 0
+      here_size = let e : p - 2 + 0 ≡ p - 2 = omega arith in rw (number_drop 2 (p - 2) x 0, e) size
+
+      pub items_refuse : n < 2 → false ≡ writable_items x
+      items_refuse h = sym (items_small rest n long here_size h) ∙ left
+
+      pub items_step : 2 ≤ n → n < 65536 → ItemsDue x (p + n)
+      items_step h w =
+          let l : length rest ≡ length x - (p - 2) = length-drop (p - 2) x in
+          let e : p - 2 + n ≡ p + n - 2 = omega arith in
+          record {
+            sized = omega arith;
+            near = omega arith;
+            here = λ k. ap items_left (sym (drop-drop n (p - 2) x ∙ ap (λ (j : ℕ). drop j x) e)) ∙ items_next rest n long here_size h (omega arith) ∙ left;
+            past = λ k. sym (items_past rest n long here_size h (omega arith)) ∙ left;
+          }
 
 -- ---- blocks
 

@@ -71,23 +71,23 @@ fn string_ok(unicode: bool, x: &[u8]) -> bool
 }
 
 // Items, each with a size of two bytes that counts itself, up to the end.
-#[tactic(auto, using(crate::proofs::WalkLaws::items_long, crate::proofs::WalkLaws::items_all, crate::proofs::WalkLaws::items_none, crate::proofs::WalkLaws::items_small, crate::proofs::WalkLaws::items_past, crate::proofs::WalkLaws::items_next))]
 fn items_ok(x: &[u8]) -> bool
     ensures { result ≡ writable_items x.now }
 {
     if 65533 < x.len() {
         return false;
     }
-    let mut rest = x;
-    // No index is counted: the step is the size that stands there.
-    while 2 <= rest.len() {
-        let size = octets::u16_at(rest, 0) as usize;
-        if size < 2 || rest.len() < size {
+    let n = x.len();
+    // Where the size ends that is due, and no slice of the rest, by which an item costs nine instructions in place of six.
+    let mut p: usize = 2;
+    while p <= n {
+        let size = octets::u16_at(x, p - 2) as usize;
+        if size < 2 {
             return false;
         }
-        rest = &rest[size..];
+        p += size;
     }
-    rest.is_empty()
+    p == n + 2
 }
 
 // Blocks up to the end, with no terminal block among them. What the walk notes on its way serves nobody here.

@@ -1,11 +1,12 @@
 -- The row leads to the blocks, and each bit is one sum of the definition.
-use Rattle.std.proofs.Common.{◌≡◌, ℕ, List}
+use Rattle.std.proofs.Common.{◌≡◌, ◌∙◌, ℕ, List}
 use Rattle.format.specs.declared.Profile.{Profile}
 use Rattle.format.specs.declared.Record.{Record}
 use Rattle.format.specs.Demands.{Accepts}
 use Rattle.reader.specs.Steps.Finish.{FirstsOf}
 use Rattle.reader.proofs.OutlineLaws.{accepted}
-use Rattle.blinding.proofs.BitLaws.{accepted_bits, path_ready, store_ready, bits_told}
+use Rattle.blocks.proofs.FirstLaws.{place_from}
+use Rattle.blinding.proofs.BitLaws.{accepted_bits, there_is, path_ready, store_ready, bits_told}
 use Rattle.blinding.proofs.bits_of.Goals as goal
 
 -- the record that was made is the one that was read
@@ -29,25 +30,25 @@ block_from-items-requires c = (accepted_bits _ _ _ (whole _ _ c.record-r.ensures
 
 pub names_driver-requires : goal.names_driver-requires
 names_driver-requires c =
-    ((accepted_bits _ _ _ (whole _ _ c.record-r.ensures (accepted c.args.o.now.whole)) (noted _ _ c.record-r.ensures c.requires)).inside, path_ready _ _ _ (whole _ _ c.record-r.ensures (accepted c.args.o.now.whole)) (noted _ _ c.record-r.ensures c.requires) c.block_from-environment.ensures c.block_from-darwin.ensures c.block_from-store.ensures c.block_from-items.ensures)
+    ((accepted_bits _ _ _ (whole _ _ c.record-r.ensures (accepted c.args.o.now.whole)) (noted _ _ c.record-r.ensures c.requires)).inside, path_ready _ _ _ (whole _ _ c.record-r.ensures (accepted c.args.o.now.whole)) (noted _ _ c.record-r.ensures c.requires) _ c.block_from-environment.ensures)
 
 pub other_target-requires : goal.other_target-requires
-other_target-requires c =
-    (accepted_bits _ _ _ (whole _ _ c.record-r.ensures (accepted c.args.o.now.whole)) (noted _ _ c.record-r.ensures c.requires)).inside
+other_target-requires c = (accepted_bits _ _ _ (whole _ _ c.record-r.ensures (accepted c.args.o.now.whole)) (noted _ _ c.record-r.ensures c.requires)).inside
 
 pub other_environment-requires : goal.other_environment-requires
-other_environment-requires c =
-    path_ready _ _ _ (whole _ _ c.record-r.ensures (accepted c.args.o.now.whole)) (noted _ _ c.record-r.ensures c.requires) c.block_from-environment.ensures c.block_from-darwin.ensures c.block_from-store.ensures c.block_from-items.ensures
+other_environment-requires c = path_ready _ _ _ (whole _ _ c.record-r.ensures (accepted c.args.o.now.whole)) (noted _ _ c.record-r.ensures c.requires) _ c.block_from-environment.ensures
 
-pub has_values-requires : goal.has_values-requires
-has_values-requires c =
-    store_ready _ _ _ (whole _ _ c.record-r.ensures (accepted c.args.o.now.whole)) (noted _ _ c.record-r.ensures c.requires) c.block_from-environment.ensures c.block_from-darwin.ensures c.block_from-store.ensures c.block_from-items.ensures
+pub store_has_values-requires : goal.store_has_values-requires
+store_has_values-requires c = store_ready _ _ _ (whole _ _ c.record-r.ensures (accepted c.args.o.now.whole)) (noted _ _ c.record-r.ensures c.requires) _ c.block_from-store.ensures
 
 pub returns : goal.returns
 returns c =
-    bits_told _ _ _ (whole _ _ c.record-r.ensures (accepted c.args.o.now.whole)) (noted _ _ c.record-r.ensures c.requires) c.block_from-environment.ensures c.block_from-darwin.ensures c.block_from-store.ensures c.block_from-items.ensures
+    let R = accepted_bits _ _ _ (whole _ _ c.record-r.ensures (accepted c.args.o.now.whole)) (noted _ _ c.record-r.ensures c.requires) in
+    let blocks : c.bit_if-4.result ≡ _ = c.bit_if-4.ensures.0 ∙ rw (c.is_some.ensures, c.is_some-2.ensures, there_is R.darwin _ c.block_from-darwin.ensures, there_is R.items _ c.block_from-items.ensures) in
+    bits_told _ _ _ (whole _ _ c.record-r.ensures (accepted c.args.o.now.whole)) (noted _ _ c.record-r.ensures c.requires)
+    (place_from _ _ _ c.block_from-environment.ensures) (place_from _ _ _ c.block_from-darwin.ensures) (place_from _ _ _ c.block_from-store.ensures) (place_from _ _ _ c.block_from-items.ensures)
     c.names_driver.ensures c.could_name.ensures c.bit_if.ensures.0
     c.other_target.ensures c.bit_if-2.ensures.0
     c.other_environment.ensures c.bit_if-3.ensures.0
-    c.bit_if-4.ensures.0
-    c.has_values.ensures c.bit_if-5.ensures.0
+    blocks
+    c.store_has_values.ensures c.bit_if-5.ensures.0

@@ -2,10 +2,8 @@
 use Rattle.blinding.proofs.TextLaws.{no_byte_text, byte_text_is}
 use Rattle.blinding.proofs.byte_text.Goals as goal
 
-pub returns-then-b-eq0 : goal.returns-then-b-eq0
-returns-then-b-eq0 c =
-    no_byte_text c.args.s.now c.args.b c.requires c.if-b-eq0.true
+pub returns-in_default : goal.returns-in_default
+returns-in_default c = rw c.in_default.is (no_byte_text c.args.s.now)
 
 pub returns : goal.returns
-returns c =
-    byte_text_is _ _ c.requires c.if-b-eq0.false c.part.ensures c.until_zero.ensures
+returns c = rw c.in-Some.is (byte_text_is _ _ (rw c.in-Some.is at c.requires) c.part.ensures c.until_zero.ensures)

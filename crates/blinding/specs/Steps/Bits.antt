@@ -20,6 +20,11 @@ pub record PathAt (s : List ℕ) (b : Place) : Type 0 where
   pub inside : b.at + b.len ≤ length s
   pub long : (b.len ≡ 0 → ⊥) → b.len ≡ 788
 
+-- a path block stands there
+pub record PathBlock (s : List ℕ) (b : Place) : Type 0 where
+  pub inside : b.at + b.len ≤ length s
+  pub long : b.len ≡ 788
+
 -- the key of a shortcut with this record and this environment block names a driver
 unfoldable pub names_in : List ℕ → Record → Place → Bool
 names_in s r b = says_text (part_if (has_target r) (target_text s r)) || says_text (environment s b)

@@ -1,15 +1,15 @@
--- A block of length 0 is an absent one; any other is long enough to hold a text from its byte 8 on.
+-- A block that is there is long enough to hold a text from its byte 8 on.
+use native.Mathlib.Omega.{arith}
 use Rattle.keying.proofs.Laws.{environment_absent, environment_there, text_stands}
 use Rattle.keying.proofs.environment.Goals as goal
 
-pub block_from-b-requires : goal.block_from-b-requires
-block_from-b-requires c = c.requires.reached
-
-pub returns-then-b-eq0 : goal.returns-then-b-eq0
-returns-then-b-eq0 c = environment_absent _ c.requires c.block_from-b.ensures c.if-b-eq0.true
+pub returns-in_err-b : goal.returns-in_err-b
+returns-in_err-b c = rw c.from_residual.ensures (environment_absent _ c.requires.at c.in_err-b.ensures)
 
 pub block_text-requires : goal.block_text-requires
-block_text-requires c = text_stands _ c.requires c.block_from-b.ensures c.if-b-eq0.false
+block_text-requires c = text_stands _ c.requires.at c.in_ok-b.ensures.1 c.requires.long c.in_ok-b.ensures.0
 
 pub returns : goal.returns
-returns c = environment_there _ c.requires c.block_from-b.ensures c.if-b-eq0.false c.block_text.ensures
+returns c =
+    let long = (text_stands _ c.requires.at c.in_ok-b.ensures.1 c.requires.long c.in_ok-b.ensures.0).1 in
+    environment_there _ c.requires.at c.in_ok-b.ensures.1 (λ e. omega arith) c.block_text.ensures

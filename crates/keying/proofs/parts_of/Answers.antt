@@ -4,7 +4,7 @@ use Rattle.keying.proofs.Laws.{row_block, parts_are}
 use Rattle.keying.proofs.parts_of.Goals as goal
 
 pub environment-requires : goal.environment-requires
-environment-requires c = (row_block _ _ _ (accepted c.args.o.now.whole) c.requires).block
+environment-requires c = let L = row_block _ _ _ (accepted c.args.o.now.whole) c.requires in record { at = L.block; long = L.there }
 
 pub returns : goal.returns
 returns c =

@@ -10,33 +10,21 @@ returns-in_err-b c =
     let both = list_left _ _ _ c.in_err-b.ensures in
     rw (p.1, p.2) (record { answer = both.0; output = both.1.0; numbers = both.1.1 })
 
-pub returns-then-b-eq0 : goal.returns-then-b-eq0
-returns-then-b-eq0 c =
-    let both = list_none _ _ _ c.in_ok-b.ensures c.if-b-eq0.true in record { answer = both.0; output = both.1.0; numbers = both.1.1 }
-
-pub overflow_add-at : goal.overflow_add-at
-overflow_add-at c =
-    let H = c.in_ok-b.ensures.holds c.if-b-eq0.false in
-    omega (arith, H.inside, H.long, c.well_formed)
-
-pub store_of-l-requires : goal.store_of-l-requires
-store_of-l-requires c = c.in_ok-b.ensures.holds c.if-b-eq0.false
-
-pub count_rows-n-requires : goal.count_rows-n-requires
-count_rows-n-requires c =
-    store_ready _ _ (c.in_ok-b.ensures.holds c.if-b-eq0.false) (omega (arith, c.well_formed)) c.store_of-l.ensures
+pub returns-in_default : goal.returns-in_default
+returns-in_default c =
+    let both = list_none _ _ _ (rw c.in_default.is at c.in_ok-b.ensures) in record { answer = both.0; output = both.1.0; numbers = both.1.1 }
 
 pub returns-then-rows-n : goal.returns-then-rows-n
 returns-then-rows-n c =
-    let both = list_room _ _ _ c.in_ok-b.ensures (rw c.store_of-l.ensures at c.count_rows-n.ensures.0) c.if-rows-n.true in rw c.at.ensures (record { answer = both.0; output = both.1.0; numbers = both.1.1 })
+    let both = list_room _ _ _ (rw c.in-Some.is at c.in_ok-b.ensures) (rw c.store_of-l.ensures at c.count_rows-n.ensures.0) c.if-rows-n.true in rw c.at.ensures (record { answer = both.0; output = both.1.0; numbers = both.1.1 })
 
 pub put_rows-requires : goal.put_rows-requires
 put_rows-requires c =
     let q = c.store_of-l.ensures in
-    let ready = store_ready _ _ (c.in_ok-b.ensures.holds c.if-b-eq0.false) (omega (arith, c.well_formed)) q in
-    (ready.0, (ready.1, rw q (list_fits _ c.args.s.now c.args.rows.now c.in_ok-b.ensures (rw q at c.count_rows-n.ensures.0) c.if-rows-n.false)))
+    let ready = store_ready _ _ (rw c.in-Some.is at c.in_ok-b.ensures).holds (omega (arith, c.well_formed)) q in
+    (ready.0, (ready.1, rw q (list_fits _ c.args.s.now c.args.rows.now (rw c.in-Some.is at c.in_ok-b.ensures) (rw q at c.count_rows-n.ensures.0) c.if-rows-n.false)))
 
 pub returns : goal.returns
 returns c =
     let q = c.store_of-l.ensures in
-    let both = list_put _ _ _ c.in_ok-b.ensures (rw q at c.count_rows-n.ensures.0) c.if-rows-n.false (rw q at c.put_rows.ensures) in record { answer = both.0; output = both.1.0; numbers = both.1.1 }
+    let both = list_put _ _ _ (rw c.in-Some.is at c.in_ok-b.ensures) (rw q at c.count_rows-n.ensures.0) c.if-rows-n.false (rw q at c.put_rows.ensures) in record { answer = both.0; output = both.1.0; numbers = both.1.1 }

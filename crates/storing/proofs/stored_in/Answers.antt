@@ -2,7 +2,7 @@
 use Rattle.std.proofs.Common.{sym, refl}
 use Rattle.std.proofs.lemmas.Result.{err_from_is_err_and}
 use Rattle.reader.proofs.OutlineLaws.{outline_accepted, outline_noted, outline_refused}
-use Rattle.storing.proofs.ListLaws.{store_field}
+use Rattle.storing.proofs.ListLaws.{store_field, stored}
 use Rattle.storing.proofs.stored_in.Goals as goal
 
 pub returns-in_err-outline_of : goal.returns-in_err-outline_of
@@ -18,4 +18,4 @@ block_from-requires c =
 pub returns : goal.returns
 returns c =
     let outline = c.in_ok-outline_of.ensures in
-    (store_field _ _ _ (outline_accepted _ _ outline.answer refl) (outline_noted _ _ outline.answer refl outline.firsts)).stored c.block_from.ensures
+    stored _ _ _ (outline_accepted _ _ outline.answer refl) (outline_noted _ _ outline.answer refl outline.firsts) _ c.block_from.ensures

@@ -1,11 +1,10 @@
--- What is left decides as the whole body does.
-use Rattle.std.proofs.Common.{◌≡◌, length}
-use Rattle.format.specs.Writing.{writable_items}
-use Rattle.writable.proofs.WalkLaws.{items_left}
+-- The walk is due at p, which passes the end by one item at most.
+use Rattle.std.proofs.Common.{◌+◌, ◌-◌, length}
+use Rattle.writable.proofs.WalkLaws.{ItemsDue}
 use Rattle.writable.proofs.items_ok.Given as goal
 
-abbrev pub invariant-loop-rest : goal.invariant-loop-rest
-invariant-loop-rest l = items_left l.rest ≡ writable_items l.x
+abbrev pub invariant-loop-p : goal.invariant-loop-p
+invariant-loop-p l = ItemsDue l.x l.p
 
-abbrev pub decreases-loop-rest : goal.decreases-loop-rest
-decreases-loop-rest l = length l.rest
+abbrev pub decreases-loop-p : goal.decreases-loop-p
+decreases-loop-p l = length l.x + 65538 - l.p

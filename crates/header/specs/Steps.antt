@@ -1,2 +1,0 @@
--- Steps of the implementation: contracts inside the libraries cite them, and nobody has to believe them.
-pub mod Taken
