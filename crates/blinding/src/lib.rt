@@ -21,6 +21,7 @@ use reader::Outline;
 // ---- the texts of the environment block
 
 // Up to the first zero character; where there is none, all whole characters.
+// The callers of `until_zero` pass the kind as a constant.
 fn text_length(unicode: bool, s: &[u8]) -> usize
     ensures { (result ≡ text_length unicode s.now) × (result ≤ length s.now) }
 {
@@ -28,6 +29,7 @@ fn text_length(unicode: bool, s: &[u8]) -> usize
     width * octets::zero_from(unicode, s, 0).unwrap_or(s.len() / width)
 }
 
+// The callers pass the kind as a constant: one function and two calls.
 fn until_zero(unicode: bool, s: &[u8]) -> &[u8]
     ensures { result.now ≡ until_zero unicode s.now }
 {
@@ -160,6 +162,7 @@ fn bit_if(set: bool, n: usize) -> usize
     0
 }
 
+// It adds up five tests.
 fn bits_of(o: &Outline, firsts: &[u32; 11]) -> usize
     requires { FirstsOf o.now.s.now (reading o.now.profile o.now.s.now).held firsts.now }
     ensures { result ≡ bits_in o.now.profile o.now.s.now }

@@ -37,6 +37,7 @@ fn put_label_fields(w: &mut Output, unicode: bool)
 }
 
 // VolumeID's: size, drive type, serial, and where the label starts.
+// Here and in the heads below the sizes are a row beside the record: a type with the fact would ask more than the clause does.
 fn put_volume_fields(w: &mut Output, l: Link, sizes: [u32; 17])
     requires room { HasRoom w.old (12 + cond l.label_unicode 8 4) }
     requires few { label_least l.label_unicode + get_or sizes label_slot 0 ≤ 131072 }
@@ -51,7 +52,6 @@ fn put_volume_fields(w: &mut Output, l: Link, sizes: [u32; 17])
     put_label_fields(w, l.label_unicode);
 }
 
-// Here and in the heads below the sizes are a row beside the record: a type with the fact would ask more than the clause does.
 pub fn put_volume_head(w: &mut Output, l: Link, sizes: [u32; 17])
     requires room { HasRoom w.old (volume_part l) }
     requires few { label_least l.label_unicode + get_or sizes label_slot 0 ≤ 131072 }

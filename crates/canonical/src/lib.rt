@@ -87,7 +87,7 @@ fn put_items(w: &mut Output, x: &[u8])
     w.put_u16(0);
 }
 
-// How many characters stand in n bytes.
+// How many characters stand in n bytes. `unicode` is a flag of the file.
 pub fn characters_in(unicode: bool, n: usize) -> usize
     ensures { result ≡ characters_in unicode n }
 {

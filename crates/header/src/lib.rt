@@ -46,7 +46,7 @@ fn high_clear(a: u32, profile: Profile) -> bool
 pub fn attributes_ok(a: u32, profile: Profile) -> bool
     ensures { result ≡ attributes_ok profile a }
 {
-    !(a / 8 % 2 == 1) & !(a / 64 % 2 == 1) & high_clear(a, profile)
+    !format::bit::<3>(a) & !format::bit::<6>(a) & high_clear(a, profile)
 }
 
 // The groups of LowByte (FORMAT: Hot key), row for row.
@@ -61,7 +61,7 @@ fn low_byte_ok(k: u16) -> bool
     digit | letter | function_key | num_lock | scroll_lock
 }
 
-// The modifier keys of HighByte (FORMAT: Hot key), row for row: one or a combination.
+// The modifier keys of HighByte (FORMAT: Hot key), row for row: one or a combination. `bit` is of flags, which are u32.
 fn high_byte_ok(m: u16) -> bool
     ensures { result ≡ high_byte_ok m }
 {

@@ -17,7 +17,7 @@ use format::{Fault, Place, Profile, Refused, Verdict};
 use reader::Outline;
 use target::Texts;
 
-// Where the four parts stand that are there: the target's texts, and three bodies.
+// Where the four parts stand that are there: the target's texts, and three bodies. `unicode` is a flag of the file.
 #[derive(Clone, Copy)]
 struct KeyParts {
     unicode: bool,

@@ -206,15 +206,15 @@ module _ (d : List ℕ) (r : Record) (u : Bool) {q : Record} {s : Shape} {sizes 
 -- ---- the call
 
 module _ (profile : Profile) (u : Bool) (s out : List ℕ) {g : Reading} (e : g ≡ reading profile s) where
-  pub move_left : {f : Fault} {p : ℕ} → g.verdict ≡ refused_at f p → (g.verdict ≡ verdict_of (call profile u s (length out))) × (out ≡ output_of (call profile u s (length out)) out)
+  pub move_left : {f : Fault} {p : ℕ} → g.verdict ≡ refused_at f p → (refused_at f p ≡ verdict_of (call profile u s (length out))) × (out ≡ output_of (call profile u s (length out)) out)
   move_left {f} {p} q = go u
     where
       i : RefusedWith profile s f p
       i = refused_read profile s (ap (λ (x : Reading). x.verdict) (sym e) ∙ q)
 
-      go : (b : Bool) → (g.verdict ≡ verdict_of (call profile b s (length out))) × (out ≡ output_of (call profile b s (length out)) out)
-      go true = (q ∙ (left_unicode profile s out i).0, (left_unicode profile s out i).1)
-      go false = (q ∙ (left_bytes profile s out i).0, (left_bytes profile s out i).1)
+      go : (b : Bool) → (refused_at f p ≡ verdict_of (call profile b s (length out))) × (out ≡ output_of (call profile b s (length out)) out)
+      go true = left_unicode profile s out i
+      go false = left_bytes profile s out i
 
   module _ {n : ℕ} (q : g.verdict ≡ Ok n) (bs : Bytes s) where
     pub is_read : ReadFrom profile s g.held

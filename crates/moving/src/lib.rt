@@ -112,10 +112,7 @@ fn move_to(unicode: bool, s: &[u8], out: &mut [u8], profile: Profile) -> Verdict
     ensures output { out.new ≡ output_of (call profile unicode s.now (length out.old)) out.old }
 {
     let g = reader::read(s, profile);
-    let v = g.verdict;
-    let Ok(_) = v else {
-        return v;
-    };
+    g.verdict?;
     let r = g.held;
     if !maps(s, r, unicode) {
         return Err(Refused::at(Fault::NoMap, 0));

@@ -27,6 +27,7 @@ fn longest(unicode: bool) -> usize
 }
 
 // Whole characters, none of them zero, and space for a terminator. What is too long is not looked at.
+// The callers pass the kind as a constant: one function and two calls.
 #[tactic(auto, using(crate::proofs::BlockLaws::text_long, crate::proofs::BlockLaws::text_short))]
 fn path_text(unicode: bool, x: &[u8]) -> bool
     ensures { result ≡ path_text unicode x.now }
@@ -116,10 +117,7 @@ pub fn path_block(
     let at = place_of(x, signature);
     let fits = path_fits(signature, text, unicode);
     let more = gained(fits, x.len(), at);
-    let v = writer::write_leaving(r, d, more, out, profile);
-    let Ok(n) = v else {
-        return v;
-    };
+    let n = writer::write_leaving(r, d, more, out, profile)?;
     let b = block_of(signature, text, unicode);
     put_over(out, b, n - more - 4 - x.len() + at, n - 4);
     Ok(n)

@@ -48,11 +48,11 @@ module _ (profile : Profile) (s out : List ℕ) {g : Reading} (e : g ≡ reading
   unfolding Accepts
   held_is a = e ∙ a
 
-  pub rewrite_left : {r : Refused} → g.verdict ≡ Err r → RewriteCall profile s out g.verdict out
+  pub rewrite_left : {r : Refused} → g.verdict ≡ Err r → RewriteCall profile s out (Err r) out
   unfolding rewrite_answer rewrite_output rewriting output_of
   rewrite_left {r} q =
       let i = refused_read profile s (ap (λ (x : Reading). x.verdict) (sym e) ∙ q) in
-      rewrite_call profile s out (q ∙ rw (i.is, i.told)) (rw i.is)
+      rewrite_call profile s out (rw (i.is, i.told)) (rw i.is)
       (λ held a l.
       let v : Err r ≡ Ok (length s) = sym q ∙ ap (λ (x : Reading). x.verdict) (held_is a) in
       absurd (let z : ◌≡◌ {A = ℕ} 0 1 = cc in omega arith))

@@ -15,8 +15,6 @@ pub fn rewrite(s: &[u8], out: &mut [u8], profile: Profile) -> Verdict
     ensures kept { Keeps profile s.now out.old result out.new }
 {
     let g = reader::read(s, profile);
-    let Ok(_) = g.verdict else {
-        return g.verdict;
-    };
+    g.verdict?;
     writer::write(g.held, s, out, profile)
 }

@@ -182,7 +182,7 @@ pub fn any_value(l: &[u8], base: usize) -> bool
     Rows::new(l, base).any(|r| r.kind != 0)
 }
 
-// The row of this number, or zeros.
+// The row of this number, or zeros where there is none, as the definition has.
 pub fn row_at(l: &[u8], base: usize, k: usize) -> StoreRow
     requires { (all (store_tests 0 l.now) ≡ true) × (base + length l.now < 2 ^ 64) }
     ensures { result ≡ nth_row k (store_rows base l.now) }

@@ -27,7 +27,7 @@ pub struct Texts {
 pub fn targeted(f: u32, i: u32) -> bool
     ensures { result ≡ targeted f i }
 {
-    !(f / 256 % 2 == 1)
+    !format::bit::<8>(f)
         & format::info_there(f)
         & (format::local_there(i) | format::network_there(i))
 }

@@ -47,7 +47,7 @@ fn body(d: &[u8], b: Place) -> &[u8]
     &d[b.at..][..b.len]
 }
 
-// Whole characters: in Unicode an even number of bytes.
+// Whole characters: in Unicode an even number of bytes. `unicode` is a flag of the file, and a constant in the calls of pathing.
 fn whole(unicode: bool, n: usize) -> bool
     ensures { result ≡ (not unicode || eqb (n % 2) 0) }
 {
