@@ -8,40 +8,65 @@ use std::fs;
 /// No answers: the two kinds of a label, which a record holds, and the profile, which a call is given.
 const HELD: &[&str] = &["Label", "Profile"];
 
-/// The answers that are a Result or an Option, as the code and as the definitions write the type, and what takes each to its numbers.
-const NUMBERED: &[(&str, &str, &str)] = &[
-    ("Verdict", "Verdict", "answer_number"),
-    ("Result<(u32, Cursor), Cursor>", "Result (ℕ × Cursor) Cursor", "took_number"),
-    ("Result<Cursor, Cursor>", "Result Cursor Cursor", "skipped_number"),
-    ("Option<usize>", "Option ℕ", "zero_number"),
-    ("Result<(Place, Cursor), Refusal>", "{A : Type 0} → Result (A × Cursor) Refusal", "taken_number"),
-    ("Result<(Header, Cursor), Refusal>", "{A : Type 0} → Result (A × Cursor) Refusal", "taken_number"),
-    ("Result<Cursor, Refusal>", "Result Cursor Refusal", "info_number"),
-    ("Result<SectionEnds, Refusal>", "Result SectionEnds Refusal", "next_number"),
-    ("Result<Option<Block>, Fault>", "BlockStep", "step_number"),
-    ("Result<usize, usize>", "Result ℕ ℕ", "end_number"),
-    ("Result<usize, usize>", "Result ℕ ℕ", "volume_number"),
-    ("Result<NetworkTexts, usize>", "Result NetworkTexts ℕ", "network_number"),
+/// An answer that is a Result or an Option: the functions that give it, the type as the code and as the definitions write it, and what takes it to its numbers.
+struct Numbered {
+    functions: &'static [&'static str],
+    answer: &'static str,
+    typed: &'static str,
+    number: &'static str,
+}
+
+const fn numbered(
+    functions: &'static [&'static str],
+    answer: &'static str,
+    typed: &'static str,
+    number: &'static str,
+) -> Numbered {
+    Numbered { functions, answer, typed, number }
+}
+
+const OF_ANY: &str = "{A : Type 0} → Result (A × Cursor) Refusal";
+
+/// The answers with numbers. A verdict is known by its type, whoever gives it.
+const NUMBERED: &[Numbered] = &[
+    numbered(&[], "Verdict", "Verdict", "answer_number"),
+    numbered(&["take_u16", "take_u32"], "Result<(u32, Cursor), Cursor>", "Result (ℕ × Cursor) Cursor", "took_number"),
+    numbered(&["skip"], "Result<Cursor, Cursor>", "Result Cursor Cursor", "skipped_number"),
+    numbered(&["zero_from"], "Option<usize>", "Option ℕ", "zero_number"),
+    numbered(&["string", "items", "blocks"], "Result<(Place, Cursor), Refusal>", OF_ANY, "taken_number"),
+    numbered(&["header"], "Result<(Header, Cursor), Refusal>", OF_ANY, "taken_number"),
+    numbered(&["info"], "Result<Cursor, Refusal>", "Result Cursor Refusal", "info_number"),
+    numbered(&["outline_of"], "Result<SectionEnds, Refusal>", "Result SectionEnds Refusal", "next_number"),
+    numbered(&["step"], "Result<Option<Block>, Fault>", "BlockStep", "step_number"),
+    numbered(&["end_of"], "Result<usize, usize>", "Result ℕ ℕ", "end_number"),
+    numbered(&["volume_in"], "Result<usize, usize>", "Result ℕ ℕ", "volume_number"),
+    numbered(&["network_in"], "Result<NetworkTexts, usize>", "Result NetworkTexts ℕ", "network_number"),
 ];
 
 /// Of these only theorems say the numbers; of all others contracts do, or definitions.
 const BY_THEOREMS: &[&str] =
     &["took_number", "skipped_number", "zero_number", "end_number", "volume_number", "network_number"];
 
-/// Functions whose answer tells a number or a record from a field or a section at fault, or a text or a place from none: neither case has a number of its own.
+/// Functions whose answer tells a number or a record from a field or a section at fault, or a text, a place or a count from none: neither case has a number of its own.
 /// The place of an entry on a shelf has the number of its verdict, and so has what salvage saved.
-const PLAIN: &[&str] = &[
-    "block_from",
-    "nth_block",
-    "demand",
-    "text_at",
-    "apart_six",
-    "volume",
-    "network",
-    "fault",
-    "salvage",
-    "shelf_entry",
-    "shelf_one",
+const PLAIN: &[(&str, &str)] = &[
+    ("block_from", "Option<Place>"),
+    ("nth_block", "Option<Place>"),
+    ("zero_at", "Option<usize>"),
+    ("items_wrong", "Option<usize>"),
+    ("store_wrong", "Option<usize>"),
+    ("store_size", "Option<usize>"),
+    ("old_count", "Option<usize>"),
+    ("first_bad", "Option<usize>"),
+    ("demand", "Result<(), usize>"),
+    ("text_at", "Option<Found<usize>>"),
+    ("apart_six", "Result<(), usize>"),
+    ("volume", "Result<Found<usize>, usize>"),
+    ("network", "Result<Found<NetworkTexts>, usize>"),
+    ("fault", "Result<usize, Refusal>"),
+    ("salvage", "Result<Salvaged, Refused>"),
+    ("shelf_entry", "Result<Place, Refused>"),
+    ("shelf_one", "Result<Place, Refused>"),
 ];
 
 /// The enums that a file of code declares.
@@ -143,8 +168,8 @@ fn complaints(code: &str, definitions: &str) -> Vec<String> {
         }
     }
     for one in answers(code) {
-        let known = NUMBERED.iter().any(|(typed, _, _)| *typed == one.typed) || PLAIN.contains(&one.name);
-        if one.public && is_either(one.typed) && !known {
+        let numbers = NUMBERED.iter().any(|row| row.functions.contains(&one.name) && row.answer == one.typed);
+        if one.public && is_either(one.typed) && !numbers && !PLAIN.contains(&(one.name, one.typed)) {
             found.push(format!("{}: {} has no numbers", one.name, one.typed));
         }
     }
@@ -155,22 +180,28 @@ fn complaints(code: &str, definitions: &str) -> Vec<String> {
 fn rows(code: &str, definitions: &str, theorems: &str) -> Vec<String> {
     let mut found = Vec::new();
     let answers = answers(code);
-    for (answer, typed, name) in NUMBERED {
-        let line = format!("{} : {} → ℕ", name, typed);
-        if !answers.iter().any(|one| one.typed == *answer) {
-            found.push(format!("nothing answers {}", answer));
+    for row in NUMBERED {
+        let line = format!("{} : {} → ℕ", row.number, row.typed);
+        let gives = |name: Option<&str>| {
+            answers.iter().any(|one| one.typed == row.answer && name.map_or(true, |name| one.name == name))
+        };
+        if row.functions.is_empty() && !gives(None) {
+            found.push(format!("nothing answers {}", row.answer));
+        }
+        for name in row.functions.iter().filter(|name| !gives(Some(name))) {
+            found.push(format!("{} does not answer {}", name, row.answer));
         }
         if !definitions.lines().any(|one| definition(one) == Some(&line)) {
-            found.push(format!("{} has no numbers", answer));
+            found.push(format!("{} has no numbers", row.answer));
         }
-        let said = if BY_THEOREMS.contains(name) { [theorems, ""] } else { [code, definitions] };
-        if !used(&said, name) {
-            found.push(format!("nothing cites {}", name));
+        let said = if BY_THEOREMS.contains(&row.number) { [theorems, ""] } else { [code, definitions] };
+        if !used(&said, row.number) {
+            found.push(format!("nothing cites {}", row.number));
         }
     }
-    for name in PLAIN {
-        if !answers.iter().any(|one| one.name == *name && one.public && is_either(one.typed)) {
-            found.push(format!("{} answers no Result and no Option", name));
+    for (name, answer) in PLAIN {
+        if !answers.iter().any(|one| one.public && one.name == *name && one.typed == *answer) {
+            found.push(format!("{} does not answer {}", name, answer));
         }
     }
     found
@@ -239,7 +270,10 @@ fn an_answer_without_numbers_is_found() {
             .collect::<Vec<_>>()
     };
     assert!(of_skip(rows(code, definition, theorem)).is_empty());
-    assert_eq!(of_skip(rows("", definition, theorem)), ["nothing answers Result<Cursor, Cursor>"]);
+    assert_eq!(of_skip(rows("", definition, theorem)), ["skip does not answer Result<Cursor, Cursor>"]);
+    // Another function with an answer of that type has no numbers by it.
+    let other = code.replace("fn skip", "fn find");
+    assert_eq!(complaints(&other, definition), ["find: Result<Cursor, Cursor> has no numbers"]);
     assert_eq!(of_skip(rows(code, "", theorem)), ["Result<Cursor, Cursor> has no numbers"]);
     assert_eq!(of_skip(rows(code, definition, "")), ["nothing cites skipped_number"]);
     assert_eq!(of_skip(rows(code, definition, "  unfolding skipped_number\n")), ["nothing cites skipped_number"]);

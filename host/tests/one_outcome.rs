@@ -6,11 +6,13 @@ use std::collections::{BTreeMap, BTreeSet};
 use std::fs;
 use std::path::Path;
 
-/// A public function: its crate, its file under `src` without the ending, the type that it is a method of, its name.
+/// A public function: its crate, its file under `src` without the ending, the type that it is a method of, the trait
+/// that makes it one, its name.
 struct Function {
     crate_name: String,
     file: String,
     owner: Option<String>,
+    by: Option<String>,
     name: String,
     /// Whether it has const parameters.
     of_constants: bool,
@@ -30,15 +32,19 @@ impl Function {
         owner.chain([self.name.clone()]).collect::<Vec<_>>().join("_")
     }
 
-    /// Its module among the proofs of its crate, and among the contracts.
+    /// Its module among the proofs of its crate, and among the contracts: a trait's name goes with that of the type.
     fn module(&self) -> String {
         let file = Some(self.file.clone()).filter(|file| file != "lib" && file != "main");
-        file.into_iter().chain(self.owner.clone()).chain([self.name.clone()]).collect::<Vec<_>>().join(".")
+        let letters = self.by.iter().flat_map(|named| named.chars()).filter(|c| c.is_alphanumeric());
+        let by: String = letters.collect();
+        let owner = self.owner.iter().map(|owner| owner.clone() + &by);
+        file.into_iter().chain(owner).chain([self.name.clone()]).collect::<Vec<_>>().join(".")
     }
 
     /// What its theorem has to say.
     fn form(&self) -> &'static str {
         match (self.buffers, self.shows) {
+            _ if self.by.as_deref() == Some("Iterator") && self.name == "next" => "OneItem",
             (0, false) => "OneAnswer",
             (0, true) => "OneShown",
             _ => "OneOutcome",
@@ -46,35 +52,55 @@ impl Function {
     }
 }
 
-/// The type whose methods begin with this line, without its parameters.
-fn implemented(line: &str) -> Option<String> {
+/// The type whose methods begin with this line, without its parameters, and the trait by which they are.
+fn implemented(line: &str) -> Option<(String, Option<String>)> {
     let rest = line.strip_prefix("impl")?;
     let named = match rest.strip_prefix('<') {
         Some(parameters) => parameters.split_once("> ")?.1,
         None => rest.strip_prefix(' ')?,
     };
-    named.split(|c: char| c.is_whitespace() || c == '<').next().map(str::to_string)
+    let (by, named) = match named.split_once(" for ") {
+        Some((by, named)) => (Some(by.to_string()), named),
+        None => (None, named),
+    };
+    named.split(|c: char| c.is_whitespace() || c == '<').next().map(|owner| (owner.to_string(), by))
 }
 
-/// The public functions of a file of code.
+/// Whether the file keeps this trait or type to itself or its crate.
+fn kept(source: &str, name: &str) -> bool {
+    source.lines().filter(|line| !line.starts_with("pub ")).any(|line| {
+        let mut words = line.strip_prefix("pub(crate) ").unwrap_or(line).split(' ');
+        let kind = words.next().unwrap_or("");
+        let named = words.next().unwrap_or("").split(|c: char| !c.is_alphanumeric()).next();
+        ["trait", "struct", "enum"].contains(&kind) && named == Some(name)
+    })
+}
+
+/// The public functions of a file of code: those of a public trait are public by it.
 fn functions(crate_name: &str, file: &str, source: &str) -> Vec<Function> {
     let mut owner = None;
+    let mut by = None;
     let mut found = Vec::new();
     for (at, _) in source.match_indices('\n') {
         let rest = &source[at + 1..];
         let line = rest.lines().next().unwrap_or("");
-        if let Some(named) = implemented(line) {
+        if let Some((named, given)) = implemented(line) {
             owner = Some(named);
+            by = given;
         } else if line == "}" {
             owner = None;
+            by = None;
         }
         let public = line.trim_start().strip_prefix("pub ").map(|word| word.trim_start_matches("extern \"C\" "));
-        if let Some(named) = public.and_then(|word| word.strip_prefix("fn ")) {
+        let shown = || by.iter().chain(&owner).all(|name| !kept(source, name.split('<').next().unwrap()));
+        let by_trait = Some(line.trim_start()).filter(|_| by.is_some() && shown());
+        if let Some(named) = public.or(by_trait).and_then(|word| word.strip_prefix("fn ")) {
             let signature = rest.split('{').next().unwrap();
             found.push(Function {
                 crate_name: crate_name.to_string(),
                 file: file.to_string(),
                 owner: owner.clone(),
+                by: by.clone(),
                 name: named.split(|c| c == '(' || c == '<').next().unwrap().to_string(),
                 of_constants: named.split('(').next().unwrap().contains("<const "),
                 buffers: signature.matches("&mut ").count(),
@@ -183,6 +209,33 @@ impl<'a> Place<'a> {
     }
 }
 
+impl<'a> Iterator for Place<'a> {
+    type Item = &'a [u8];
+
+    fn next(&mut self) -> Option<&'a [u8]> {
+    }
+}
+
+impl From<Taken> for Place {
+    fn from(t: Taken) -> Place {
+    }
+}
+
+trait Within {
+}
+
+impl Within for Place {
+    fn within(self) -> u8 {
+    }
+}
+
+pub(crate) struct Own;
+
+impl From<Taken> for Own {
+    fn from(t: Taken) -> Own {
+    }
+}
+
 fn inner() {
 }
 
@@ -194,8 +247,14 @@ const LAWS: &str = "use Rattle.a.proofs.take
 use Rattle.a.specs.contracts.take as take_contract
 use Rattle.a.proofs.Place.put as place_put
 use Rattle.a.specs.contracts.Place.put as place_put_contract
+use Rattle.a.proofs.PlaceIterator.next as place_next
+use Rattle.a.specs.contracts.PlaceIterator.next as place_next_contract
+use Rattle.a.proofs.PlaceFromTaken.from as place_from
+use Rattle.a.specs.contracts.PlaceFromTaken.from as place_from_contract
 pub take_one_outcome : OneAnswer take_contract.ended take.Reads.Post
 pub place_put_one_outcome : OneOutcome place_put_contract.ended (λ κs s. s.1.0.now) place_put.Reads.Post
+pub place_next_one_outcome : OneItem place_next_contract.ended (λ κs r. r) (λ κs s. s.0.now) place_next.Reads.Post
+pub place_from_one_outcome : OneAnswer place_from_contract.ended place_from.Reads.Post
 ";
 
 const PAGE: &str = "# Page\n\n## Where freedom is left\n\n- [`say`](../crates/a/src/lib.rt): it prints.\n\n## Next\n";
@@ -217,6 +276,16 @@ fn what_is_missing_or_too_much_is_found() {
     assert_eq!(tried(CODE, &LAWS.replace("contracts.take ", "contracts.other "), PAGE), without("take"));
     assert_eq!(tried(CODE, &LAWS.replace("take_contract.ended", "other_contract.ended"), PAGE), without("take"));
     assert_eq!(tried(CODE, &LAWS.replace("OneOutcome", "OneAnswer"), PAGE), without("put"));
+    // A trait makes its functions public, if it is so itself, and the type.
+    assert_eq!(tried(CODE, &LAWS.replace("pub place_next_one", "pub next_one"), PAGE), without("next"));
+    assert_eq!(tried(CODE, &LAWS.replace("OneItem", "OneOutcome"), PAGE), without("next"));
+    assert_eq!(tried(CODE, &LAWS.replace(" (λ κs s. s.0.now)", ""), PAGE), without("next"));
+    assert_eq!(tried(CODE, &LAWS.replace("proofs.PlaceIterator", "proofs.Place"), PAGE), without("next"));
+    assert_eq!(tried(CODE, &LAWS.replace("pub place_from_one", "pub from_one"), PAGE), without("from"));
+    assert_eq!(tried(CODE, &LAWS.replace("place_from.Reads", "other.Reads"), PAGE), without("from"));
+    assert_eq!(tried(&CODE.replace("trait Within", "pub trait Within"), LAWS, PAGE), without("within"));
+    let own = tried(&CODE.replace("pub(crate) struct Own", "pub struct Own"), LAWS, PAGE);
+    assert_eq!(own, without("from"));
     assert_eq!(tried(CODE, &LAWS.replace("(λ κs s. s.1.0.now) ", ""), PAGE), without("put"));
     let twice = CODE.replace("out: &mut [u8]", "out: &mut [u8], to: &mut [u8]");
     assert_eq!(tried(&twice, &LAWS.replace("s.1.0.now", "s.1.0.now ++ s.1.0.now"), PAGE), without("put"));

@@ -22,7 +22,7 @@ use Rattle.format.proofs.Chains.{no_value}
 use Rattle.format.proofs.WrongLaws.{at_fault, one_fault}
 use Rattle.blocks.specs.Steps.Walk.{Sized, BlockStep, step_of, by_size, step_number, step_value, StepAnswer, step_site, Told, Stands}
 use Rattle.blocks.specs.declared.Block.{Block}
-use Rattle.format.proofs.BlockLaws.{inside_Faults}
+use Rattle.format.proofs.BlockLaws.{inside_OfFault}
 
 -- the part from k to the end
 pub tail_part : (k : ℕ) (l : List ℕ) → take (length l - k) (drop k l) ≡ drop k l
@@ -91,7 +91,7 @@ module _ (s : List ℕ) {n k : ℕ} (z : Sized s n k) where
   left : {o : Option ℕ} → o ≡ wrong (inside_tests k (take n s)) → (p : ℕ) → block_step p s ≡ at_fault (held_fault k) (block p) o (got a_block n)
   left e p =
       let h : block_step p s ≡ tests (block p) (size_fits k n else BLOCK at 0 ∷ inside_tests k (take n s)) (got a_block n) = rw (z.size, z.slot) (here s (rw z.size at z.least) (rw z.size at z.inside) p) in
-      h ∙ rw (z.fits, e) (one_fault (held_fault k) (block p) (inside_tests k (take n s)) (got a_block n) (inside_Faults k (take n s)))
+      h ∙ rw (z.fits, e) (one_fault (held_fault k) (block p) (inside_tests k (take n s)) (got a_block n) (inside_OfFault k (take n s)))
 
   pub holds_right : None ≡ wrong (inside_tests k (take n s)) → (p : ℕ) → block_step p s ≡ got a_block n
   holds_right e p = left e p

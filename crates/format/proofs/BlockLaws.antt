@@ -20,22 +20,25 @@ use Rattle.format.specs.Shortcut.{sum}
 use Rattle.format.specs.Steps.Wrong.{held_fault}
 use Rattle.format.specs.Writing.{blocks_bytes, takes, writable_blocks}
 use Rattle.format.proofs.Bools.{by_order}
-use Rattle.format.proofs.WrongLaws.{Faults}
+use Rattle.format.proofs.WrongLaws.{OfFault, Faults, Faults-OfFault}
 use Rattle.format.proofs.ItemsLaws.{item_Faults}
 use Rattle.format.proofs.StoreLaws.{store_Faults}
 use Rattle.format.proofs.Chains.{Pass, pass, passed, got_elim, no_value, no_true, drop-take, Ok, Fits, CutBy, Law}
 
--- all tests of what a block holds give its fault
+-- all tests of what a block holds give its fault, and none is of the field 0
 pub inside_Faults : (slot : ℕ) (b : List ℕ) → Faults (held_fault slot) (inside_tests slot b)
 unfolding inside_tests held_fault
 inside_Faults slot b =
     go (eqb slot (slot_of 0xA0000009)) (eqb slot (slot_of 0xA0000001) || eqb slot (slot_of 0xA0000006) || eqb slot (slot_of 0xA0000007)) (eqb slot (slot_of 0xA000000C))
   where
     go : (x y z : Bool) → Faults (cond x STORE BLOCK) (cond x (store_tests 8 (drop 8 b)) (cond y (path_tests b) (cond z (item_tests BLOCK 8 0 (drop 8 b)) [])))
-    go true y z = store_Faults 8 (drop 8 b)
-    go false true z = (refl, (refl, tt))
-    go false false true = item_Faults BLOCK 8 0 (drop 8 b)
+    go true y z = store_Faults 8 (drop 8 b) (omega arith)
+    go false true z = (refl, (omega arith, (refl, (omega arith, tt))))
+    go false false true = item_Faults BLOCK 8 0 (drop 8 b) (omega arith)
     go false false false = tt
+
+pub inside_OfFault : (slot : ℕ) (b : List ℕ) → OfFault (held_fault slot) (inside_tests slot b)
+inside_OfFault slot b = Faults-OfFault (held_fault slot) (inside_tests slot b) (inside_Faults slot b)
 
 -- ---- one step of the walk; `before` has the slots of the blocks before it
 

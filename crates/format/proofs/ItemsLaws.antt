@@ -21,7 +21,7 @@ use Rattle.format.specs.Steps.Wrong.{wrong}
 use Rattle.format.specs.Writing.{items_bytes, writable_items}
 use Rattle.format.proofs.Bools.{and-true, and_both, and_yes}
 use Rattle.format.proofs.Chains.{all-Pass, Pass-all, Ok, Fits, Law, no_true}
-use Rattle.format.proofs.WrongLaws.{Faults}
+use Rattle.format.proofs.WrongLaws.{OfFault, Faults}
 use Rattle.format.proofs.Sized.{SizedBack, Sized, sized_r, sized_Law}
 
 -- a walk that passes needs the bytes that are to come
@@ -56,18 +56,32 @@ tests_walk f i (suc k) [] = refl
 tests_walk f i (suc k) (a ∷ l) = tests_walk f i k l
 
 -- all tests of a list have its fault
-pub item_Faults : (f : Fault) (i k : ℕ) (l : List ℕ) → Faults f (item_tests f i k l)
+pub item_OfFault : (f : Fault) (i k : ℕ) (l : List ℕ) → OfFault f (item_tests f i k l)
 unfolding item_tests
-item_Faults f i zero [] = (refl, tt)
-item_Faults f i zero (a ∷ []) = (refl, tt)
-item_Faults f i zero (a ∷ b ∷ l) = go (eqb (a + 256 * b) 0) (item_Faults f (i + (a + 256 * b)) (a + 256 * b - 2) l)
+item_OfFault f i zero [] = (refl, tt)
+item_OfFault f i zero (a ∷ []) = (refl, tt)
+item_OfFault f i zero (a ∷ b ∷ l) = go (eqb (a + 256 * b) 0) (item_OfFault f (i + (a + 256 * b)) (a + 256 * b - 2) l)
+  where
+    go : (t : Bool) → OfFault f (item_tests f (i + (a + 256 * b)) (a + 256 * b - 2) l)
+        → OfFault f (cond t (eqb (length l) 0 else f at i ∷ []) (leb 2 (a + 256 * b) else f at i ∷ leb (a + 256 * b - 2) (length l) else f at i ∷ item_tests f (i + (a + 256 * b)) (a + 256 * b - 2) l))
+    go true r = (refl, tt)
+    go false r = (refl, (refl, r))
+item_OfFault f i (suc k) [] = (refl, tt)
+item_OfFault f i (suc k) (a ∷ l) = item_OfFault f i k l
+
+-- and behind the first byte none is of the field 0
+pub item_Faults : (f : Fault) (i k : ℕ) (l : List ℕ) → 0 < i → Faults f (item_tests f i k l)
+unfolding item_tests
+item_Faults f i zero [] h = (refl, (h, tt))
+item_Faults f i zero (a ∷ []) h = (refl, (h, tt))
+item_Faults f i zero (a ∷ b ∷ l) h = go (eqb (a + 256 * b) 0) (item_Faults f (i + (a + 256 * b)) (a + 256 * b - 2) l (omega arith))
   where
     go : (t : Bool) → Faults f (item_tests f (i + (a + 256 * b)) (a + 256 * b - 2) l)
         → Faults f (cond t (eqb (length l) 0 else f at i ∷ []) (leb 2 (a + 256 * b) else f at i ∷ leb (a + 256 * b - 2) (length l) else f at i ∷ item_tests f (i + (a + 256 * b)) (a + 256 * b - 2) l))
-    go true r = (refl, tt)
-    go false r = (refl, (refl, r))
-item_Faults f i (suc k) [] = (refl, tt)
-item_Faults f i (suc k) (a ∷ l) = item_Faults f i k l
+    go true r = (refl, (h, tt))
+    go false r = (refl, (h, (refl, (h, r))))
+item_Faults f i (suc k) [] h = (refl, (h, tt))
+item_Faults f i (suc k) (a ∷ l) h = item_Faults f i k l h
 
 -- the wrong place is none after the list's end
 pub item_wrong_inside : (f : Fault) (i k : ℕ) (l : List ℕ) → IfSome (wrong (item_tests f i k l)) (λ j. j ≤ i + (length l - k))

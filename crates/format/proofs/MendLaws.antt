@@ -31,14 +31,14 @@ use Rattle.format.specs.Shortcut.{Section, found, section_if, string_section, ta
 use Rattle.format.specs.Steps.Wrong.{held_fault}
 use Rattle.format.proofs.Bools.{by_order}
 use Rattle.format.proofs.Chains.{Pass, pass, passed, got_elim, tests_elim, chain_elim, drop-take, Law}
-use Rattle.format.proofs.WrongLaws.{Faults}
+use Rattle.format.proofs.WrongLaws.{OfFault}
 use Rattle.format.proofs.Sized.{sized_tests, sized_r, sized_holds}
 use Rattle.format.proofs.EachLaws.{Each, Each-append, Each-piece, PiecesIn, Each-text, Each-struct, Each-volume, Each-network}
 use Rattle.format.proofs.HeaderLaws.{header-Law}
-use Rattle.format.proofs.ItemsLaws.{item_Faults, items_value, items_Law}
+use Rattle.format.proofs.ItemsLaws.{item_OfFault, items_value, items_Law}
 use Rattle.format.proofs.StringLaws.{string_Law}
 use Rattle.format.proofs.InfoLaws.{info_value, info_Law}
-use Rattle.format.proofs.BlockLaws.{inside_Faults, none_left, the_end, more, more_on, one_more, blocks_Walked, blocks_same, ends_terminal, same_slot}
+use Rattle.format.proofs.BlockLaws.{inside_OfFault, none_left, the_end, more, more_on, one_more, blocks_Walked, blocks_same, ends_terminal, same_slot}
 use Rattle.format.proofs.PlaceLaws.{found_elim}
 
 -- ---- refusals
@@ -73,7 +73,7 @@ abbrev Other : Fault → ℕ → Type 0
 Other f i = NoTrail f
 
 -- what holds of a fault holds of all tests that give it
-pub Each-fault : (X : Fault → Type 0) (f : Fault) (ts : List Test) → X f → Faults f ts → Each (λ g i. X g) ts
+pub Each-fault : (X : Fault → Type 0) (f : Fault) (ts : List Test) → X f → OfFault f ts → Each (λ g i. X g) ts
 Each-fault X f [] h g = tt
 Each-fault X f (t ∷ ts) h g = ((λ e. rw g.0 h), λ e. Each-fault X f ts h g.1)
 
@@ -165,7 +165,7 @@ Front-items =
     Front-sized 1 2 items_length (λ n. []) items_rules items_value _ _ items_Law (λ p s. place (p + 2) (items_length s - 4)) (λ p s t e u. rw e) (omega arith)
     (λ s. (
       (λ e. not_cut),
-      λ e. ((λ e. not_cut), λ e. Each-fault NoTrail ITEMS (items_rules (take (items_length s) s)) not_items (item_Faults ITEMS 2 0 (drop 2 (take (items_length s) s)))),
+      λ e. ((λ e. not_cut), λ e. Each-fault NoTrail ITEMS (items_rules (take (items_length s) s)) not_items (item_OfFault ITEMS 2 0 (drop 2 (take (items_length s) s)))),
     ))
 
 Front-string : (k : ℕ) (u : Bool) → k < 8 → Front (string k u)
@@ -323,7 +323,7 @@ block_again before p s c o t u l r e =
 -- what a block's rules give is BLOCK or STORE
 pub Each-held : (X : Fault → Type 0) → X BLOCK → X STORE → (b : List ℕ) → Each (λ f i. X f) (block_rules b)
 unfolding held_fault
-Each-held X rule store b = ((λ e. rule), λ e. Each-fault X (held_fault (slot_at b)) (inside_tests (slot_at b) b) (held (eqb (slot_at b) (slot_of 0xA0000009))) (inside_Faults (slot_at b) b))
+Each-held X rule store b = ((λ e. rule), λ e. Each-fault X (held_fault (slot_at b)) (inside_tests (slot_at b) b) (held (eqb (slot_at b) (slot_of 0xA0000009))) (inside_OfFault (slot_at b) b))
   where
     held : (t : Bool) → X (cond t STORE BLOCK)
     held true = store

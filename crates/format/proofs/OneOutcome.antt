@@ -62,6 +62,8 @@ use Rattle.format.proofs.Refusal.at as refusal_at
 use Rattle.format.specs.contracts.Refusal.at as refusal_at_contract
 use Rattle.format.proofs.Refused.at as refused_at
 use Rattle.format.specs.contracts.Refused.at as refused_at_contract
+use Rattle.format.proofs.RefusedFromRefusal.from as refused_from
+use Rattle.format.specs.contracts.RefusedFromRefusal.from as refused_from_contract
 use Rattle.format.proofs.demand
 use Rattle.format.specs.contracts.demand as demand_contract
 
@@ -155,6 +157,9 @@ refusal_at_one_outcome κs a r q s t p o = p ∙ sym o
 
 pub refused_at_one_outcome : OneAnswer refused_at_contract.ended refused_at.Reads.Post
 refused_at_one_outcome κs a r q s t p o = p ∙ sym o
+
+pub refused_from_one_outcome : OneAnswer refused_from_contract.ended refused_from.Reads.Post
+refused_from_one_outcome κs a r q s t p o = p ∙ sym o
 
 pub demand_one_outcome : OneAnswer demand_contract.ended demand.Reads.Post
 demand_one_outcome κs a r q s t p o = p ∙ sym o

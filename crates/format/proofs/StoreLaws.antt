@@ -18,7 +18,7 @@ use Rattle.format.specs.Store.{part_tests, value_tests, values_tests, is_named, 
 use Rattle.format.specs.Steps.Wrong.{wrong}
 use Rattle.format.proofs.Bools.{by_order}
 use Rattle.format.proofs.Chains.{Pass, Pass-split, Pass-join, Pass-all, all-append, no_true}
-use Rattle.format.proofs.WrongLaws.{Faults, Faults-join}
+use Rattle.format.proofs.WrongLaws.{OfFault, OfFault-join, Faults, Faults-join}
 use Rattle.format.proofs.EachLaws.{Each, Each-append, Each-wrong}
 
 pub not_zero : (n : ℕ) → eqb n 0 ≡ false → 0 < n
@@ -115,10 +115,27 @@ module _ (least : ℕ) (own : ℕ → List ℕ → List Test) where
 
   -- ---- faults and fields
 
-  pub part_Faults : ((j : ℕ) (v : List ℕ) → Faults STORE (own j v)) → (i k : ℕ) (l : List ℕ) → Faults STORE (part_tests least own i k l)
+  pub part_OfFault : ((j : ℕ) (v : List ℕ) → OfFault STORE (own j v)) → (i k : ℕ) (l : List ℕ) → OfFault STORE (part_tests least own i k l)
   unfolding part_tests
-  part_Faults f i zero [] = (refl, tt)
-  part_Faults f i zero (a ∷ l) = (refl, go (eqb n 0) (part_Faults f (i + n) (n - 1) l))
+  part_OfFault f i zero [] = (refl, tt)
+  part_OfFault f i zero (a ∷ l) = (refl, go (eqb n 0) (part_OfFault f (i + n) (n - 1) l))
+    where
+      n : ℕ
+      n = u32_at (a ∷ l) 0
+
+      go : (b : Bool) → OfFault STORE (part_tests least own (i + n) (n - 1) l)
+          → OfFault STORE (cond b (eqb (length (a ∷ l)) 4 else STORE at i ∷ [])
+          (leb least n else STORE at i ∷ leb n (length (a ∷ l)) else STORE at i ∷ own i (take n (a ∷ l)) ++ part_tests least own (i + n) (n - 1) l))
+      go true r = (refl, tt)
+      go false r = (refl, (refl, OfFault-join STORE (own i (take n (a ∷ l))) (part_tests least own (i + n) (n - 1) l) (f i (take n (a ∷ l))) r))
+  part_OfFault f i (suc k) [] = (refl, tt)
+  part_OfFault f i (suc k) (a ∷ l) = part_OfFault f i k l
+
+  -- the fields begin where the parts do
+  pub part_Faults : ((j : ℕ) (v : List ℕ) → 0 < j → Faults STORE (own j v)) → (i k : ℕ) (l : List ℕ) → 0 < i → Faults STORE (part_tests least own i k l)
+  unfolding part_tests
+  part_Faults f i zero [] h = (refl, (h, tt))
+  part_Faults f i zero (a ∷ l) h = (refl, (h, go (eqb n 0) (part_Faults f (i + n) (n - 1) l (omega arith))))
     where
       n : ℕ
       n = u32_at (a ∷ l) 0
@@ -126,10 +143,10 @@ module _ (least : ℕ) (own : ℕ → List ℕ → List Test) where
       go : (b : Bool) → Faults STORE (part_tests least own (i + n) (n - 1) l)
           → Faults STORE (cond b (eqb (length (a ∷ l)) 4 else STORE at i ∷ [])
           (leb least n else STORE at i ∷ leb n (length (a ∷ l)) else STORE at i ∷ own i (take n (a ∷ l)) ++ part_tests least own (i + n) (n - 1) l))
-      go true r = (refl, tt)
-      go false r = (refl, (refl, Faults-join STORE (own i (take n (a ∷ l))) (part_tests least own (i + n) (n - 1) l) (f i (take n (a ∷ l))) r))
-  part_Faults f i (suc k) [] = (refl, tt)
-  part_Faults f i (suc k) (a ∷ l) = part_Faults f i k l
+      go true r = (refl, (h, tt))
+      go false r = (refl, (h, (refl, (h, Faults-join STORE (own i (take n (a ∷ l))) (part_tests least own (i + n) (n - 1) l) (f i (take n (a ∷ l)) h) r))))
+  part_Faults f i (suc k) [] h = (refl, (h, tt))
+  part_Faults f i (suc k) (a ∷ l) h = part_Faults f i k l h
 
   -- what holds of parts holds wherever they stand
   pub parts_anywhere : ((i j : ℕ) (v : List ℕ) → all (own i v) ≡ all (own j v)) → (i j k : ℕ) (l : List ℕ) → all (part_tests least own i k l) ≡ all (part_tests least own j k l)
@@ -217,18 +234,32 @@ module _ (least : ℕ) (own : ℕ → List ℕ → List Test) where
 
 -- ---- values and storages
 
-pub value_Faults : (named : Bool) (j : ℕ) (v : List ℕ) → Faults STORE (value_tests named j v)
-value_Faults named j v = (refl, (refl, tt))
+pub value_OfFault : (named : Bool) (j : ℕ) (v : List ℕ) → OfFault STORE (value_tests named j v)
+value_OfFault named j v = (refl, (refl, tt))
 
-pub values_Faults : (named : Bool) (i : ℕ) (l : List ℕ) → Faults STORE (values_tests named i l)
-values_Faults named i l = part_Faults 9 (value_tests named) (value_Faults named) i 0 l
+pub values_OfFault : (named : Bool) (i : ℕ) (l : List ℕ) → OfFault STORE (values_tests named i l)
+values_OfFault named i l = part_OfFault 9 (value_tests named) (value_OfFault named) i 0 l
 
-pub storage_Faults : (j : ℕ) (v : List ℕ) → Faults STORE (storage_tests j v)
-storage_Faults j v = (refl, values_Faults (is_named (identifier_of v)) (j + 24) (drop 24 v))
+pub storage_OfFault : (j : ℕ) (v : List ℕ) → OfFault STORE (storage_tests j v)
+storage_OfFault j v = (refl, values_OfFault (is_named (identifier_of v)) (j + 24) (drop 24 v))
 
-pub store_Faults : (i : ℕ) (l : List ℕ) → Faults STORE (store_tests i l)
+pub store_OfFault : (i : ℕ) (l : List ℕ) → OfFault STORE (store_tests i l)
 unfolding store_tests
-store_Faults i l = part_Faults 28 storage_tests storage_Faults i 0 l
+store_OfFault i l = part_OfFault 28 storage_tests storage_OfFault i 0 l
+
+-- behind the first byte no test is of the field 0
+pub value_Faults : (named : Bool) (j : ℕ) (v : List ℕ) → 0 < j → Faults STORE (value_tests named j v)
+value_Faults named j v h = (refl, (omega arith, (refl, (omega arith, tt))))
+
+pub values_Faults : (named : Bool) (i : ℕ) (l : List ℕ) → 0 < i → Faults STORE (values_tests named i l)
+values_Faults named i l h = part_Faults 9 (value_tests named) (value_Faults named) i 0 l h
+
+pub storage_Faults : (j : ℕ) (v : List ℕ) → 0 < j → Faults STORE (storage_tests j v)
+storage_Faults j v h = (refl, (omega arith, values_Faults (is_named (identifier_of v)) (j + 24) (drop 24 v) (omega arith)))
+
+pub store_Faults : (i : ℕ) (l : List ℕ) → 0 < i → Faults STORE (store_tests i l)
+unfolding store_tests
+store_Faults i l h = part_Faults 28 storage_tests storage_Faults i 0 l h
 
 pub values_anywhere : (named : Bool) (i j : ℕ) (l : List ℕ) → all (values_tests named i l) ≡ all (values_tests named j l)
 values_anywhere named i j l = parts_anywhere 9 (value_tests named) (λ i j v. refl) i j 0 l

@@ -2,7 +2,7 @@
 use mathlib.Core.Path.{◌≡◌, refl, sym, ◌∙◌}
 use mathlib.Core.List.{List, [], ◌∷◌, ◌++◌}
 use mathlib.Core.Bool.{Bool, true, false, cond}
-use Prim.Native.Nat.{ℕ}
+use Prim.Native.Nat.{ℕ, ◌<◌}
 use Rattle.std.specs.Prelude.{Option, Some, None, Result, Ok, Err}
 use Rattle.format.specs.declared.Fault.{Fault}
 use Rattle.format.specs.Tests.{Site, spot_at, Outcome, refused, Test, tests}
@@ -10,13 +10,26 @@ use Rattle.format.specs.Steps.Wrong.{wrong, given, first}
 use Rattle.format.proofs.Chains.{Pass}
 
 -- all of these tests give the fault f
+abbrev pub OfFault : Fault → List Test → Type 0
+OfFault f [] = Unit {0}
+OfFault f (t ∷ ts) = (t.fault ≡ f) × OfFault f ts
+
+pub OfFault-join : (f : Fault) (ts us : List Test) → OfFault f ts → OfFault f us → OfFault f (ts ++ us)
+OfFault-join f [] us h k = k
+OfFault-join f (t ∷ ts) us h k = (h.0, OfFault-join f ts us h.1 k)
+
+-- all of these tests give the fault f, and none is of the field 0
 abbrev pub Faults : Fault → List Test → Type 0
 Faults f [] = Unit {0}
-Faults f (t ∷ ts) = (t.fault ≡ f) × Faults f ts
+Faults f (t ∷ ts) = (t.fault ≡ f) × ((0 < t.field) × Faults f ts)
 
 pub Faults-join : (f : Fault) (ts us : List Test) → Faults f ts → Faults f us → Faults f (ts ++ us)
 Faults-join f [] us h k = k
-Faults-join f (t ∷ ts) us h k = (h.0, Faults-join f ts us h.1 k)
+Faults-join f (t ∷ ts) us h k = (h.0, (h.1.0, Faults-join f ts us h.1.1 k))
+
+pub Faults-OfFault : (f : Fault) (ts : List Test) → Faults f ts → OfFault f ts
+Faults-OfFault f [] h = tt
+Faults-OfFault f (t ∷ ts) h = (h.0, Faults-OfFault f ts h.1.1)
 
 -- what the field found wrong says of reading on
 abbrev pub at_fault : {A : Type 0} → Fault → Site → Option ℕ → Outcome A → Outcome A
@@ -24,7 +37,7 @@ at_fault f w None r = r
 at_fault f w (Some i) r = refused f (spot_at w i)
 
 -- tests of one fault are one test
-pub one_fault : {A : Type 0} (f : Fault) (w : Site) (ts : List Test) (r : Outcome A) → Faults f ts → tests w ts r ≡ at_fault f w (wrong ts) r
+pub one_fault : {A : Type 0} (f : Fault) (w : Site) (ts : List Test) (r : Outcome A) → OfFault f ts → tests w ts r ≡ at_fault f w (wrong ts) r
 one_fault f w [] r h = refl
 one_fault {A = A} f w (t ∷ ts) r h = go t.holds (one_fault f w ts r h.1)
   where

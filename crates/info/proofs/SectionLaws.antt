@@ -20,7 +20,7 @@ use Rattle.format.specs.Numbers.{outcome_number}
 use Rattle.format.specs.Steps.Answers.{refusal, outcome_end}
 use Rattle.format.specs.Info.{info_size, info_head_tests, info_rules, info_fields, info}
 use Rattle.format.proofs.Chains.{tests-append}
-use Rattle.format.proofs.WrongLaws.{Faults, one_fault, given_some}
+use Rattle.format.proofs.WrongLaws.{Faults, Faults-OfFault, one_fault, given_some}
 use Rattle.format.proofs.Holds.{info_piece_tests}
 use Rattle.info.specs.Steps.Found.{text_lengths, no_lengths, lengths_after, pieces_in}
 use Rattle.info.specs.Steps.Taken.{OwnPart, info_taken, info_at, said_by, info_held, info_number, info_value, InfoAnswer}
@@ -30,7 +30,7 @@ use Rattle.info.proofs.InfoLaws.{piece_tests_Fields, pieces_most, head_passed}
 use Rattle.info.proofs.LengthLaws.{lengths_anywhere, row_kept}
 
 head_Faults : (profile : Profile) (l : List ℕ) → Faults INFO (info_head_tests profile l)
-head_Faults profile l = (refl, (refl, (refl, (refl, (refl, (refl, tt))))))
+head_Faults profile l = (refl, (omega arith, (refl, (omega arith, (refl, (omega arith, (refl, (omega arith, (refl, (omega arith, (refl, (omega arith, tt))))))))))))
 
 three_pass : {A : Type 0} (w : Site) (a b c : Bool) (f g h : Fault) (ts : List Test) (r : Outcome A) → a ≡ true → b ≡ true → c ≡ true
     → tests w (a else f at 0 ∷ b else g at 0 ∷ c else h at 0 ∷ ts) r ≡ tests w ts r
@@ -95,7 +95,7 @@ module _ (profile : Profile) (s : List ℕ) (p : ℕ) where
     pub head_lost : {w : ℕ} → told (info_head_tests profile l) ≡ Err w → info_at profile s p ≡ Err (refusal INFO (spot_at here w))
     head_lost {w} x =
         let n = given_some (info_head_tests profile l) tt x in
-        answered (refused INFO (spot_at here w)) (grouped ∙ one_fault INFO here (info_head_tests profile l) (tests here (info_piece_tests l) said) (head_Faults profile l) ∙ rw n)
+        answered (refused INFO (spot_at here w)) (grouped ∙ one_fault INFO here (info_head_tests profile l) (tests here (info_piece_tests l) said) (Faults-OfFault INFO (info_head_tests profile l) (head_Faults profile l)) ∙ rw n)
 
     pub head_silent : {w : ℕ} → told (info_head_tests profile l) ≡ Err w → text_lengths (info_held profile s p) ≡ no_lengths
     head_silent x = held_nothing (head_lost x)

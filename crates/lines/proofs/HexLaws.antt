@@ -1,32 +1,28 @@
 -- Bytes in hex are shown byte after byte.
 use mathlib.Core.Path.{◌≡◌, refl, sym, ap}
 use mathlib.Core.List.{List, [], ◌∷◌, ◌++◌}
-use Prim.Native.Nat.{ℕ, zero, suc, ◌+◌, ◌-◌, ◌/◌, ◌%◌, ◌^◌, ◌≤◌, ◌<◌}
+use Prim.Native.Nat.{ℕ, ◌+◌, ◌-◌, ◌/◌, ◌%◌, ◌≤◌, ◌<◌}
 use native.Mathlib.Omega.{arith}
 use native.Mathlib.Numerals.{add-one}
-use native.Mathlib.Nat.{pow-le-pow_right, mod-eq_of_lt}
 use lib.ListN.{length, take, get_or}
 use lib.Seq.{take-suc, take_all}
-use Rattle.io.specs.Digits.{IsDigitCount}
-use Rattle.io.specs.Digits.{last_digits as io-digits}
+use borrow.Author.Tests.{lt-ltb, le-ltb}
 use Rattle.lines.specs.declared.window.Window.{Window}
 use Rattle.lines.specs.Text.{hex_digit, hex_of}
 use Rattle.lines.specs.Steps.Windows.{Showed}
 use Rattle.lines.proofs.WindowLaws.{Showed-none, Showed-join, Showed-as}
 
--- two digits hold every byte, and two are asked for
-pub byte_is : {k x : ℕ} → x < 256 → IsDigitCount 16 2 x k → io-digits 16 k x ≡ hex_of (x ∷ [])
-unfolding hex_digit hex_of
-byte_is {k = zero} l (a, h, g) = absurd (omega arith)
-byte_is {k = suc zero} l (a, h, g) = absurd (omega arith)
-byte_is {k = suc (suc zero)} {x} l (a, h, g) =
-    let high : x / 16 < 16 = omega arith in
-    rw (mod-eq_of_lt high)
-byte_is {k = suc (suc (suc k))} {x} l (a, h, g) =
-    let e : suc (suc (suc k)) - 1 ≡ suc (suc k) = omega arith in
-    let least : 16 ^ suc (suc k) ≤ x = rw e at (g (omega arith)) in
-    let two : 16 ^ 2 ≤ 16 ^ suc (suc k) = pow-le-pow_right {n = 16} (omega arith) {i = 2} {j = suc (suc k)} (omega arith) in
-    absurd (omega arith)
+pub digit_low : (x : ℕ) → x < 10 → 48 + x ≡ hex_digit x
+unfolding hex_digit
+digit_low x h = rw (lt-ltb x 10 h)
+
+pub digit_high : (x : ℕ) → 10 ≤ x → 97 + (x - 10) ≡ hex_digit x
+unfolding hex_digit
+digit_high x h = rw (le-ltb x 10 h) (omega arith)
+
+pub byte_hex : (x : ℕ) {a b : ℕ} → a ≡ hex_digit (x / 16) → b ≡ hex_digit (x % 16) → a ∷ b ∷ [] ≡ hex_of (x ∷ [])
+unfolding hex_of
+byte_hex x e f = rw (e, f)
 
 hex_append : (l : List ℕ) (a : ℕ) → hex_of (l ++ a ∷ []) ≡ hex_of l ++ hex_of (a ∷ [])
 unfolding hex_of

@@ -10,8 +10,9 @@ use lib.Seq.{take_all, drop-drop}
 use lib.Dec.{ltb}
 use borrow.Author.Tests.{ltb-true}
 use Rattle.octets.specs.Numbers.{Bytes}
+use Rattle.octets.proofs.PartLaws.{length-put}
 use Rattle.lines.specs.Text.{listing_text, key_text, piece}
-use Rattle.lines.specs.Steps.Pieces.{text_of, pieces}
+use Rattle.lines.specs.Steps.Pieces.{text_of, PiecePut, pieces}
 use Rattle.lines.proofs.Lengths.{length_listing, length_key_line}
 use Rattle.format.specs.declared.Profile.{Profile}
 
@@ -19,9 +20,22 @@ length-piece : (t : List ℕ) (p room : ℕ) → length (piece t p room) ≡ min
 unfolding piece
 length-piece t p room = length-take room (drop p t) ∙ ap (min room) (length-drop p t)
 
--- no piece of so short a text leads further
-pub piece_short : (t : List ℕ) (p room : ℕ) {n : ℕ} → length t < 8 * 65536 → n ≡ length (piece t p room) → p ≤ 8 * 65536 → p + n ≤ 8 * 65536
-piece_short t p room l e h = omega (arith, length-piece t p room)
+module _ {t : List ℕ} {p n : ℕ} {d x : List ℕ} (e : PiecePut t p d x n) where
+  -- a piece ends inside the text
+  pub piece_inside : p ≤ length t → p + n ≤ length t
+  piece_inside h = omega (arith, e.answer, length-piece t p (length d))
+
+  -- and inside the buffer
+  pub piece_kept : length x ≡ length d
+  piece_kept = rw e.output (length-put d 0 (piece t p (length d)) (omega (arith, length-piece t p (length d))))
+
+  -- and fits it
+  pub piece_fits : n ≤ length d
+  piece_fits = omega (arith, e.answer, length-piece t p (length d))
+
+  -- one that does not fill the buffer ends where the text does
+  pub piece_last : p ≤ length t → n < length d → p + n ≡ length t
+  piece_last h l = omega (arith, e.answer, length-piece t p (length d))
 
 from_there : (k room : ℕ) (t : List ℕ) (p : ℕ) → length t < p + k * room → pieces k room t p ≡ drop p t
 unfolding pieces piece

@@ -1,7 +1,7 @@
 -- Parts that are shown one after another are shown as one text.
-use mathlib.Core.Path.{◌≡◌, sym, ap, ◌∙◌}
+use mathlib.Core.Path.{◌≡◌, refl, sym, ap, ◌∙◌}
 use mathlib.Core.List.{List, [], ◌++◌, append-nil}
-use Prim.Native.Nat.{ℕ, ◌+◌, ◌-◌}
+use Prim.Native.Nat.{ℕ, ◌+◌, ◌-◌, ◌≤◌}
 use native.Mathlib.Omega.{arith}
 use Rattle.std.proofs.Common.{MutBor}
 use lib.ListN.{length, take, drop, length-append, length-take, drop_of_length-le}
@@ -41,6 +41,13 @@ pub Showed-none : (w : Window) → Showed w [] w
 Showed-none w =
     let e : [] ≡ shown w [] = sym (ap (take (length w.out.now - w.at)) (drop-nil w.skip) ∙ take-nil (length w.out.now - w.at)) in
     record { wrote = reword (Writes-none (output w) w.within) e (ap length e); skip = omega arith }
+
+-- a part that is passed over whole
+pub Showed-past : (w : Window) (t : List ℕ) {i : w.at ≤ length w.out.now} → length t ≤ w.skip → Showed w t (record { out = w.out; at = w.at; skip = w.skip - length t; within = i })
+Showed-past w t h =
+    let n : drop w.skip t ≡ [] = drop_of_length-le t {i = w.skip} h in
+    let e : [] ≡ shown w t = sym (ap (take (length w.out.now - w.at)) n ∙ take-nil (length w.out.now - w.at)) in
+    record { wrote = reword (Writes-none (output w) w.within) e (ap length e); skip = refl }
 
 module _ {w r : Window} {t : List ℕ} (p : Showed w t r) where
   -- what the second part shows, it shows behind the first

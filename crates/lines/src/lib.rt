@@ -4,9 +4,10 @@
 mod rows;
 mod window;
 
-ghost use Rattle.std.specs.Prelude.{◌≡◌, ◌+◌, ◌≤◌, ℕ, length};
+ghost use Rattle.std.specs.Prelude.{◌≡◌, ◌≤◌, ℕ, List, length};
 ghost use Rattle.octets.specs.Parts.{put};
 ghost use Rattle.lines.specs.Text.{verdict_line, listing_text, key_text, piece};
+ghost use Rattle.lines.specs.Steps.Pieces.{PiecesOf};
 
 use crate::window::Window;
 use format::{Profile, Refused, Verdict};
@@ -67,10 +68,17 @@ pub fn put_key_line(s: &[u8], from: usize, out: &mut [u8], profile: Profile) -> 
 
 // ---- written on standard output
 
-// In pieces of 64 KiB: the first that does not fill the buffer is the last.
-fn write_text<F: Fn(&[u8], usize, &mut [u8], Profile) -> usize>(put: F, s: &[u8], profile: Profile)
+// In pieces of 64 KiB: the first that does not fill the buffer is the last. Answers how many bytes they have together.
+// Merged into its callers, it would clear its buffer once more, and where one writes two texts both buffers would be on the stack.
+#[inline(never)]
+fn write_text<F: Fn(&[u8], usize, &mut [u8], Profile) -> usize>(
+    put: F,
+    s: &[u8],
+    profile: Profile,
+) -> usize
     requires callable { F.IsAlwaysCallable put }
-    requires short { (lent : _) (from : ℕ) (out : _) (n : ℕ) (left : _) → lent.now ≡ s.now → F.post put lent from out profile n left → from ≤ 524288 → from + n ≤ 524288 }
+    requires text { (text : List ℕ) × (length text ≤ 524288) × PiecesOf (F.post put) s.now profile text }
+    ensures { (text : List ℕ) → PiecesOf (F.post put) s.now profile text → result ≡ length text }
 {
     let mut out = [0u8; 65536];
     let mut from = 0;
@@ -78,8 +86,9 @@ fn write_text<F: Fn(&[u8], usize, &mut [u8], Profile) -> usize>(put: F, s: &[u8]
     loop {
         let n = put(s, from, &mut out, profile);
         io::write_all(1, octets::part(&out, 0, n));
-        if n < 65536 {
-            return;
+        let last = n < 65536;
+        if last {
+            return from + n;
         }
         from += n;
     }

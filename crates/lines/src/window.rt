@@ -1,6 +1,6 @@
 // A text shown part after part through a window, so that a buffer of any length gets any piece of it.
 ghost use Rattle.std.specs.Prelude.{◌≡◌, ◌≤◌, ◌<◌, ◌∷◌, [], length};
-ghost use Rattle.lines.specs.Text.{decimal, hex_of, verdict_line};
+ghost use Rattle.lines.specs.Text.{decimal, hex_digit, hex_of, verdict_line};
 
 use format::Verdict;
 
@@ -11,6 +11,17 @@ pub(crate) struct Window<'a> {
     at: usize,
     skip: usize,
     ghost within: { at ≤ length out.now },
+}
+
+// Not the library's `hex`, which fills a row of 16 bytes for the two digits.
+fn hex_digit(x: u8) -> u8
+    requires { x < 16 }
+    ensures { result ≡ hex_digit x }
+{
+    if x < 10 {
+        return b'0' + x;
+    }
+    b'a' + (x - 10)
 }
 
 impl<'a> Window<'a> {
@@ -40,9 +51,12 @@ impl<'a> Window<'a> {
     pub(crate) fn show(&mut self, text: &[u8])
         ensures { Showed self.old text.now self.new }
     {
-        let passed = self.skip.min(text.len());
-        self.skip -= passed;
-        let rest = &text[passed..];
+        if text.len() <= self.skip {
+            self.skip -= text.len();
+            return;
+        }
+        let rest = &text[self.skip..];
+        self.skip = 0;
         let n = rest.len().min(self.out.len() - self.at);
         copies::put_bytes(self.out, self.at, &rest[..n]);
         self.at += n;
@@ -59,9 +73,7 @@ impl<'a> Window<'a> {
     fn byte(&mut self, x: u8)
         ensures { Showed self.old (hex_of (x ∷ [])) self.new }
     {
-        let mut text = [0u8; 16];
-        let k = io::hex(x as u64, 2, &mut text);
-        self.show(&text[..k]);
+        self.show(&[hex_digit(x / 16), hex_digit(x % 16)]);
     }
 
     pub(crate) fn hex(&mut self, bytes: &[u8])

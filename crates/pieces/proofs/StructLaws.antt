@@ -50,15 +50,17 @@ pub first_number : (l : List ℕ) (o : ℕ) → u32_at (drop o l) 0 ≡ u32_at l
 first_number l o = number_drop 4 o l 0 ∙ ap (number_at 4 l) (add-zero o)
 
 -- a structure that ends at e
-pub record Ended (l : List ℕ) (least o e : ℕ) : Type 0 where
+pub record Ended (l : List ℕ) (head least o e : ℕ) : Type 0 where
+  pub after : head ≤ o
+  pub field : 4 ≤ length (drop o l)
   pub sized : u32_at (drop o l) 0 ≡ e - o
   pub enough : least ≤ e - o
   pub ordered : o ≤ e
   pub inside : e ≤ length l
 
-pub ended : (l : List ℕ) (head least i o : ℕ) {e : ℕ} → end_at l head least i o ≡ Ok e → Ended l least o e
+pub ended : (l : List ℕ) (head least i o : ℕ) {e : ℕ} → end_at l head least i o ≡ Ok e → Ended l head least o e
 ended l head least i o {e} q =
-    go (leb head o) (leb 4 n) (leb k n) (leb least k) refl refl refl q
+    go (leb head o) (leb 4 n) (leb k n) (leb least k) refl refl refl refl q
   where
     n : ℕ
     n = length (drop o l)
@@ -66,18 +68,18 @@ ended l head least i o {e} q =
     k : ℕ
     k = u32_at (drop o l) 0
 
-    go : (a b c d : Bool) → leb 4 n ≡ b → leb k n ≡ c → leb least k ≡ d → ◌≡◌ {A = Result ℕ ℕ} (cond a (cond b (cond c (cond d (Ok (o + k)) (Err (o + 0))) (Err i)) (Err i)) (Err i)) (Ok e) → Ended l least o e
-    go true true true true f g h q =
+    go : (a b c d : Bool) → leb head o ≡ a → leb 4 n ≡ b → leb k n ≡ c → leb least k ≡ d → ◌≡◌ {A = Result ℕ ℕ} (cond a (cond b (cond c (cond d (Ok (o + k)) (Err (o + 0))) (Err i)) (Err i)) (Err i)) (Ok e) → Ended l head least o e
+    go true true true true r f g h q =
         let j : o + k ≡ e = cc in
         let x = leb-true 4 n f in
         let y = leb-true k n g in
         let z = leb-true least k h in
         let w = length-drop o l in
-        record { sized = omega arith; enough = omega arith; ordered = omega arith; inside = omega arith }
-    go true true true false f g h q = cc
-    go true true false d f g h q = cc
-    go true false c d f g h q = cc
-    go false b c d f g h q = cc
+        record { after = leb-true head o r; field = x; sized = omega arith; enough = omega arith; ordered = omega arith; inside = omega arith }
+    go true true true false r f g h q = cc
+    go true true false d r f g h q = cc
+    go true false c d r f g h q = cc
+    go false b c d r f g h q = cc
 
 -- ---- what was found of it
 

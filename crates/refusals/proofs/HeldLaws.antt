@@ -15,8 +15,8 @@ use Rattle.format.specs.Store.{store_tests}
 use Rattle.format.specs.Blocks.{slot_of, slot_at, size_fits, path_tests, inside_tests, block_rules}
 use Rattle.format.proofs.Bools.{clash, or-true}
 use Rattle.format.proofs.EachLaws.{Each}
-use Rattle.format.proofs.ItemsLaws.{item_Faults}
-use Rattle.format.proofs.StoreLaws.{store_Faults}
+use Rattle.format.proofs.ItemsLaws.{item_OfFault}
+use Rattle.format.proofs.StoreLaws.{store_OfFault}
 use Rattle.format.proofs.MendLaws.{Each-fault, no_refusal}
 use Rattle.format.proofs.PositionLaws.{part_drop}
 use Rattle.refusals.specs.Wrong.{FirstFails, ItemsTo, WrongItem, is_path_block, WrongHeld, misfit, text, items, WrongHeldStore}
@@ -90,7 +90,7 @@ module _ (s : List ℕ) (q n : ℕ) (least : 8 ≤ n) (inside : q + n ≤ length
     where
       kind : size_fits (slot_at b) (length b) ≡ true → (x : Bool) → eqb (slot_at b) (slot_of 0xA0000009) ≡ x → (y : Bool) → is_path_block (slot_at b) ≡ y → (z : Bool) → eqb (slot_at b) (slot_of 0xA000000C) ≡ z
           → FirstFails (by_kind x y z b) BLOCK i → WrongHeld s q e b (q + i)
-      kind f true a y c z d v = absurd (no_block_first (store_tests 8 (drop 8 b)) i (Each-fault (λ f. f ≡ STORE) STORE (store_tests 8 (drop 8 b)) refl (store_Faults 8 (drop 8 b))) v)
+      kind f true a y c z d v = absurd (no_block_first (store_tests 8 (drop 8 b)) i (Each-fault (λ f. f ≡ STORE) STORE (store_tests 8 (drop 8 b)) refl (store_OfFault 8 (drop 8 b))) v)
       kind f false a true c z d v = text i f c v
       kind f false a false c true d v = let w = walked i v in items (q + i) f (eqb-true (slot_at b) (slot_of 0xA000000C) d) w.0 w.1
       kind f false a false c false d v = absurd v
@@ -120,7 +120,7 @@ module _ (b : List ℕ) (i : ℕ) where
       kind : size_fits (slot_at b) (length b) ≡ true → (x : Bool) → eqb (slot_at b) (slot_of 0xA0000009) ≡ x → (y z : Bool) → FirstFails (by_kind x y z b) STORE i → WrongHeldStore b i
       kind f true a y z v = record { fits = f; signature = eqb-true (slot_at b) (slot_of 0xA0000009) a; first = v }
       kind f false a true z v = absurd (no_store_first (path_tests b) i ((λ e. refl), λ e. ((λ e. refl), λ e. tt)) v)
-      kind f false a false true v = absurd (no_store_first (item_tests BLOCK 8 0 (drop 8 b)) i (Each-fault (λ f. f ≡ BLOCK) BLOCK (item_tests BLOCK 8 0 (drop 8 b)) refl (item_Faults BLOCK 8 0 (drop 8 b))) v)
+      kind f false a false true v = absurd (no_store_first (item_tests BLOCK 8 0 (drop 8 b)) i (Each-fault (λ f. f ≡ BLOCK) BLOCK (item_tests BLOCK 8 0 (drop 8 b)) refl (item_OfFault BLOCK 8 0 (drop 8 b))) v)
       kind f false a false false v = absurd v
 
       go : (t : Bool) → size_fits (slot_at b) (length b) ≡ t → WrongHeldStore b i

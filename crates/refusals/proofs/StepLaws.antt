@@ -26,7 +26,7 @@ use Rattle.format.specs.Positions.{is_string}
 use Rattle.format.proofs.Bools.{by_order}
 use Rattle.format.proofs.Chains.{drop-take}
 use Rattle.format.proofs.EachLaws.{Each}
-use Rattle.format.proofs.ItemsLaws.{item_Faults}
+use Rattle.format.proofs.ItemsLaws.{item_OfFault}
 use Rattle.format.proofs.BlockLaws.{same_slot}
 use Rattle.format.proofs.MendLaws.{tests-refused, refused_elim, no_refusal, Each-fault, Each-info, Each-held}
 use Rattle.refusals.specs.Due.{size_or_field, needed}
@@ -146,7 +146,7 @@ module _ {A : Type 0} (k : ℕ) (size : ℕ → ℕ) (rules : List ℕ → List 
 pub Cuts-items : Cuts items (λ b. 2 + u16_at b 0)
 Cuts-items =
     Cuts-counted 1 (λ n. 2 + n) items_rules (λ p n. place (p + 2) (2 + n - 4)) (λ n. omega arith)
-    (λ l. Each-fault NoCut ITEMS (items_rules l) no_items (item_Faults ITEMS 2 0 (drop 2 l)))
+    (λ l. Each-fault NoCut ITEMS (items_rules l) no_items (item_OfFault ITEMS 2 0 (drop 2 l)))
 
 pub Cuts-string : (k : ℕ) (u : Bool) → Cuts (string k u) (λ b. 2 + bytes_of u (u16_at b 0))
 Cuts-string k u = Cuts-counted k (λ n. 2 + bytes_of u n) (λ l. []) (λ p n. place (p + 2) (bytes_of u n)) (λ n. omega arith) (λ l. tt)
@@ -372,7 +372,7 @@ step-Belongs profile u before k p b {f} {w} e = go (eqb k 0) refl (eqb k 1) refl
         let m : ℕ = items_length b in
         rw (eqb-true k 1 x)
         (tests_belong 1 (section 1 p) (leb 2 (length b) else CUT at 0 ∷ leb m (length b) else CUT at 0 ∷ items_rules (take m b)) (place (p + 2) (m - 4)) m
-        ((λ z. by_cut 1), λ z. ((λ z. by_cut 1), λ z. Each-fault (Belongs 1) ITEMS (items_rules (take m b)) by_items (item_Faults ITEMS 2 0 (drop 2 (take m b)))))
+        ((λ z. by_cut 1), λ z. ((λ z. by_cut 1), λ z. Each-fault (Belongs 1) ITEMS (items_rules (take m b)) by_items (item_OfFault ITEMS 2 0 (drop 2 (take m b)))))
         e)
     go false q false x true y c d z e =
         let m : ℕ = info_size b in

@@ -1,8 +1,11 @@
 -- Any two outcomes that the contract of a public call allows are equal.
 use mathlib.Core.Path.{refl, sym, ◌∙◌}
-use Rattle.octets.proofs.Outcomes.{OneAnswer, OneOutcome}
+use Rattle.std.specs.Option.{option_copied}
+use Rattle.octets.proofs.Outcomes.{OneAnswer, OneOutcome, OneItem, one_first}
 use Rattle.shelves.proofs.entries.Entries.new as entries_new
 use Rattle.shelves.specs.contracts.entries.Entries.new as entries_new_contract
+use Rattle.shelves.proofs.entries.EntriesIterator.next as entries_next
+use Rattle.shelves.specs.contracts.entries.EntriesIterator.next as entries_next_contract
 use Rattle.shelves.proofs.making.adds_up
 use Rattle.shelves.specs.contracts.making.adds_up as adds_up_contract
 use Rattle.shelves.proofs.making.put_shelf
@@ -22,6 +25,10 @@ use Rattle.shelves.specs.contracts.table.table_lengths as table_lengths_contract
 
 pub entries_new_one_outcome : OneAnswer entries_new_contract.ended entries_new.Reads.Post
 entries_new_one_outcome κs a r q s t p o = p ∙ sym o
+
+-- of an entry, its bytes
+pub entries_next_one_outcome : OneItem entries_next_contract.ended (λ κs r. option_copied r) (λ κs s. s.0.now) entries_next.Reads.Post
+entries_next_one_outcome κs a r q s t p o = one_first (λ x. x.now) a.0.now r q s.0.now t.0.now p.0 o.0
 
 pub adds_up_one_outcome : OneAnswer adds_up_contract.ended adds_up.Reads.Post
 adds_up_one_outcome κs a r q s t p o = p ∙ sym o

@@ -17,7 +17,7 @@ use Rattle.format.specs.Steps.Answers.{refusal, read_from}
 use Rattle.format.specs.Steps.Wrong.{wrong}
 use Rattle.format.proofs.Chains.{drop-take}
 use Rattle.format.proofs.WrongLaws.{at_fault, one_fault}
-use Rattle.format.proofs.ItemsLaws.{item_Faults}
+use Rattle.format.proofs.ItemsLaws.{item_OfFault}
 
 -- the first number of what is left
 pub first_left : (s : List ℕ) (p : ℕ) → u16_at (drop p s) 0 ≡ u16_at s p
@@ -31,7 +31,7 @@ items_here s p {n} e h =
     let x : List ℕ = take n (drop (p + 2) s) in
     let l : drop 2 (take (2 + n) (drop p s)) ≡ x = drop-take 2 n (drop p s) ∙ ap (take n) (drop-drop 2 p s) in
     rw (first_left s p, ← e, le-leb 2 (length (drop p s)) (omega arith), le-leb (2 + n) (length (drop p s)) (omega arith), l)
-    (one_fault ITEMS (section 1 p) (item_tests ITEMS 2 0 x) (got (place (p + 2) (2 + n - 4)) (2 + n)) (item_Faults ITEMS 2 0 x))
+    (one_fault ITEMS (section 1 p) (item_tests ITEMS 2 0 x) (got (place (p + 2) (2 + n - 4)) (2 + n)) (item_OfFault ITEMS 2 0 x))
 
 module _ (s : List ℕ) (p : ℕ) {n : ℕ} (e : n ≡ u16_at s p) (h : p + 2 + n ≤ length s) where
   pub items_bad : {w : ℕ} → wrong (item_tests ITEMS 2 0 (take n (drop (p + 2) s))) ≡ Some w → Err (refusal ITEMS (spot_at (section 1 p) w)) ≡ read_from p (items p (drop p s))

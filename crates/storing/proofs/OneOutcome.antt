@@ -1,8 +1,10 @@
 -- Any two outcomes that the contract of a public call allows are equal.
 use mathlib.Core.Path.{refl, sym, ◌∙◌}
-use Rattle.octets.proofs.Outcomes.{OneAnswer, OneShown, OneOutcome}
+use Rattle.octets.proofs.Outcomes.{OneAnswer, OneShown, OneOutcome, OneItem, one_item}
 use Rattle.storing.proofs.rows.Rows.new as rows_new
 use Rattle.storing.specs.contracts.rows.Rows.new as rows_new_contract
+use Rattle.storing.proofs.rows.RowsIterator.next as rows_next
+use Rattle.storing.specs.contracts.rows.RowsIterator.next as rows_next_contract
 use Rattle.storing.proofs.rows.count_rows
 use Rattle.storing.specs.contracts.rows.count_rows as count_rows_contract
 use Rattle.storing.proofs.rows.any_value
@@ -24,6 +26,9 @@ use Rattle.storing.specs.contracts.store_write as store_write_contract
 
 pub rows_new_one_outcome : OneAnswer rows_new_contract.ended rows_new.Reads.Post
 rows_new_one_outcome κs a r q s t p o = p ∙ sym o
+
+pub rows_next_one_outcome : OneItem rows_next_contract.ended (λ κs r. r) (λ κs s. s.0.now) rows_next.Reads.Post
+rows_next_one_outcome κs a r q s t p o = one_item a.0.now r q s.0.now t.0.now p.0 o.0
 
 pub count_rows_one_outcome : OneAnswer count_rows_contract.ended count_rows.Reads.Post
 count_rows_one_outcome κs a r q s t p o = p.0 ∙ sym o.0

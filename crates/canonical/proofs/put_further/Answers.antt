@@ -13,5 +13,8 @@ none_put : (o : Output) (x : List ℕ) → length x ≡ 0 → o.at ≤ length o.
 none_put o [] e h = Writes-none o h
 none_put o (b ∷ x) e h = cc
 
+pub returns-then-x-gt0 : goal.returns-then-x-gt0
+returns-then-x-gt0 c = c.put_bytes.ensures
+
 pub returns-else-x-gt0 : goal.returns-else-x-gt0
 returns-else-x-gt0 c = none_put _ c.args.x.now (omega arith) (omega arith)

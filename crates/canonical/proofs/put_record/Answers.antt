@@ -1,7 +1,9 @@
 -- The sections stand one after another.
-use mathlib.Core.Path.{sym, ◌∙◌}
+use mathlib.Core.Path.{sym, ap, ◌∙◌}
+use Prim.Native.Nat.{ℕ, ◌+◌}
+use Rattle.format.specs.Writing.{blocks_bytes}
 use Rattle.format.specs.Steps.Flat.{flat_bytes}
-use Rattle.copies.proofs.OutputLaws.{join}
+use Rattle.copies.proofs.OutputLaws.{join, reword}
 use Rattle.canonical.proofs.FitsLaws.{row_inside, items_inside, blocks_inside}
 use Rattle.canonical.proofs.put_record.Goals as goal
 
@@ -21,5 +23,5 @@ unfolding flat_bytes
 returns c =
     let items = rw c.items_there.ensures at c.put_items_if.ensures in
     let info = rw c.info_there.ensures at c.put_info.ensures in
-    let blocks = rw (c.body.ensures.long, c.body.ensures.is) at c.put_blocks.ensures in
+    let blocks = reword c.put_blocks.ensures (ap blocks_bytes c.body.ensures.is) (ap (λ (n : ℕ). n + 4) c.body.ensures.long) in
     join c.put_header.ensures (join items (join info (join c.put_slots.ensures blocks)))

@@ -1,11 +1,7 @@
 -- The two digits of a byte are its hex.
-use native.Mathlib.Omega.{arith}
-use mathlib.Core.Path.{◌∙◌}
-use Rattle.lines.proofs.HexLaws.{byte_is}
+use Rattle.lines.proofs.HexLaws.{byte_hex}
 use Rattle.lines.proofs.WindowLaws.{Showed-as}
 use Rattle.lines.proofs.window.Window.byte.Goals as goal
 
 pub returns : goal.returns
-returns c =
-    let told = c.hex-k.ensures in
-    Showed-as c.show.ensures (told.digits ∙ byte_is (omega (arith, c.ranges.x)) told.len)
+returns c = Showed-as c.show.ensures (byte_hex _ c.hex_digit.ensures c.hex_digit-2.ensures)

@@ -1,0 +1,8 @@
+-- Each kind has its own limit.
+use Rattle.pathing.proofs.longest.Goals as goal
+
+pub returns-then-unicode : goal.returns-then-unicode
+returns-then-unicode c = rw c.if-unicode.true
+
+pub returns-else-unicode : goal.returns-else-unicode
+returns-else-unicode c = rw c.if-unicode.false
