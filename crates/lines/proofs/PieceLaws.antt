@@ -20,6 +20,10 @@ length-piece : (t : List ℕ) (p room : ℕ) → length (piece t p room) ≡ min
 unfolding piece
 length-piece t p room = length-take room (drop p t) ∙ ap (min room) (length-drop p t)
 
+-- of a text shorter than eight buffers no piece leads past the eighth
+pub piece_short : (t : List ℕ) (p room : ℕ) {n : ℕ} → length t < 8 * 65536 → n ≡ length (piece t p room) → p ≤ 8 * 65536 → p + n ≤ 8 * 65536
+piece_short t p room l e h = omega (arith, length-piece t p room)
+
 module _ {t : List ℕ} {p n : ℕ} {d x : List ℕ} (e : PiecePut t p d x n) where
   -- a piece ends inside the text
   pub piece_inside : p ≤ length t → p + n ≤ length t
